@@ -1,0 +1,135 @@
+-- 01, "State and calls": the answer of every call, and what stands beside it.
+use mathlib.Core.Bool.{Bool, true, false, not, _&&_, _||_}
+use mathlib.Core.List.{List, [], _∷_}
+use Prim.Native.Nat.{ℕ, zero, suc}
+use lib.Dec.{ltb, eqb}
+use lib.ListN.{length}
+use Rattle.machine.specs.Machine.{pick, Out}
+use Rattle.rules.specs.Lists.{Found}
+use Rattle.rules.specs.Lists.Found.{none, found}
+use Rattle.rules.specs.Packets.{Holdings}
+use Rattle.rules.specs.State.{Work, State, World}
+use Rattle.rules.specs.State.Work.{resting, entries, packets, waiting}
+use Rattle.rules.specs.Registers.{Read, register, Write, write-of}
+use Rattle.rules.specs.Steps.{run-for, waits, answered}
+use Rattle.rules.specs.declared.Record.{Record}
+use Rattle.rules.specs.declared.Ended.{Ended}
+use Rattle.rules.specs.declared.Ended.the-variants.{Idle, Waiting, Paused}
+
+-- ---- "Call answer": given exactly when
+
+abbrev pub done : ℕ
+done = 0
+
+abbrev pub other-memory : ℕ
+other-memory = 1
+
+abbrev pub no-register : ℕ
+no-register = 2
+
+abbrev pub nothing-waits : ℕ
+nothing-waits = 3
+
+abbrev pub no-record : ℕ
+no-record = 4
+
+-- "lent memory has another length than at making"
+abbrev pub lent-another : World → Bool
+lent-another w = not (eqb (length (w .mem)) (w .state .memory))
+
+-- ---- how a run ends
+
+abbrev pub at-rest : Work → Bool
+at-rest resting = true
+at-rest (entries o kept) = false
+at-rest (packets j s at es h) = false
+at-rest (waiting j es h) = false
+
+-- "waiting if a submission awaits the host, enabled or not; else idle if disabled, or if the doorbell flag is clear and nothing is in work; else paused"
+unfoldable pub ending : State → Ended
+ending s =
+    pick (waits s) Waiting
+    (pick (not (s .regs .enabled) || (not (s .regs .rung) && at-rest (s .work))) Idle Paused)
+
+-- this paper's order of the three, as the exports number them
+abbrev pub ended-number : Ended → ℕ
+ended-number Idle = 0
+ended-number Waiting = 1
+ended-number Paused = 2
+
+-- ---- the calls
+
+pub record Wrote : Type 0 where
+  pub answer : ℕ
+  pub state : State
+
+abbrev pub wrote : State → Found Write → Wrote
+wrote s none = record { answer = no-register; state = s }
+wrote s (found w) = record { answer = done; state = w .state }
+
+unfoldable pub call-write : State → ℕ → ℕ → Wrote
+call-write s offset v = wrote s (write-of s offset v)
+
+pub record Value : Type 0 where
+  pub answer : ℕ
+  pub value : ℕ
+
+abbrev pub valued : Found Read → Value
+valued none = record { answer = no-register; value = 0 }
+valued (found r) = record { answer = done; value = r .value }
+
+unfoldable pub call-read : State → ℕ → Value
+call-read s offset = valued (register (s .regs) offset)
+
+-- "Answers 1 to 4 change no state or byte; a value returned beside them is zero (idle for run)."
+pub record Ran : Type 0 where
+  pub answer : ℕ
+  pub units : ℕ
+  pub ended : Ended
+  pub world : World
+
+abbrev pub ran : Out World → Ran
+ran o = record { answer = done; units = o .units; ended = ending (o .state .state); world = o .state }
+
+unfoldable pub call-run : World → ℕ → Ran
+call-run w allowance =
+    pick (lent-another w) (record { answer = other-memory; units = 0; ended = Idle; world = w })
+    (ran (run-for allowance w))
+
+pub record Handed : Type 0 where
+  pub answer : ℕ
+  pub range : Record
+
+abbrev pub no-range : Record
+no-range = record { kind = 0; handle = 0; id = 0; gpa = 0; length = 0 }
+
+-- the i-th of a list, where there is one
+unfoldable pub nth : {A : Type 0} → List A → ℕ → Found A
+nth [] i = none
+nth (x ∷ xs) zero = found x
+nth (x ∷ xs) (suc i) = nth xs i
+
+-- the records that the host may read: only while a submission waits
+abbrev pub handed-out : Work → List Record
+handed-out resting = []
+handed-out (entries o kept) = []
+handed-out (packets j s at es h) = []
+handed-out (waiting j es h) = h .records
+
+abbrev pub handed : Found Record → Handed
+handed none = record { answer = no-record; range = no-range }
+handed (found c) = record { answer = done; range = c }
+
+-- "record index not below the count, or nothing waiting"
+unfoldable pub call-record : State → ℕ → Handed
+call-record s i = handed (nth (handed-out (s .work)) i)
+
+pub record Told : Type 0 where
+  pub answer : ℕ
+  pub world : World
+
+-- "1 comes before 3."
+unfoldable pub call-answer : World → Bool → Told
+call-answer w good =
+    pick (lent-another w) (record { answer = other-memory; world = w })
+    (pick (waits (w .state)) (record { answer = done; world = answered good w }) (record { answer = nothing-waits; world = w }))

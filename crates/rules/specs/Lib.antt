@@ -1,0 +1,16 @@
+pub mod Numbers
+pub mod Bytes
+pub mod Lists
+pub mod Judging
+pub mod Layouts
+pub mod Table
+pub mod Stream
+pub mod Ring
+pub mod Shapes
+pub mod Packets
+pub mod State
+pub mod Settle
+pub mod Registers
+pub mod Steps
+pub mod Unsliced
+pub mod Calls

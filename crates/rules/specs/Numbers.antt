@@ -1,0 +1,130 @@
+-- The numbers of document 01 that have a meaning of their own, each named once. Offsets of fields stand in Layouts.
+use Prim.Native.Nat.{ℕ, _^_}
+
+-- ---- errors
+
+abbrev pub bad-ring : ℕ
+bad-ring = 10
+
+abbrev pub bad-descriptor : ℕ
+bad-descriptor = 11
+
+abbrev pub outside-memory : ℕ
+outside-memory = 12
+
+abbrev pub bad-table : ℕ
+bad-table = 13
+
+abbrev pub bad-entry : ℕ
+bad-entry = 14
+
+abbrev pub twice-in-table : ℕ
+twice-in-table = 15
+
+abbrev pub bad-stream : ℕ
+bad-stream = 16
+
+abbrev pub bad-packet : ℕ
+bad-packet = 17
+
+abbrev pub bad-handle : ℕ
+bad-handle = 18
+
+abbrev pub too-many : ℕ
+too-many = 19
+
+abbrev pub bad-shape : ℕ
+bad-shape = 20
+
+abbrev pub not-in-table : ℕ
+not-in-table = 21
+
+abbrev pub past-entry : ℕ
+past-entry = 22
+
+abbrev pub read-only : ℕ
+read-only = 23
+
+abbrev pub past-resource : ℕ
+past-resource = 24
+
+abbrev pub host-backed : ℕ
+host-backed = 25
+
+abbrev pub bad-copy : ℕ
+bad-copy = 26
+
+abbrev pub host-failed : ℕ
+host-failed = 27
+
+-- ---- limits
+
+-- entries of a table, live resources, records of a submission
+abbrev pub most : ℕ
+most = 64
+
+abbrev pub most-slots : ℕ
+most-slots = 1024
+
+abbrev pub longest-side : ℕ
+longest-side = 16384
+
+abbrev pub most-layers : ℕ
+most-layers = 256
+
+-- ---- magics, as their four bytes stand in memory, and the version
+
+-- "ARNG"
+abbrev pub ring-magic : ℕ
+ring-magic = 0x474e5241
+
+-- "ALOC"
+abbrev pub table-magic : ℕ
+table-magic = 0x434f4c41
+
+-- "ACMD"
+abbrev pub stream-magic : ℕ
+stream-magic = 0x444d4341
+
+-- "FENC"
+abbrev pub page-magic : ℕ
+page-magic = 0x434e4546
+
+-- "AGPU"
+abbrev pub device-magic : ℕ
+device-magic = 0x55504741
+
+-- 1.3, the major in the high 16 bits
+abbrev pub version : ℕ
+version = 65539
+
+abbrev pub features : ℕ
+features = 7
+
+-- ---- opcodes
+
+abbrev pub create-buffer : ℕ
+create-buffer = 256
+
+abbrev pub create-texture : ℕ
+create-texture = 257
+
+abbrev pub destroy : ℕ
+destroy = 258
+
+abbrev pub dirty-range : ℕ
+dirty-range = 259
+
+abbrev pub copy-buffer : ℕ
+copy-buffer = 261
+
+-- ---- kinds of record
+
+abbrev pub backs : ℕ
+backs = 1
+
+abbrev pub reads : ℕ
+reads = 2
+
+abbrev pub writes : ℕ
+writes = 3

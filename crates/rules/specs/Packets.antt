@@ -1,0 +1,207 @@
+-- 01, "Packet rules, checked in this order": what each packet does to a submission's resources and records.
+use mathlib.Core.Bool.{Bool, true, false, not, _||_}
+use mathlib.Core.List.{List, [], _∷_}
+use Prim.Native.Nat.{ℕ, _+_, _%_}
+use lib.Dec.{ltb, leb, eqb}
+use lib.ListN.{length, take}
+use Rattle.machine.specs.Machine.{pick}
+use Rattle.rules.specs.Numbers.{bad-handle, too-many, bad-shape, not-in-table, past-entry, read-only, past-resource, host-backed, bad-copy, most, backs, reads, writes}
+use Rattle.rules.specs.Lists.{Found, lookup, indexOf, pushed, removed}
+use Rattle.rules.specs.Lists.Found.{none, found}
+use Rattle.rules.specs.Judging.{refusal}
+use Rattle.rules.specs.Shapes.{good-shape, good-backed, texture-bytes}
+use Rattle.rules.specs.Table.{matching}
+use Rattle.rules.specs.Stream.{frame-of, packet-of}
+use Rattle.rules.specs.declared.Entry.{Entry}
+use Rattle.rules.specs.declared.Shape.{Shape}
+use Rattle.rules.specs.declared.CreateBuffer.{CreateBuffer}
+use Rattle.rules.specs.declared.CreateTexture.{CreateTexture}
+use Rattle.rules.specs.declared.DestroyResource.{DestroyResource}
+use Rattle.rules.specs.declared.DirtyRange.{DirtyRange}
+use Rattle.rules.specs.declared.CopyBuffer.{CopyBuffer}
+use Rattle.rules.specs.declared.Resource.{Resource}
+use Rattle.rules.specs.declared.Record.{Record}
+use Rattle.rules.specs.declared.Verdict.{Verdict}
+use Rattle.rules.specs.declared.Verdict.the-variants.{Fine, Broken}
+use Rattle.rules.specs.declared.Kind.{Kind}
+use Rattle.rules.specs.declared.Kind.the-variants.{Bytes, Picture}
+use Rattle.rules.specs.declared.Frame.{Frame}
+use Rattle.rules.specs.declared.Frame.the-variants.{Whole, Misframed}
+use Rattle.rules.specs.declared.Packet.{Packet}
+use Rattle.rules.specs.declared.Packet.the-variants.{Buffer, Texture, Destroy, Dirty, Copy, Unknown}
+
+-- what a submission holds: its resources as its earlier packets left them, and the records they made
+pub record Holdings : Type 0 where
+  pub resources : List Resource
+  pub records : List Record
+
+-- what a packet comes to. One that is refused leaves what was held.
+pub record Outcome : Type 0 where
+  pub verdict : Verdict
+  pub held : Holdings
+
+abbrev pub accepted : Holdings → Outcome
+accepted h = record { verdict = Fine; held = h }
+
+abbrev pub refused : ℕ → Holdings → Outcome
+refused n h = record { verdict = Broken (refusal n); held = h }
+
+-- the rule with number n, and then those after it
+abbrev pub refuse : ℕ → Bool → Holdings → Outcome → Outcome
+refuse n broken h later = pick broken (refused n h) later
+
+-- "if 64 resources are live", "if 64 records exist"
+abbrev pub full : {A : Type 0} → List A → Bool
+full xs = leb most (length xs)
+
+-- ---- resources by handle, entries by id
+
+abbrev pub handle-of : Resource → ℕ
+handle-of r = r .handle
+
+abbrev pub live : ℕ → Holdings → Found Resource
+live k h = lookup handle-of k (h .resources)
+
+abbrev pub is-live : Found Resource → Bool
+is-live none = false
+is-live (found r) = true
+
+-- 18, unless the handle is live
+abbrev pub on-live : Found Resource → Holdings → (Resource → Outcome) → Outcome
+on-live none h later = refused bad-handle h
+on-live (found r) h later = later r
+
+abbrev pub on-kind : Kind → Holdings → Outcome → Outcome
+on-kind (Bytes n) h later = later
+on-kind (Picture s) h later = refused bad-handle h
+
+-- 18, unless the handle is a live buffer's
+abbrev pub on-buffer : Found Resource → Holdings → (Resource → Outcome) → Outcome
+on-buffer f h later = on-live f h (λ r. on-kind (r .kind) h (later r))
+
+-- "21 id not in the table (or no table)"
+abbrev pub on-entry : Found Entry → Holdings → (Entry → Outcome) → Outcome
+on-entry none h later = refused not-in-table h
+on-entry (found e) h later = later e
+
+abbrev pub kind-bytes : Kind → ℕ → ℕ
+kind-bytes (Bytes n) pitch = n
+kind-bytes (Picture s) pitch = texture-bytes s pitch
+
+-- the bytes of a resource
+abbrev pub resource-bytes : Resource → ℕ
+resource-bytes r = kind-bytes (r .kind) (r .pitch)
+
+abbrev pub backed : ℕ → Bool
+backed id = not (eqb id 0)
+
+-- ---- records
+
+-- a range of a resource, `from` bytes into it, within its entry: the backing offset is added
+abbrev pub range-of : ℕ → Resource → Entry → ℕ → ℕ → Record
+range-of kind r e from size =
+    record { kind = kind; handle = r .handle; id = r .backing; gpa = e .gpa + (r .offset + from); length = size }
+
+abbrev pub recorded : Record → Holdings → Holdings
+recorded c h = record { resources = h .resources; records = pushed (h .records) c }
+
+-- "19 records", and the record. "Dirty and copy of size 0 are put to every check except 19 and make no record."
+unfoldable pub hand-out : Record → Holdings → Outcome
+hand-out c h = pick (eqb (c .length) 0) (accepted h) (refuse too-many (full (h .records)) h (accepted (recorded c h)))
+
+-- ---- create
+
+abbrev pub stored : Resource → Holdings → Holdings
+stored r h = record { resources = pushed (h .resources) r; records = h .records }
+
+-- "19 if 64 resources are live"
+unfoldable pub create-hosted : Holdings → Resource → Outcome
+create-hosted h r = refuse too-many (full (h .resources)) h (accepted (stored r h))
+
+-- "21 .., 22 backing offset + bytes above the entry's size; 19 if 64 resources are live; backed only: 19 if 64 records exist. Record kind 1."
+unfoldable pub create-backed : List Entry → Holdings → Resource → Outcome
+create-backed es h r =
+    on-entry (matching (r .backing) es) h (λ e.
+    refuse past-entry (ltb (e .size) (r .offset + resource-bytes r)) h
+    (refuse too-many (full (h .resources)) h
+    (refuse too-many (full (h .records)) h
+    (accepted (recorded (range-of backs r e 0 (resource-bytes r)) (stored r h))))))
+
+-- "Create: 18 handle 0 or live; 20 bad shape; if backing id is non-zero: .."
+unfoldable pub create : List Entry → Holdings → Bool → Resource → Outcome
+create es h good r =
+    refuse bad-handle (eqb (r .handle) 0 || is-live (live (r .handle) h)) h
+    (refuse bad-shape (not good) h
+    (pick (backed (r .backing)) (create-backed es h r) (create-hosted h r)))
+
+-- "host-backed ones ignore pitch and offset and keep them as 0"
+abbrev pub resource-of : ℕ → Kind → ℕ → ℕ → ℕ → Resource
+resource-of handle kind pitch backing offset =
+    record { handle = handle; kind = kind; pitch = pick (backed backing) pitch 0; backing = backing; offset = pick (backed backing) offset 0 }
+
+-- "Buffer size not 0."
+unfoldable pub on-buffer-packet : List Entry → Holdings → CreateBuffer → Outcome
+on-buffer-packet es h c =
+    create es h (not (eqb (c .size) 0)) (resource-of (c .handle) (Bytes (c .size)) 0 (c .backing) (c .offset))
+
+-- "Backed only: pitch >= minimum for mip 0."
+unfoldable pub on-texture-packet : List Entry → Holdings → CreateTexture → Outcome
+on-texture-packet es h c =
+    create es h (pick (backed (c .backing)) (good-backed (c .shape) (c .pitch)) (good-shape (c .shape)))
+    (resource-of (c .handle) (Picture (c .shape)) (c .pitch) (c .backing) (c .offset))
+
+-- ---- destroy, dirty, copy
+
+-- "Destroy: 18 not live."
+unfoldable pub on-destroy-packet : Holdings → DestroyResource → Outcome
+on-destroy-packet h c =
+    on-live (live (c .handle) h) h (λ r.
+    accepted (record { resources = removed (indexOf handle-of (c .handle) (h .resources)) (h .resources); records = h .records }))
+
+-- "Dirty: 18; 25 host-backed; 24 offset + size beyond the resource; 21; 22 with backing offset added; 19 records. Kind 2 (read)."
+unfoldable pub on-dirty-packet : List Entry → Holdings → DirtyRange → Outcome
+on-dirty-packet es h c =
+    on-live (live (c .handle) h) h (λ r.
+    refuse host-backed (not (backed (r .backing))) h
+    (refuse past-resource (ltb (resource-bytes r) (c .offset + c .size)) h
+    (on-entry (matching (r .backing) es) h (λ e.
+    refuse past-entry (ltb (e .size) (r .offset + (c .offset + c .size))) h
+    (hand-out (range-of reads r e (c .offset) (c .size)) h)))))
+
+-- "with writeback on dst: 25, 21, 22, 23 read-only, 19. 22 as for dirty. Kind 3 (write, of dst)"
+unfoldable pub write-back : List Entry → Holdings → CopyBuffer → Resource → Outcome
+write-back es h c r =
+    refuse host-backed (not (backed (r .backing))) h
+    (on-entry (matching (r .backing) es) h (λ e.
+    refuse past-entry (ltb (e .size) (r .offset + (c .dstoffset + c .size))) h
+    (refuse read-only (eqb (e .flags % 2) 1) h
+    (hand-out (range-of writes r e (c .dstoffset) (c .size)) h))))
+
+-- "Copy: 18 dst, then src, not a live buffer; 26 same handle, or flags above 1; 24 dst, then src; with writeback on dst: .."
+unfoldable pub on-copy-packet : List Entry → Holdings → CopyBuffer → Outcome
+on-copy-packet es h c =
+    on-buffer (live (c .dst) h) h (λ d.
+    on-buffer (live (c .src) h) h (λ s.
+    refuse bad-copy (eqb (c .dst) (c .src) || ltb 1 (c .flags)) h
+    (refuse past-resource (ltb (resource-bytes d) (c .dstoffset + c .size)) h
+    (refuse past-resource (ltb (resource-bytes s) (c .srcoffset + c .size)) h
+    (pick (eqb (c .flags) 1) (write-back es h c d) (accepted h))))))
+
+-- ---- one packet
+
+unfoldable pub apply : List Entry → Holdings → Packet → Outcome
+apply es h (Buffer c) = on-buffer-packet es h c
+apply es h (Texture c) = on-texture-packet es h c
+apply es h (Destroy c) = on-destroy-packet h c
+apply es h (Dirty c) = on-dirty-packet es h c
+apply es h (Copy c) = on-copy-packet es h c
+apply es h Unknown = accepted h
+
+-- ---- the packet that the bytes left of a stream begin with
+
+abbrev pub apply-frame : List Entry → Holdings → List ℕ → Frame → Outcome
+apply-frame es h b (Whole op size) = apply es h (packet-of op (take size b))
+apply-frame es h b (Misframed r) = record { verdict = Broken r; held = h }
+
+unfoldable pub take-packet : List Entry → Holdings → List ℕ → Outcome
+take-packet es h b = apply-frame es h b (frame-of b)

@@ -1,0 +1,121 @@
+-- 01, "Settle": the error, the fence, the head and the fence page, in this order.
+use mathlib.Core.Bool.{Bool, true, false, not, _&&_, _||_}
+use mathlib.Core.List.{List}
+use Prim.Native.Nat.{ℕ, _+_, _-_, _%_, _^_}
+use lib.Dec.{ltb, leb, eqb}
+use lib.ListN.{length}
+use Rattle.machine.specs.Machine.{pick}
+use Rattle.rules.specs.Bytes.{bytesOf}
+use Rattle.rules.specs.Lists.{over}
+use Rattle.rules.specs.Layouts.{head-offset, page-bytes}
+use Rattle.rules.specs.Shapes.{larger}
+use Rattle.rules.specs.State.{State, World}
+use Rattle.rules.specs.State.Work.{resting}
+use Rattle.rules.specs.declared.Registers.{Registers}
+use Rattle.rules.specs.declared.Resource.{Resource}
+use Rattle.rules.specs.declared.Job.{Job}
+use Rattle.rules.specs.declared.Verdict.{Verdict}
+use Rattle.rules.specs.declared.Verdict.the-variants.{Fine, Broken}
+
+-- "count + 1 (stops at 4294967295)"
+abbrev pub one-more : ℕ → ℕ
+one-more n = pick (ltb n (2 ^ 32 - 1)) (n + 1) n
+
+-- "Error: code, fence = signal fence, count + 1, status bit 1."
+unfoldable pub faulted : ℕ → ℕ → Registers → Registers
+faulted code fence r =
+    record {
+      ring = r .ring;
+      ringsize = r .ringsize;
+      enabled = r .enabled;
+      page = r .page;
+      completed = r .completed;
+      fenced = r .fenced;
+      failed = true;
+      irqenable = r .irqenable;
+      code = code;
+      fence = fence;
+      errors = one-more (r .errors);
+      rung = r .rung;
+    }
+
+-- "Completed = larger of completed and signal fence; status bit 0 is set if it rose and no-IRQ is clear."
+unfoldable pub signalled : ℕ → Bool → Registers → Registers
+signalled fence silent r =
+    record {
+      ring = r .ring;
+      ringsize = r .ringsize;
+      enabled = r .enabled;
+      page = r .page;
+      completed = larger (r .completed) fence;
+      fenced = r .fenced || (ltb (r .completed) fence && not silent);
+      failed = r .failed;
+      irqenable = r .irqenable;
+      code = r .code;
+      fence = r .fence;
+      errors = r .errors;
+      rung = r .rung;
+    }
+
+-- the flag cleared
+unfoldable pub quieted : Registers → Registers
+quieted r =
+    record {
+      ring = r .ring;
+      ringsize = r .ringsize;
+      enabled = r .enabled;
+      page = r .page;
+      completed = r .completed;
+      fenced = r .fenced;
+      failed = r .failed;
+      irqenable = r .irqenable;
+      code = r .code;
+      fence = r .fence;
+      errors = r .errors;
+      rung = false;
+    }
+
+-- a submission's last word to the registers: its error, if any, then its fence
+abbrev pub faulted-by : Verdict → ℕ → Registers → Registers
+faulted-by Fine fence r = r
+faulted-by (Broken f) fence r = faulted (f .code) fence r
+
+unfoldable pub ended-by : Job → Verdict → Registers → Registers
+ended-by j v r = signalled (j .signal) (j .silent) (faulted-by v (j .signal) r)
+
+-- ---- memory
+
+-- bytes written where they lie within memory; else nothing is
+unfoldable pub written : ℕ → List ℕ → List ℕ → List ℕ
+written at b m = pick (leb (at + length b) (length m)) (over at b m) m
+
+-- "the head read at opening, + 1 (wrapping), goes to the opened ring". An opened ring lies within memory.
+unfoldable pub head-written : Job → List ℕ → List ℕ
+head-written j m = written (j .ring + head-offset) (bytesOf 4 ((j .head + 1) % 2 ^ 32)) m
+
+-- "the fence page is written if its GPA is non-zero and all 16 bytes fit, else not"
+unfoldable pub page-written : Registers → List ℕ → List ℕ
+page-written r m = pick (eqb (r .page) 0) m (written (r .page) (page-bytes (r .completed)) m)
+
+-- "Then the head ..., then the fence page": with the registers as they now are
+unfoldable pub marked : Job → Registers → List ℕ → List ℕ
+marked j r m = page-written r (head-written j m)
+
+-- ---- the whole of it
+
+-- a submission settled with a verdict, and with these resources the device's from now on
+unfoldable pub settled : Job → Verdict → List Resource → World → World
+settled j v resources w =
+    record {
+      state = record {
+        memory = w .state .memory;
+        regs = ended-by j v (w .state .regs);
+        resources = resources;
+        work = resting;
+      };
+      mem = marked j (ended-by j v (w .state .regs)) (w .mem);
+    }
+
+-- "On "good" the submission's resources become the device's; otherwise those before it stay."
+abbrev pub refused-with : Job → Verdict → World → World
+refused-with j v w = settled j v (w .state .resources) w

@@ -1,0 +1,64 @@
+-- 01, "State and calls": the device's state, and the memory beside it. No stale number is part of it.
+use mathlib.Core.Bool.{Bool, true, false}
+use mathlib.Core.List.{List, []}
+use Prim.Native.Nat.{ℕ}
+use Rattle.rules.specs.Packets.{Holdings}
+use Rattle.rules.specs.declared.Registers.{Registers}
+use Rattle.rules.specs.declared.Entry.{Entry}
+use Rattle.rules.specs.declared.Resource.{Resource}
+use Rattle.rules.specs.declared.Job.{Job}
+use Rattle.rules.specs.declared.Stream.{Stream}
+use Rattle.rules.specs.declared.Opened.{Opened}
+
+-- "In work means from opening to settling." "Checked entries are kept, as are the numbers read at opening."
+pub data Work : Type 0 where
+  resting : Work
+  -- what was opened, and the entries kept so far
+  entries : Opened → List Entry → Work
+  -- the stream and the place in it, the table's entries, and what is held
+  packets : Job → Stream → ℕ → List Entry → Holdings → Work
+  -- the host's answer is awaited
+  waiting : Job → List Entry → Holdings → Work
+
+pub record State : Type 0 where
+  -- "made for one memory length"
+  pub memory : ℕ
+  pub regs : Registers
+  pub resources : List Resource
+  pub work : Work
+
+pub record World : Type 0 where
+  pub state : State
+  pub mem : List ℕ
+
+-- "starts as after a reset, with error and writable registers zero"
+abbrev pub fresh : Registers
+fresh =
+    record {
+      ring = 0;
+      ringsize = 0;
+      enabled = false;
+      page = 0;
+      completed = 0;
+      fenced = false;
+      failed = false;
+      irqenable = 0;
+      code = 0;
+      fence = 0;
+      errors = 0;
+      rung = false;
+    }
+
+abbrev pub made : ℕ → State
+made memory = record { memory = memory; regs = fresh; resources = []; work = resting }
+
+-- ---- a state with one part of it another
+
+abbrev pub with-regs : Registers → State → State
+with-regs r s = record { memory = s .memory; regs = r; resources = s .resources; work = s .work }
+
+abbrev pub with-work : Work → State → State
+with-work k s = record { memory = s .memory; regs = s .regs; resources = s .resources; work = k }
+
+abbrev pub with-state : State → World → World
+with-state s w = record { state = s; mem = w .mem }

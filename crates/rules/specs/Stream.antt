@@ -1,0 +1,108 @@
+-- 01, "Open" 16, and the framing of "Packet": the command stream.
+use mathlib.Core.Bool.{Bool, true, false, not, _&&_}
+use mathlib.Core.List.{List, [], _∷_}
+use Prim.Native.Nat.{ℕ, zero, suc, _%_}
+use lib.Dec.{ltb, eqb}
+use lib.ListN.{length, take, drop}
+use Rattle.machine.specs.Machine.{pick}
+use Rattle.rules.specs.Numbers.{bad-stream, bad-packet, stream-magic, create-buffer, create-texture, destroy, dirty-range, copy-buffer}
+use Rattle.rules.specs.Judging.{rule, _▹_}
+use Rattle.rules.specs.Layouts.{word, good-version, stream-header-size, packet-header-size, buffer-fields, texture-fields, destroy-fields, dirty-fields, copy-fields}
+use Rattle.rules.specs.declared.StreamHeader.{StreamHeader}
+use Rattle.rules.specs.declared.Stream.{Stream}
+use Rattle.rules.specs.declared.Refusal.{Refusal}
+use Rattle.rules.specs.declared.Verdict.{Verdict}
+use Rattle.rules.specs.declared.Verdict.the-variants.{Fine, Broken}
+use Rattle.rules.specs.declared.Packet.{Packet}
+use Rattle.rules.specs.declared.Packet.the-variants.{Buffer, Texture, Destroy, Dirty, Copy, Unknown}
+use Rattle.rules.specs.declared.Frame.{Frame}
+use Rattle.rules.specs.declared.Frame.the-variants.{Whole, Misframed}
+
+-- "16: cmd size below 24; magic; version; stream size below 24 or above cmd size."
+unfoldable pub stream-rules : ℕ → StreamHeader → Verdict
+stream-rules cmdsize h =
+    rule bad-stream (ltb cmdsize stream-header-size)
+    ▹ rule bad-stream (not (eqb (h .magic) stream-magic))
+    ▹ rule bad-stream (not (good-version (h .version)))
+    ▹ rule bad-stream (ltb (h .size) stream-header-size)
+    ▹ rule bad-stream (ltb cmdsize (h .size))
+
+-- the numbers kept of it
+abbrev pub stream-of : ℕ → StreamHeader → Stream
+stream-of gpa h = record { gpa = gpa; size = h .size }
+
+abbrev pub no-stream : Stream
+no-stream = record { gpa = 0; size = 0 }
+
+-- ---- one packet
+
+-- the size that the table of opcodes gives; 0 for an opcode that we do not know
+unfoldable pub known-size : ℕ → ℕ
+known-size op =
+    pick (eqb op create-buffer) 40
+    (pick (eqb op create-texture) 56
+    (pick (eqb op destroy) 16
+    (pick (eqb op dirty-range) 32
+    (pick (eqb op copy-buffer) 48 0))))
+
+-- "a known opcode whose size is not exactly its table size"
+unfoldable pub wrong-size : ℕ → ℕ → Bool
+wrong-size op size = not (eqb (known-size op) 0) && not (eqb (known-size op) size)
+
+-- "17: 1 to 7 bytes left; size below 8, not a multiple of 4, or past the end; a known opcode whose size is not exactly its table size."
+-- Put to the bytes that are left of a stream.
+unfoldable pub frame-rules : List ℕ → Verdict
+frame-rules b =
+    rule bad-packet (ltb (length b) packet-header-size)
+    ▹ rule bad-packet (ltb (word b 4) packet-header-size)
+    ▹ rule bad-packet (not (eqb (word b 4 % 4) 0))
+    ▹ rule bad-packet (ltb (length b) (word b 4))
+    ▹ rule bad-packet (wrong-size (word b 0) (word b 4))
+
+abbrev pub framed : Verdict → ℕ → ℕ → Frame
+framed Fine op size = Whole op size
+framed (Broken r) op size = Misframed r
+
+-- the frame of the packet that the bytes left begin with
+unfoldable pub frame-of : List ℕ → Frame
+frame-of b = framed (frame-rules b) (word b 0) (word b 4)
+
+-- the fields of a packet with an opcode, from its own bytes. "Unknown opcodes are skipped."
+unfoldable pub packet-of : ℕ → List ℕ → Packet
+packet-of op b =
+    pick (eqb op create-buffer) (Buffer (buffer-fields b))
+    (pick (eqb op create-texture) (Texture (texture-fields b))
+    (pick (eqb op destroy) (Destroy (destroy-fields b))
+    (pick (eqb op dirty-range) (Dirty (dirty-fields b))
+    (pick (eqb op copy-buffer) (Copy (copy-fields b)) Unknown))))
+
+-- the stream's own bytes, and what is left of them from a place on
+abbrev pub stream-bytes : List ℕ → Stream → List ℕ
+stream-bytes m s = take (s .size) (drop (s .gpa) m)
+
+abbrev pub left : List ℕ → Stream → ℕ → List ℕ
+left m s at = drop at (stream-bytes m s)
+
+-- ---- the stream as a list
+
+pub data Piece : Type 0 where
+  packet : Packet → Piece
+  misframed : Refusal → Piece
+
+abbrev pub size-of : Frame → ℕ
+size-of (Whole op size) = size
+size-of (Misframed r) = 0
+
+-- a packet before those after it; nothing is after a bad one
+abbrev pub before : Frame → List ℕ → List Piece → List Piece
+before (Whole op size) b later = packet (packet-of op (take size b)) ∷ later
+before (Misframed r) b later = misframed r ∷ []
+
+-- the packets of some bytes, of which there are no more than the first number says
+unfoldable pub cut : ℕ → List ℕ → List Piece
+cut zero b = []
+cut (suc k) b = pick (eqb (length b) 0) [] (before (frame-of b) b (cut k (drop (size-of (frame-of b)) b)))
+
+-- "from byte 24 to the stream size"
+abbrev pub packets-of : List ℕ → Stream → List Piece
+packets-of m s = cut (s .size) (left m s stream-header-size)

@@ -1,0 +1,83 @@
+-- 01, "The unsliced rules": a whole submission over one memory. They "judge the opening, then all entries, then all packets,
+-- as lists, and know no steps or kept place".
+use mathlib.Core.Bool.{Bool, true, false}
+use mathlib.Core.List.{List, [], _∷_}
+use Prim.Native.Nat.{ℕ, suc, _+_}
+use lib.ListN.{length}
+use Rattle.machine.specs.Machine.{pick, Out}
+use Rattle.rules.specs.Numbers.{bad-ring}
+use Rattle.rules.specs.Table.{Judged, entries-of, judge-entries}
+use Rattle.rules.specs.Stream.{Piece, packets-of}
+use Rattle.rules.specs.Stream.Piece.{packet, misframed}
+use Rattle.rules.specs.Ring.{opening-of}
+use Rattle.rules.specs.Packets.{Holdings, Outcome, apply}
+use Rattle.rules.specs.State.{Work, State, World, with-regs, with-work, with-state}
+use Rattle.rules.specs.State.Work.{waiting}
+use Rattle.rules.specs.Settle.{faulted, quieted, refused-with}
+use Rattle.rules.specs.declared.Entry.{Entry}
+use Rattle.rules.specs.declared.Job.{Job}
+use Rattle.rules.specs.declared.Opened.{Opened}
+use Rattle.rules.specs.declared.Verdict.{Verdict}
+use Rattle.rules.specs.declared.Verdict.the-variants.{Fine, Broken}
+use Rattle.rules.specs.declared.Opening.{Opening}
+use Rattle.rules.specs.declared.Opening.the-variants.{BadRing, NoWork, Refused, Started}
+
+-- ---- the packets as a list
+
+-- the first broken rule, what is held at the end, and how many packets were judged
+pub record Reckoned : Type 0 where
+  pub verdict : Verdict
+  pub held : Holdings
+  pub count : ℕ
+
+abbrev pub one-further : Verdict → Holdings → Reckoned → Reckoned
+one-further Fine h later = record { verdict = later .verdict; held = later .held; count = suc (later .count) }
+one-further (Broken r) h later = record { verdict = Broken r; held = h; count = 1 }
+
+unfoldable pub judge-packets : List Entry → Holdings → List Piece → Reckoned
+judge-packets es h [] = record { verdict = Fine; held = h; count = 0 }
+judge-packets es h (misframed r ∷ later) = record { verdict = Broken r; held = h; count = 1 }
+judge-packets es h (packet p ∷ later) =
+    one-further (apply es h p .verdict) h (judge-packets es (apply es h p .held) later)
+
+-- ---- a submission
+
+-- "their count is one, plus the entries and packets judged up to and with the first broken one"
+pub record Submission : Type 0 where
+  pub verdict : Verdict
+  pub held : Holdings
+  pub units : ℕ
+
+abbrev pub after-entries : Verdict → ℕ → Holdings → Reckoned → Submission
+after-entries Fine judged h p = record { verdict = p .verdict; held = p .held; units = 1 + (judged + p .count) }
+after-entries (Broken r) judged h p = record { verdict = Broken r; held = h; units = 1 + judged }
+
+-- the table's judgement, then the packets'
+abbrev pub both : Judged → Holdings → Reckoned → Submission
+both t h p = after-entries (t .verdict) (t .count) h p
+
+-- "The unsliced rules judge the opening, then all entries, then all packets"
+unfoldable pub submission : List ℕ → Opened → Holdings → Submission
+submission m o h =
+    both (judge-entries (length m) [] (entries-of m (o .table))) h
+    (judge-packets (entries-of m (o .table)) h (packets-of m (o .stream)))
+
+abbrev pub finished : World → Job → List Entry → Submission → Verdict → World
+finished w j es b Fine = with-state (with-work (waiting j es (b .held)) (w .state)) w
+finished w j es b (Broken r) = refused-with j (Broken r) w
+
+abbrev pub concluding : World → Job → List Entry → Submission → Out World
+concluding w j es b = record { state = finished w j es b (b .verdict); units = b .units }
+
+-- what an opening comes to: finished with its error, or waiting for the host
+abbrev pub submitted-on : World → Opening → Out World
+submitted-on w BadRing =
+    record { state = with-state (with-regs (quieted (faulted bad-ring 0 (w .state .regs))) (w .state)) w; units = 1 }
+submitted-on w NoWork = record { state = with-state (with-regs (quieted (w .state .regs)) (w .state)) w; units = 1 }
+submitted-on w (Refused j r) = record { state = refused-with j (Broken r) w; units = 1 }
+submitted-on w (Started o) =
+    concluding w (o .job) (entries-of (w .mem) (o .table))
+    (submission (w .mem) o (record { resources = w .state .resources; records = [] }))
+
+unfoldable pub submitted : World → Out World
+submitted w = submitted-on w (opening-of (w .mem) (w .state .regs .ring) (w .state .regs .ringsize))

@@ -1,0 +1,219 @@
+// The vocabulary of document 01: the things it speaks of, by value, of plain numbers. No function stands here;
+// what the rules say of these things is in specs/, a file for each heading.
+pub mod numbers;
+
+// ---- Layouts: what is read of guest memory, each once
+
+// The ring's header; `head` and `tail` count submissions and wrap.
+pub struct RingHeader {
+    pub magic: u32,
+    pub version: u32,
+    pub size: u32,
+    pub count: u32,
+    pub stride: u32,
+    pub head: u32,
+    pub tail: u32,
+}
+
+// A submission, as its slot of the ring describes it.
+pub struct Descriptor {
+    pub size: u32,
+    pub flags: u32,
+    pub cmd: u64,
+    pub cmdsize: u32,
+    pub table: u64,
+    pub tablesize: u32,
+    pub signal: u64,
+}
+
+// The header of an allocation table.
+pub struct TableHeader {
+    pub magic: u32,
+    pub version: u32,
+    pub size: u32,
+    pub count: u32,
+    pub stride: u32,
+}
+
+// One entry of an allocation table: a range of guest memory under an id.
+pub struct Entry {
+    pub id: u32,
+    pub flags: u32,
+    pub gpa: u64,
+    pub size: u64,
+}
+
+// The header of a command stream.
+pub struct StreamHeader {
+    pub magic: u32,
+    pub version: u32,
+    pub size: u32,
+}
+
+// ---- Packets
+
+// The shape of a texture.
+pub struct Shape {
+    pub format: u32,
+    pub width: u32,
+    pub height: u32,
+    pub mips: u32,
+    pub layers: u32,
+}
+
+pub struct CreateBuffer {
+    pub handle: u32,
+    pub size: u64,
+    pub backing: u32,
+    pub offset: u32,
+}
+
+pub struct CreateTexture {
+    pub handle: u32,
+    pub shape: Shape,
+    pub pitch: u32,
+    pub backing: u32,
+    pub offset: u32,
+}
+
+pub struct DestroyResource {
+    pub handle: u32,
+}
+
+pub struct DirtyRange {
+    pub handle: u32,
+    pub offset: u64,
+    pub size: u64,
+}
+
+pub struct CopyBuffer {
+    pub dst: u32,
+    pub src: u32,
+    pub dstoffset: u64,
+    pub srcoffset: u64,
+    pub size: u64,
+    pub flags: u32,
+}
+
+// What the bytes left of a stream begin with: a whole packet, by opcode and size, or none.
+pub enum Frame {
+    Whole(u32, u32),
+    Misframed(Refusal),
+}
+
+// A packet that is framed well. One whose opcode we do not know is skipped.
+pub enum Packet {
+    Buffer(CreateBuffer),
+    Texture(CreateTexture),
+    Destroy(DestroyResource),
+    Dirty(DirtyRange),
+    Copy(CopyBuffer),
+    Unknown,
+}
+
+// Where a subresource of a texture starts: nowhere, for a bad shape or an index past the last.
+pub enum Start {
+    At(u64),
+    Nowhere,
+}
+
+// ---- Resources and records
+
+// What a resource is: a buffer of so many bytes, or a texture.
+pub enum Kind {
+    Bytes(u64),
+    Picture(Shape),
+}
+
+// A live resource. `backing` 0 is host-backed: pitch and offset are then 0.
+pub struct Resource {
+    pub handle: u32,
+    pub kind: Kind,
+    pub pitch: u32,
+    pub backing: u32,
+    pub offset: u32,
+}
+
+// A range of guest memory that is handed to the host: kind 1 a backing, 2 to be read, 3 to be written.
+pub struct Record {
+    pub kind: u32,
+    pub handle: u32,
+    pub id: u32,
+    pub gpa: u64,
+    pub length: u64,
+}
+
+// ---- Judgement
+
+// The rule that was broken, by its number.
+pub struct Refusal {
+    pub code: u32,
+}
+
+pub enum Verdict {
+    Fine,
+    Broken(Refusal),
+}
+
+// ---- A submission in work
+
+// What settling needs: the opened ring and the head read from it, the fence to signal, whether it is silent (no-IRQ).
+pub struct Job {
+    pub ring: u64,
+    pub head: u32,
+    pub signal: u64,
+    pub silent: bool,
+}
+
+// The numbers kept of a checked table header; without a table the count is 0.
+pub struct Table {
+    pub gpa: u64,
+    pub count: u32,
+    pub stride: u32,
+}
+
+// The numbers kept of a checked stream header; without a stream the size is 0.
+pub struct Stream {
+    pub gpa: u64,
+    pub size: u32,
+}
+
+// A submission that was opened: all that later steps use of what was read at opening.
+pub struct Opened {
+    pub job: Job,
+    pub table: Table,
+    pub stream: Stream,
+}
+
+// How an opening ends.
+pub enum Opening {
+    BadRing,
+    NoWork,
+    Refused(Job, Refusal),
+    Started(Opened),
+}
+
+// ---- Registers and answers
+
+// The registers' numbers, and the doorbell flag (`rung`). IRQ status is its two bits.
+pub struct Registers {
+    pub ring: u64,
+    pub ringsize: u32,
+    pub enabled: bool,
+    pub page: u64,
+    pub completed: u64,
+    pub fenced: bool,
+    pub failed: bool,
+    pub irqenable: u32,
+    pub code: u32,
+    pub fence: u64,
+    pub errors: u32,
+    pub rung: bool,
+}
+
+// How a run ended.
+pub enum Ended {
+    Idle,
+    Waiting,
+    Paused,
+}

@@ -1,0 +1,78 @@
+// The numbers of document 01, for code. Each has the name that specs/Numbers.antt gives it.
+
+// ---- errors
+pub const BAD_RING: u32 = 10;
+
+pub const BAD_DESCRIPTOR: u32 = 11;
+
+pub const OUTSIDE_MEMORY: u32 = 12;
+
+pub const BAD_TABLE: u32 = 13;
+
+pub const BAD_ENTRY: u32 = 14;
+
+pub const TWICE_IN_TABLE: u32 = 15;
+
+pub const BAD_STREAM: u32 = 16;
+
+pub const BAD_PACKET: u32 = 17;
+
+pub const BAD_HANDLE: u32 = 18;
+
+pub const TOO_MANY: u32 = 19;
+
+pub const BAD_SHAPE: u32 = 20;
+
+pub const NOT_IN_TABLE: u32 = 21;
+
+pub const PAST_ENTRY: u32 = 22;
+
+pub const READ_ONLY: u32 = 23;
+
+pub const PAST_RESOURCE: u32 = 24;
+
+pub const HOST_BACKED: u32 = 25;
+
+pub const BAD_COPY: u32 = 26;
+
+pub const HOST_FAILED: u32 = 27;
+
+// ---- limits
+pub const MOST: usize = 64;
+
+pub const LONGEST_SIDE: u32 = 16384;
+
+pub const MOST_LAYERS: u32 = 256;
+
+// ---- magics and the version
+pub const RING_MAGIC: u32 = 0x474e5241;
+
+pub const TABLE_MAGIC: u32 = 0x434f4c41;
+
+pub const STREAM_MAGIC: u32 = 0x444d4341;
+
+pub const PAGE_MAGIC: u32 = 0x434e4546;
+
+pub const DEVICE_MAGIC: u32 = 0x55504741;
+
+pub const VERSION: u32 = 65539;
+
+pub const FEATURES: u32 = 7;
+
+// ---- opcodes
+pub const CREATE_BUFFER: u32 = 256;
+
+pub const CREATE_TEXTURE: u32 = 257;
+
+pub const DESTROY: u32 = 258;
+
+pub const DIRTY_RANGE: u32 = 259;
+
+pub const COPY_BUFFER: u32 = 261;
+
+// ---- kinds of record
+pub const BACKS: u32 = 1;
+
+pub const READS: u32 = 2;
+
+pub const WRITES: u32 = 3;
