@@ -89,9 +89,13 @@ ended-by j v r = signalled (j .signal) (j .silent) (faulted-by v (j .signal) r)
 unfoldable pub written : ℕ → List ℕ → List ℕ → List ℕ
 written at b m = pick (leb (at + length b) (length m)) (over at b m) m
 
--- "the head read at opening, + 1 (wrapping), goes to the opened ring". An opened ring lies within memory.
+-- "the head read at opening, + 1 (wrapping)"
+abbrev pub next-head : ℕ → ℕ
+next-head head = (head + 1) % 2 ^ 32
+
+-- it "goes to the opened ring", which lies within memory
 unfoldable pub head-written : Job → List ℕ → List ℕ
-head-written j m = written (j .ring + head-offset) (bytesOf 4 ((j .head + 1) % 2 ^ 32)) m
+head-written j m = written (j .ring + head-offset) (bytesOf 4 (next-head (j .head))) m
 
 -- "the fence page is written if its GPA is non-zero and all 16 bytes fit, else not"
 unfoldable pub page-written : Registers → List ℕ → List ℕ
