@@ -1,1 +1,5 @@
 pub mod NightLog
+pub mod Fine
+pub mod Whole
+pub mod Submission
+pub mod Slices

@@ -49,8 +49,8 @@ pub record Submission : Type 0 where
   pub units : ℕ
 
 abbrev pub after-entries : Verdict → ℕ → Holdings → Reckoned → Submission
-after-entries Fine judged h p = record { verdict = p .verdict; held = p .held; units = 1 + (judged + p .count) }
-after-entries (Broken r) judged h p = record { verdict = Broken r; held = h; units = 1 + judged }
+after-entries Fine judged h p = record { verdict = p .verdict; held = p .held; units = suc (judged + p .count) }
+after-entries (Broken r) judged h p = record { verdict = Broken r; held = h; units = suc judged }
 
 -- the table's judgement, then the packets'
 abbrev pub both : Judged → Holdings → Reckoned → Submission
@@ -62,12 +62,12 @@ submission m o h =
     both (judge-entries (length m) [] (entries-of m (o .table))) h
     (judge-packets (entries-of m (o .table)) h (packets-of m (o .stream)))
 
-abbrev pub finished : World → Job → List Entry → Submission → Verdict → World
-finished w j es b Fine = with-state (with-work (waiting j es (b .held)) (w .state)) w
-finished w j es b (Broken r) = refused-with j (Broken r) w
+abbrev pub finished : World → Job → List Entry → Holdings → Verdict → World
+finished w j es h Fine = with-state (with-work (waiting j es h) (w .state)) w
+finished w j es h (Broken r) = refused-with j (Broken r) w
 
 abbrev pub concluding : World → Job → List Entry → Submission → Out World
-concluding w j es b = record { state = finished w j es b (b .verdict); units = b .units }
+concluding w j es b = record { state = finished w j es (b .held) (b .verdict); units = b .units }
 
 -- what an opening comes to: finished with its error, or waiting for the host
 abbrev pub submitted-on : World → Opening → Out World

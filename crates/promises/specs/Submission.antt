@@ -1,0 +1,221 @@
+-- Demand 2, whole: from its opening on, over still memory, a submission's steps end where the unsliced rules end, after their
+-- count of units. Assumes nothing.
+use mathlib.Core.Path.{_≡_, refl, sym, ap, subst, _∙_}
+use mathlib.Core.Bool.{Bool, true, false, not, _&&_}
+use mathlib.Core.List.{List, [], _∷_, _++_}
+use Prim.Native.Nat.{ℕ, zero, suc, _+_, _-_, _*_, _%_, _≤_, _<_}
+use native.Mathlib.Omega.{arith}
+use native.Mathlib.Nat.{add-zero, zero-add, mul-le-mul-left, mul-le-mul-right, mul-comm}
+use native.Mathlib.Numerals.{one-add}
+use borrow.Author.Tests.{le-leb, lt-ltb, le-ltb, leb-true, ltb-false}
+use lib.Dec.{ltb, leb, eqb}
+use lib.ListN.{length, take, drop, length-drop}
+use lib.Seq.{length-take-le}
+use Rattle.machine.specs.Machine.{pick, Out, spent, runFor, run-none, sliced}
+use Rattle.rules.specs.Numbers.{most, bad-table, bad-stream, too-many, outside-memory, table-magic, stream-magic}
+use Rattle.rules.specs.Judging.{rule, only, _▹_}
+use Rattle.rules.specs.Layouts.{good-version, ring-header, descriptor, table-header, table-header-size, entry-size, stream-header, stream-header-size}
+use Rattle.rules.specs.Table.{Judged, header-rules, entry-place, in-reach, entries-of, judge-entries}
+use Rattle.rules.specs.Stream.{stream-rules, stream-bytes, packets-of}
+use Rattle.rules.specs.Ring.{present, descriptor-rules, range-rules, submission-rules, opened-of, concluded, job-of, slot-place, submission-opening, good-ring, ring-opening, opening-of}
+use Rattle.rules.specs.Packets.{Holdings}
+use Rattle.rules.specs.State.{World}
+use Rattle.rules.specs.State.Work.{resting, entries, packets, waiting}
+use Rattle.rules.specs.Settle.{settled, refused-with}
+use Rattle.rules.specs.Steps.{working, at-first, packets-at, entries-at, after-opening, open-step, step, go, run-for}
+use Rattle.rules.specs.Unsliced.{Reckoned, judge-packets, Submission, after-entries, submission, finished, concluding, submitted-on, submitted}
+use Rattle.rules.specs.declared.RingHeader.{RingHeader}
+use Rattle.rules.specs.declared.Descriptor.{Descriptor}
+use Rattle.rules.specs.declared.TableHeader.{TableHeader}
+use Rattle.rules.specs.declared.StreamHeader.{StreamHeader}
+use Rattle.rules.specs.declared.Entry.{Entry}
+use Rattle.rules.specs.declared.Job.{Job}
+use Rattle.rules.specs.declared.Table.{Table}
+use Rattle.rules.specs.declared.Stream.{Stream}
+use Rattle.rules.specs.declared.Opened.{Opened}
+use Rattle.rules.specs.declared.Verdict.{Verdict}
+use Rattle.rules.specs.declared.Verdict.the-variants.{Fine, Broken}
+use Rattle.rules.specs.declared.Opening.{Opening}
+use Rattle.rules.specs.declared.Opening.the-variants.{BadRing, NoWork, Refused, Started}
+use Rattle.promises.specs.Fine.{fine-first, fine-later, kept-rule, kept-only, both-left}
+use Rattle.promises.specs.Whole.{unit-more, unit-last, reading, after-table, entries-end, placed, after-stream, packets-end}
+
+-- ---- what was opened lies within memory
+
+pub record Lies (m : List ℕ) (o : Opened) : Type 0 where
+  pub few : o .table .count ≤ most
+  pub reach : (i : ℕ) → i < o .table .count → in-reach m (o .table) i ≡ true
+  pub stream : length (stream-bytes m (o .stream)) ≡ o .stream .size
+
+-- a range of memory is as long as it says
+part-length : (m : List ℕ) (at n : ℕ) → at + n ≤ length m → length (take n (drop at m)) ≡ n
+part-length m at n h = length-take-le n (drop at m) (omega (arith, length-drop at m))
+
+-- what a good table header says
+pub record GoodHeader (tablesize : ℕ) (h : TableHeader) : Type 0 where
+  pub inside : h .size ≤ tablesize
+  pub stride : entry-size ≤ h .stride
+  pub rows : table-header-size + h .count * h .stride ≤ h .size
+  pub few : h .count ≤ most
+
+good-header-says : (tablesize : ℕ) (h : TableHeader) → header-rules tablesize h ≡ Fine → GoodHeader tablesize h
+unfolding header-rules
+good-header-says tablesize h fine =
+    let l₁ = fine-later (rule bad-table (ltb tablesize table-header-size)) _ fine in
+    let l₂ = fine-later (rule bad-table (not (eqb (h .magic) table-magic))) _ l₁ in
+    let l₃ = fine-later (rule bad-table (not (good-version (h .version)))) _ l₂ in
+    let l₄ = fine-later (rule bad-table (ltb (h .size) table-header-size)) _ l₃ in
+    let l₅ = fine-later (rule bad-table (ltb tablesize (h .size))) _ l₄ in
+    let l₆ = fine-later (rule bad-table (ltb (h .stride) entry-size)) _ l₅ in
+    let l₇ = fine-later (rule bad-table (ltb (h .size) (table-header-size + h .count * h .stride))) _ l₆ in
+    record {
+      inside = ltb-false tablesize (h .size) (kept-rule bad-table (ltb tablesize (h .size)) (fine-first _ _ l₄));
+      stride = ltb-false (h .stride) entry-size (kept-rule bad-table (ltb (h .stride) entry-size) (fine-first _ _ l₅));
+      rows = ltb-false (h .size) (table-header-size + h .count * h .stride) (kept-rule bad-table (ltb (h .size) (table-header-size + h .count * h .stride)) (fine-first _ _ l₆));
+      few = ltb-false most (h .count) (kept-rule too-many (ltb most (h .count)) l₇);
+    }
+
+stream-inside : (cmdsize : ℕ) (h : StreamHeader) → stream-rules cmdsize h ≡ Fine → h .size ≤ cmdsize
+unfolding stream-rules
+stream-inside cmdsize h fine =
+    let l₁ = fine-later (rule bad-stream (ltb cmdsize stream-header-size)) _ fine in
+    let l₂ = fine-later (rule bad-stream (not (eqb (h .magic) stream-magic))) _ l₁ in
+    let l₃ = fine-later (rule bad-stream (not (good-version (h .version)))) _ l₂ in
+    let l₄ = fine-later (rule bad-stream (ltb (h .size) stream-header-size)) _ l₃ in
+    ltb-false cmdsize (h .size) (kept-rule bad-stream (ltb cmdsize (h .size)) l₄)
+
+-- entry i < n of rows of at least 32 bytes ends within them
+row-inside : (i n stride : ℕ) → i < n → entry-size ≤ stride → i * stride + entry-size ≤ n * stride
+row-inside i n stride h big = omega (arith, mul-le-mul-right stride h)
+
+module _ (m : List ℕ) (j : Job) (d : Descriptor) (stride : ℕ) (fine : submission-rules m stride d ≡ Fine) where
+  ranges-fine : range-rules (length m) d ≡ Fine
+  unfolding submission-rules
+  ranges-fine = fine-first _ _ (fine-later (descriptor-rules stride d) _ fine)
+
+  header-fine : only (present (d .tablesize)) (header-rules (d .tablesize) (table-header m (d .table))) ≡ Fine
+  unfolding submission-rules
+  header-fine = fine-first _ _ (fine-later (range-rules (length m) d) _ (fine-later (descriptor-rules stride d) _ fine))
+
+  stream-fine : only (present (d .cmdsize)) (stream-rules (d .cmdsize) (stream-header m (d .cmd))) ≡ Fine
+  unfolding submission-rules
+  stream-fine = fine-later (only (present (d .tablesize)) (header-rules (d .tablesize) (table-header m (d .table)))) _ (fine-later (range-rules (length m) d) _ (fine-later (descriptor-rules stride d) _ fine))
+
+  cmd-inside : present (d .cmdsize) ≡ true → d .cmd + d .cmdsize ≤ length m
+  unfolding range-rules
+  cmd-inside p = ltb-false (length m) (d .cmd + d .cmdsize) (kept-rule outside-memory _ (kept-only (present (d .cmdsize)) _ p (fine-first _ _ ranges-fine)))
+
+  table-inside : present (d .tablesize) ≡ true → d .table + d .tablesize ≤ length m
+  unfolding range-rules
+  table-inside p =
+      ltb-false (length m) (d .table + d .tablesize)
+      (kept-rule outside-memory _ (kept-only (present (d .tablesize)) _ p (fine-later (only (present (d .cmdsize)) (rule outside-memory (ltb (length m) (d .cmd + d .cmdsize)))) _ ranges-fine)))
+
+  abbrev kept-table : Bool → Table
+  kept-table t = pick t (record { gpa = d .table; count = table-header m (d .table) .count; stride = table-header m (d .table) .stride }) (record { gpa = 0; count = 0; stride = 0 })
+
+  abbrev kept-stream : Bool → Stream
+  kept-stream t = pick t (record { gpa = d .cmd; size = stream-header m (d .cmd) .size }) (record { gpa = 0; size = 0 })
+
+  table-few : (t : Bool) → present (d .tablesize) ≡ t → kept-table t .count ≤ most
+  table-few true p = good-header-says (d .tablesize) (table-header m (d .table)) (kept-only (present (d .tablesize)) _ p header-fine) .few
+  table-few false p = omega arith
+
+  table-reach : (t : Bool) → present (d .tablesize) ≡ t → (i : ℕ) → i < kept-table t .count → in-reach m (kept-table t) i ≡ true
+  table-reach true p i h =
+      let g : GoodHeader (d .tablesize) (table-header m (d .table)) = good-header-says (d .tablesize) (table-header m (d .table)) (kept-only (present (d .tablesize)) _ p header-fine) in
+      let few : i < most = omega (arith, g .few) in
+      let fits : d .table + (24 + i * table-header m (d .table) .stride) + 32 ≤ length m =
+      omega (arith, table-inside p, g .inside, g .rows, row-inside i (table-header m (d .table) .count) (table-header m (d .table) .stride) h (g .stride)) in
+      rw (lt-ltb i most few, le-leb _ _ fits)
+  table-reach false p i h = absurd (omega arith)
+
+  stream-long : (t : Bool) → present (d .cmdsize) ≡ t → length (stream-bytes m (kept-stream t)) ≡ kept-stream t .size
+  stream-long true p =
+      part-length m (d .cmd) (stream-header m (d .cmd) .size) (omega (arith, cmd-inside p, stream-inside (d .cmdsize) (stream-header m (d .cmd)) (kept-only (present (d .cmdsize)) _ p stream-fine)))
+  stream-long false p = part-length m 0 0 (omega arith)
+
+  pub started-lies : Lies m (opened-of m j d)
+  started-lies =
+      record {
+        few = table-few (present (d .tablesize)) refl;
+        reach = table-reach (present (d .tablesize)) refl;
+        stream = stream-long (present (d .cmdsize)) refl;
+      }
+
+-- of whatever an opening gives, what was started lies within memory
+abbrev pub LiesOn : List ℕ → Opening → Type 0
+LiesOn m BadRing = 0 ≤ length m
+LiesOn m NoWork = 0 ≤ length m
+LiesOn m (Refused j r) = 0 ≤ length m
+LiesOn m (Started o) = Lies m o
+
+concluded-lies : (m : List ℕ) (j : Job) (d : Descriptor) (stride : ℕ) (v : Verdict) → submission-rules m stride d ≡ v → LiesOn m (concluded v j (opened-of m j d))
+concluded-lies m j d stride Fine e = started-lies m j d stride e
+concluded-lies m j d stride (Broken r) e = omega arith
+
+pick-lies : (m : List ℕ) (t : Bool) (x y : Opening) → LiesOn m x → LiesOn m y → LiesOn m (pick t x y)
+pick-lies m true x y p q = p
+pick-lies m false x y p q = q
+
+module _ (m : List ℕ) (ring : ℕ) where
+  abbrev head-slot : Descriptor
+  head-slot = descriptor m (slot-place ring (ring-header m ring))
+
+  abbrev head-job : Job
+  head-job = job-of ring (ring-header m ring) head-slot
+
+  ring-lies : LiesOn m (ring-opening m ring (ring-header m ring))
+  unfolding ring-opening submission-opening
+  ring-lies =
+      pick-lies m (eqb (ring-header m ring .head) (ring-header m ring .tail)) NoWork
+      (concluded (submission-rules m (ring-header m ring .stride) head-slot) head-job (opened-of m head-job head-slot)) (omega arith)
+      (concluded-lies m head-job head-slot (ring-header m ring .stride) (submission-rules m (ring-header m ring .stride) head-slot) refl)
+
+  pub opening-lies : (size : ℕ) → LiesOn m (opening-of m ring size)
+  unfolding opening-of
+  opening-lies size = pick-lies m (good-ring m ring size) (ring-opening m ring (ring-header m ring)) BadRing ring-lies (omega arith)
+
+-- ---- from the opening on
+
+module _ (w : World) (on : w .state .regs .enabled ≡ true) (g : go w ≡ true) (o : Opened) (lies : Lies (w .mem) o) (st : step w ≡ reading w on o []) where
+  abbrev all : List Entry
+  all = entries-of (w .mem) (o .table)
+
+  abbrev first : Holdings
+  first = at-first (w .state .resources)
+
+  stream-is : (v : Verdict) (h : Holdings) → after-stream w on (o .job) (o .stream) all (lies .stream) v h ≡ finished w (o .job) all h v
+  stream-is Fine h = refl
+  stream-is (Broken r) h = refl
+
+  by-table : (v : Verdict) (c : ℕ) (p : Reckoned)
+      → run-for c (reading w on o []) ≡ record { state = after-table w on o v all; units = c }
+      → run-for (p .count) (placed w on (o .job) (o .stream) all (lies .stream) stream-header-size first) ≡ record { state = after-stream w on (o .job) (o .stream) all (lies .stream) (p .verdict) (p .held); units = p .count }
+      → run-for (after-entries v c first p .units) w ≡ concluding w (o .job) all (after-entries v c first p)
+  by-table Fine c p t q =
+      let two : run-for (c + p .count) (reading w on o []) ≡ record { state = after-stream w on (o .job) (o .stream) all (lies .stream) (p .verdict) (p .held); units = c + p .count } =
+      sliced go step c (p .count) (reading w on o []) ∙ (ap (λ (x : Out World). spent (x .units) (run-for (p .count) (x .state))) t ∙ ap (spent c) q) in
+      unit-more (c + p .count) w (reading w on o []) _ g st two
+      ∙ ap (λ (x : World). record { state = x; units = suc (c + p .count) }) (stream-is (p .verdict) (p .held))
+  by-table (Broken r) c p t q = unit-more c w (reading w on o []) _ g st t
+
+  pub whole-started : run-for (submission (w .mem) o first .units) w ≡ concluding w (o .job) all (submission (w .mem) o first)
+  unfolding submission
+  whole-started =
+      by-table (judge-entries (length (w .mem)) [] all .verdict) (judge-entries (length (w .mem)) [] all .count) (judge-packets all first (packets-of (w .mem) (o .stream)))
+      (entries-end w on o (lies .reach) (o .table .count) 0 [] refl (omega arith))
+      (packets-end w on (o .job) (o .stream) all (lies .stream) (o .stream .size) stream-header-size first (omega arith))
+
+whole-at : (w : World) (v : Opening) → w .state .regs .enabled ≡ true → go w ≡ true → LiesOn (w .mem) v → step w ≡ after-opening w v → run-for (submitted-on w v .units) w ≡ submitted-on w v
+whole-at w BadRing on g h e = unit-last w _ g e
+whole-at w NoWork on g h e = unit-last w _ g e
+whole-at w (Refused j r) on g h e = unit-last w _ g e
+whole-at w (Started o) on g h e = whole-started w on g o h e
+
+-- a submission from its opening: the units of the unsliced rules give their result
+pub whole : (w : World) → w .state .work ≡ resting → go w ≡ true → run-for (submitted w .units) w ≡ submitted w
+unfolding submitted step open-step go
+whole w rest g =
+    whole-at w (opening-of (w .mem) (w .state .regs .ring) (w .state .regs .ringsize)) (both-left (w .state .regs .enabled) _ g) g
+    (opening-lies (w .mem) (w .state .regs .ring) (w .state .regs .ringsize)) (rw rest)

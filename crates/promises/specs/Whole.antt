@@ -1,0 +1,222 @@
+-- Demand 2: the steps of a submission over still memory end where the unsliced rules end, after their count of units. Assumes nothing.
+use mathlib.Core.Path.{_≡_, refl, sym, ap, subst, _∙_}
+use mathlib.Core.Bool.{Bool, true, false, not, _&&_}
+use mathlib.Core.List.{List, [], _∷_, _++_, append-assoc, append-nil}
+use Prim.Native.Nat.{ℕ, zero, suc, _+_, _-_, _*_, _%_, _≤_, _<_}
+use native.Mathlib.Omega.{arith}
+use native.Mathlib.Nat.{add-zero, zero-add, add-suc, add-assoc, mul-le-mul-left, suc-add}
+use native.Mathlib.Numerals.{one-add, add-one}
+use borrow.Author.Tests.{eq-eqb, ne-eqb, le-leb, lt-leb, lt-ltb, le-ltb, leb-true, leb-false, eqb-true, eqb-false, ltb-false, ltb-true}
+use lib.Dec.{ltb, leb, eqb}
+use lib.ListN.{length, take, drop, length-append, length-drop}
+use lib.Seq.{drop-drop, length-take-le}
+use Rattle.machine.specs.Machine.{pick, Out, spent, halt, runFor, run-none, run-stop, run-go}
+use Rattle.rules.specs.Numbers.{most, bad-packet}
+use Rattle.rules.specs.Lists.{pushed}
+use Rattle.rules.specs.Layouts.{word, packet-header-size, entry, entry-size, stream-header-size, table-header-size}
+use Rattle.rules.specs.Table.{Judged, entry-place, entry-rules, keep, in-reach, take-entry, entries-from, entries-of, stop-or-go, judge-entries}
+use Rattle.rules.specs.Judging.{rule}
+use Rattle.rules.specs.Stream.{Piece, frame-rules, framed, frame-of, packet-of, size-of, before, cut, stream-bytes}
+use Rattle.rules.specs.Packets.{Holdings, Outcome, apply, apply-frame, take-packet}
+use Rattle.rules.specs.Unsliced.{Reckoned, one-further, judge-packets}
+use Rattle.promises.specs.Fine.{fine-first, fine-later, kept-rule}
+use Rattle.rules.specs.State.{Work, State, World, with-work, with-state}
+use Rattle.rules.specs.State.Work.{resting, entries, packets, waiting}
+use Rattle.rules.specs.Settle.{settled, refused-with}
+use Rattle.rules.specs.Steps.{working, at-first, packets-at, entries-at, after-entry, entry-step, after-packet, next-place, packet-step, step, go, run-for}
+use Rattle.rules.specs.declared.Entry.{Entry}
+use Rattle.rules.specs.declared.Resource.{Resource}
+use Rattle.rules.specs.declared.Job.{Job}
+use Rattle.rules.specs.declared.Table.{Table}
+use Rattle.rules.specs.declared.Stream.{Stream}
+use Rattle.rules.specs.declared.Opened.{Opened}
+use Rattle.rules.specs.declared.Frame.{Frame}
+use Rattle.rules.specs.declared.Frame.the-variants.{Whole, Misframed}
+use Rattle.rules.specs.declared.Verdict.{Verdict}
+use Rattle.rules.specs.declared.Verdict.the-variants.{Fine, Broken}
+
+-- one unit that goes, and then the rest
+pub unit-more : (n : ℕ) (w w′ v : World) → go w ≡ true → step w ≡ w′ → run-for n w′ ≡ record { state = v; units = n } → run-for (suc n) w ≡ record { state = v; units = suc n }
+unit-more n w w′ v g s r = run-go go step n w g ∙ rw (s, r, one-add)
+
+pub unit-last : (w w′ : World) → go w ≡ true → step w ≡ w′ → run-for 1 w ≡ record { state = w′; units = 1 }
+unit-last w w′ g s = unit-more 0 w w′ w′ g s (run-none go step w′)
+
+-- ---- the entries
+
+module _ (w : World) (on : w .state .regs .enabled ≡ true) (o : Opened) where
+  abbrev pub reading : List Entry → World
+  reading kept = working (entries-at o kept (w .state .resources)) w
+
+  -- what the table's judgement comes to
+  abbrev pub after-table : Verdict → List Entry → World
+  after-table Fine all = working (packets-at (o .job) (o .stream) stream-header-size all (at-first (w .state .resources))) w
+  after-table (Broken r) all = refused-with (o .job) (Broken r) w
+
+  -- the entry after those that were kept
+  abbrev pub next : List Entry → Entry
+  next kept = entry (w .mem) (entry-place (o .table) (length kept))
+
+  -- the rules' word on it
+  abbrev pub word-on : List Entry → Verdict
+  word-on kept = entry-rules (length (w .mem)) kept (next kept)
+
+  -- what an entry comes to does not look at the work before it
+  after-entry-on : (k : Work) (kept : List Entry) (v : Verdict) → after-entry (working k w) o kept v ≡ after-entry w o kept v
+  unfolding settled
+  after-entry-on k kept Fine = refl
+  after-entry-on k kept (Broken r) = refl
+
+  module _ (reach : (i : ℕ) → i < o .table .count → in-reach (w .mem) (o .table) i ≡ true) where
+    module _ (kept : List Entry) (more : length kept < o .table .count) where
+      go-entry : go (reading kept) ≡ true
+      unfolding go
+      go-entry = rw (lt-ltb (length kept) (o .table .count) more, on)
+
+      step-entry : step (reading kept) ≡ after-entry w o (keep (word-on kept) kept (next kept) .kept) (keep (word-on kept) kept (next kept) .verdict)
+      unfolding step entry-step take-entry
+      step-entry =
+          rw (lt-ltb (length kept) (o .table .count) more, reach (length kept) more)
+          (after-entry-on (entries o kept) (keep (word-on kept) kept (next kept) .kept) (keep (word-on kept) kept (next kept) .verdict))
+
+      at-entry : (v : Verdict) (es : List Entry) (j : Judged) → step (reading kept) ≡ after-entry w o (keep v kept (next kept) .kept) (keep v kept (next kept) .verdict)
+          → run-for (j .count) (reading (pushed kept (next kept))) ≡ record { state = after-table (j .verdict) (pushed kept (next kept) ++ es); units = j .count }
+          → run-for (stop-or-go v j .count) (reading kept) ≡ record { state = after-table (stop-or-go v j .verdict) (kept ++ (next kept ∷ es)); units = stop-or-go v j .count }
+      at-entry Fine es j st ih =
+          unit-more (j .count) (reading kept) (reading (pushed kept (next kept))) _ go-entry st
+          (ih ∙ ap (λ (l : List Entry). record { state = after-table (j .verdict) l; units = j .count }) (append-assoc kept (next kept ∷ []) es))
+      at-entry (Broken r) es j st ih = unit-last (reading kept) _ go-entry st
+
+    -- from the entries kept so far, n being left
+    pub entries-end : (n i : ℕ) (kept : List Entry) → i ≡ length kept → i + n ≡ o .table .count
+        → run-for (judge-entries (length (w .mem)) kept (entries-from (w .mem) (o .table) i n) .count) (reading kept)
+        ≡ record {
+          state = after-table (judge-entries (length (w .mem)) kept (entries-from (w .mem) (o .table) i n) .verdict) (kept ++ entries-from (w .mem) (o .table) i n);
+          units = judge-entries (length (w .mem)) kept (entries-from (w .mem) (o .table) i n) .count;
+        }
+    unfolding judge-entries entries-from
+    entries-end zero i kept e h = rw (le-ltb (length kept) (o .table .count) (omega arith), append-nil) (run-none go step _)
+    entries-end (suc n) i kept e h =
+        let len : suc (length kept) ≡ length (pushed kept (next kept)) = simp length-append (omega arith) in
+        rw e
+        (at-entry kept (omega arith) (word-on kept) (entries-from (w .mem) (o .table) (suc (length kept)) n)
+        (judge-entries (length (w .mem)) (pushed kept (next kept)) (entries-from (w .mem) (o .table) (suc (length kept)) n))
+        (step-entry kept (omega arith)) (entries-end n (suc (length kept)) (pushed kept (next kept)) len (omega arith)))
+
+-- ---- the packets
+
+-- a packet that is framed lies within the bytes left, and is not empty
+pub record Framed (b : List ℕ) (size : ℕ) : Type 0 where
+  pub some : 0 < size
+  pub fits : size ≤ length b
+
+abbrev pub Sound : List ℕ → Frame → Type 0
+Sound b (Whole op size) = Framed b size
+Sound b (Misframed r) = 0 ≤ length b
+
+sound-by : (b : List ℕ) (v : Verdict) → frame-rules b ≡ v → Sound b (framed v (word b 0) (word b 4))
+unfolding frame-rules
+sound-by b Fine e =
+    let later₁ = fine-later (rule bad-packet (ltb (length b) packet-header-size)) _ e in
+    let later₂ = fine-later (rule bad-packet (ltb (word b 4) packet-header-size)) _ later₁ in
+    let later₃ = fine-later (rule bad-packet (not (eqb (word b 4 % 4) 0))) _ later₂ in
+    let some : 8 ≤ word b 4 = ltb-false (word b 4) 8 (kept-rule bad-packet (ltb (word b 4) packet-header-size) (fine-first _ _ later₁)) in
+    record {
+      some = omega arith;
+      fits = ltb-false (length b) (word b 4) (kept-rule bad-packet (ltb (length b) (word b 4)) (fine-first _ _ later₃));
+    }
+sound-by b (Broken r) e = omega arith
+
+pub sound : (b : List ℕ) → Sound b (frame-of b)
+unfolding frame-of
+sound b = sound-by b (frame-rules b) refl
+
+cut-none : (k : ℕ) (b : List ℕ) → length b ≡ 0 → cut k b ≡ []
+unfolding cut
+cut-none zero b h = refl
+cut-none (suc k) b h = rw (eq-eqb (length b) 0 h)
+
+cut-some : (k at : ℕ) (b : List ℕ) → (length (drop at b) ≡ 0 → ⊥) → cut (suc k) (drop at b) ≡ before (frame-of (drop at b)) (drop at b) (cut k (drop (at + size-of (frame-of (drop at b))) b))
+unfolding cut
+cut-some k at b h = rw (ne-eqb (length (drop at b)) 0 h, drop-drop)
+
+module _ (w : World) (on : w .state .regs .enabled ≡ true) (j : Job) (s : Stream) (es : List Entry) (len : length (stream-bytes (w .mem) s) ≡ s .size) where
+  abbrev pub bytes : List ℕ
+  bytes = stream-bytes (w .mem) s
+
+  abbrev pub placed : ℕ → Holdings → World
+  placed at h = working (packets-at j s at es h) w
+
+  -- what the packets' judgement comes to
+  abbrev pub after-stream : Verdict → Holdings → World
+  after-stream Fine h = working (waiting j es h) w
+  after-stream (Broken r) h = refused-with j (Broken r) w
+
+  -- what a packet comes to does not look at the work before it
+  after-packet-on : (k : Work) (next : ℕ) (h : Holdings) (v : Verdict) → after-packet (working k w) j s next es h v ≡ after-packet w j s next es h v
+  unfolding settled
+  after-packet-on k next h Fine = refl
+  after-packet-on k next h (Broken r) = refl
+
+  module _ (at : ℕ) (h : Holdings) (more : at < s .size) where
+    go-packet : go (placed at h) ≡ true
+    unfolding go
+    go-packet = rw (lt-ltb at (s .size) more, on)
+
+    step-packet : step (placed at h) ≡ after-packet w j s (next-place at (drop at bytes)) es (take-packet es h (drop at bytes) .held) (take-packet es h (drop at bytes) .verdict)
+    unfolding step packet-step
+    step-packet =
+        rw (lt-ltb at (s .size) more)
+        (after-packet-on (packets j s at es h) (next-place at (drop at bytes)) (take-packet es h (drop at bytes) .held) (take-packet es h (drop at bytes) .verdict))
+
+    step-as-frame : step (placed at h) ≡ after-packet w j s (at + size-of (frame-of (drop at bytes))) es (apply-frame es h (drop at bytes) (frame-of (drop at bytes)) .held) (apply-frame es h (drop at bytes) (frame-of (drop at bytes)) .verdict)
+    unfolding take-packet
+    step-as-frame = step-packet
+
+    at-applied : (v : Verdict) (size : ℕ) (held : Holdings) (q : Reckoned) → step (placed at h) ≡ after-packet w j s (at + size) es held v
+        → run-for (q .count) (placed (at + size) held) ≡ record { state = after-stream (q .verdict) (q .held); units = q .count }
+        → run-for (one-further v h q .count) (placed at h) ≡ record { state = after-stream (one-further v h q .verdict) (one-further v h q .held); units = one-further v h q .count }
+    at-applied Fine size held q st ih = unit-more (q .count) (placed at h) (placed (at + size) held) _ go-packet st ih
+    at-applied (Broken r) size held q st ih = unit-last (placed at h) _ go-packet st
+
+    at-frame : (k : ℕ) (f : Frame) → Sound (drop at bytes) f
+        → step (placed at h) ≡ after-packet w j s (at + size-of f) es (apply-frame es h (drop at bytes) f .held) (apply-frame es h (drop at bytes) f .verdict)
+        → ((n : ℕ) (g : Holdings) → at < n → n ≤ s .size → run-for (judge-packets es g (cut k (drop n bytes)) .count) (placed n g)
+        ≡ record { state = after-stream (judge-packets es g (cut k (drop n bytes)) .verdict) (judge-packets es g (cut k (drop n bytes)) .held); units = judge-packets es g (cut k (drop n bytes)) .count })
+        → run-for (judge-packets es h (before f (drop at bytes) (cut k (drop (at + size-of f) bytes))) .count) (placed at h)
+        ≡ record {
+          state = after-stream (judge-packets es h (before f (drop at bytes) (cut k (drop (at + size-of f) bytes))) .verdict) (judge-packets es h (before f (drop at bytes) (cut k (drop (at + size-of f) bytes))) .held);
+          units = judge-packets es h (before f (drop at bytes) (cut k (drop (at + size-of f) bytes))) .count;
+        }
+    unfolding judge-packets
+    at-frame k (Whole op size) d st ih =
+        let room : length (drop at bytes) ≡ s .size - at = length-drop at bytes ∙ rw len in
+        at-applied (apply es h (packet-of op (take size (drop at bytes))) .verdict) size (apply es h (packet-of op (take size (drop at bytes))) .held)
+        (judge-packets es (apply es h (packet-of op (take size (drop at bytes))) .held) (cut k (drop (at + size) bytes))) st
+        (ih (at + size) (apply es h (packet-of op (take size (drop at bytes))) .held) (omega (arith, d .some)) (omega (arith, d .fits)))
+    at-frame k (Misframed r) d st ih = unit-last (placed at h) _ go-packet st
+
+  packets-none : (k at : ℕ) (h : Holdings) → s .size ≤ at → run-for (judge-packets es h (cut k (drop at bytes)) .count) (placed at h)
+      ≡ record { state = after-stream (judge-packets es h (cut k (drop at bytes)) .verdict) (judge-packets es h (cut k (drop at bytes)) .held); units = judge-packets es h (cut k (drop at bytes)) .count }
+  unfolding judge-packets
+  packets-none k at h p =
+      let gone : length (drop at bytes) ≡ 0 = length-drop at bytes ∙ omega arith in
+      rw (cut-none k (drop at bytes) gone, le-ltb at (s .size) p) (run-none go step _)
+
+  -- from a place in the stream, k bounding what is left
+  pub packets-end : (k at : ℕ) (h : Holdings) → s .size - at ≤ k → run-for (judge-packets es h (cut k (drop at bytes)) .count) (placed at h)
+      ≡ record { state = after-stream (judge-packets es h (cut k (drop at bytes)) .verdict) (judge-packets es h (cut k (drop at bytes)) .held); units = judge-packets es h (cut k (drop at bytes)) .count }
+  packets-end zero at h f = packets-none zero at h (omega arith)
+  packets-end (suc k) at h f = by-test (ltb at (s .size)) refl (λ n g p q. packets-end k n g (omega arith))
+    where
+      by-test : (t : Bool) → ltb at (s .size) ≡ t
+          → ((n : ℕ) (g : Holdings) → at < n → n ≤ s .size → run-for (judge-packets es g (cut k (drop n bytes)) .count) (placed n g)
+          ≡ record { state = after-stream (judge-packets es g (cut k (drop n bytes)) .verdict) (judge-packets es g (cut k (drop n bytes)) .held); units = judge-packets es g (cut k (drop n bytes)) .count })
+          → run-for (judge-packets es h (cut (suc k) (drop at bytes)) .count) (placed at h)
+          ≡ record { state = after-stream (judge-packets es h (cut (suc k) (drop at bytes)) .verdict) (judge-packets es h (cut (suc k) (drop at bytes)) .held); units = judge-packets es h (cut (suc k) (drop at bytes)) .count }
+      by-test true t ih =
+          let more : at < s .size = ltb-true at (s .size) t in
+          let some : length (drop at bytes) ≡ 0 → ⊥ = λ z. omega (arith, length-drop at bytes, len) in
+          rw (cut-some k at bytes some)
+          (at-frame at h more k (frame-of (drop at bytes)) (sound (drop at bytes)) (step-as-frame at h more) ih)
+      by-test false t ih = packets-none (suc k) at h (ltb-false at (s .size) t)
