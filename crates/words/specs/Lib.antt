@@ -1,0 +1,4 @@
+pub mod Over
+pub mod Fields
+pub mod Rows
+pub mod Keys
