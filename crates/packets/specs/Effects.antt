@@ -1,0 +1,148 @@
+-- What a packet can come to, whatever it is: refused with what was held, or one of five effects, each with what the rules then
+-- know. A fact about outcomes is shown once for these. Assumes nothing.
+use mathlib.Core.Path.{_≡_, refl, sym, ap, _∙_}
+use mathlib.Core.Bool.{Bool, true, false, not, _||_}
+use mathlib.Core.List.{List}
+use Prim.Native.Nat.{ℕ, _+_, _%_, _≤_, _<_}
+use native.Mathlib.Omega.{arith}
+use borrow.Author.Tests.{eqb-false, leb-false, ltb-false}
+use lib.Dec.{ltb, leb, eqb}
+use lib.ListN.{length, take}
+use Rattle.machine.specs.Machine.{pick}
+use Rattle.rules.specs.Numbers.{bad-handle, too-many, bad-shape, not-in-table, past-entry, read-only, past-resource, host-backed, bad-copy, most, backs, reads, writes}
+use Rattle.rules.specs.Lists.{Found, lookup, indexOf, pushed, removed}
+use Rattle.rules.specs.Lists.Found.{none, found}
+use Rattle.rules.specs.Judging.{refusal}
+use Rattle.rules.specs.Table.{matching}
+use Rattle.rules.specs.Stream.{frame-of, packet-of}
+use Rattle.rules.specs.Packets.{Holdings, Outcome, accepted, refused, refuse, full, handle-of, live, is-live, on-live, on-kind, on-buffer, on-entry, resource-bytes, backed, range-of, recorded, hand-out, stored, create-hosted, create-backed, create, resource-of, on-buffer-packet, on-texture-packet, on-destroy-packet, on-dirty-packet, write-back, on-copy-packet, apply, apply-frame, take-packet}
+use Rattle.rules.specs.declared.Entry.{Entry}
+use Rattle.rules.specs.declared.CreateBuffer.{CreateBuffer}
+use Rattle.rules.specs.declared.CreateTexture.{CreateTexture}
+use Rattle.rules.specs.declared.DestroyResource.{DestroyResource}
+use Rattle.rules.specs.declared.DirtyRange.{DirtyRange}
+use Rattle.rules.specs.declared.CopyBuffer.{CopyBuffer}
+use Rattle.rules.specs.declared.Resource.{Resource}
+use Rattle.rules.specs.declared.Record.{Record}
+use Rattle.rules.specs.declared.Refusal.{Refusal}
+use Rattle.rules.specs.declared.Verdict.{Verdict}
+use Rattle.rules.specs.declared.Verdict.the-variants.{Fine, Broken}
+use Rattle.rules.specs.declared.Kind.{Kind}
+use Rattle.rules.specs.declared.Kind.the-variants.{Bytes, Picture}
+use Rattle.rules.specs.declared.Frame.{Frame}
+use Rattle.rules.specs.declared.Frame.the-variants.{Whole, Misframed}
+use Rattle.rules.specs.declared.Packet.{Packet}
+use Rattle.rules.specs.declared.Packet.the-variants.{Buffer, Texture, Destroy, Dirty, Copy, Unknown}
+
+-- a new resource: its handle is not 0 and was not live, and there was room
+pub record Fresh (h : Holdings) (r : Resource) : Type 0 where
+  pub some : r .handle ≡ 0 → ⊥
+  pub unused : live (r .handle) h ≡ none
+  pub room : length (h .resources) < most
+
+-- a range of a resource, inside its entry, and there was room for its record
+pub record InRange (es : List Entry) (h : Holdings) (kind : ℕ) (r : Resource) (e : Entry) (from size : ℕ) : Type 0 where
+  pub entry : matching (r .backing) es ≡ found e
+  pub inside : r .offset + (from + size) ≤ e .size
+  pub room : length (h .records) < most
+
+module _ (P : Outcome → Type 0) (h : Holdings) (refuses : (r : Refusal) → P (record { verdict = Broken r; held = h })) where
+  refuse-or : (n : ℕ) (t : Bool) (later : Outcome) → (t ≡ false → P later) → P (refuse n t h later)
+  refuse-or n true later k = refuses (refusal n)
+  refuse-or n false later k = k refl
+
+  live-or : (f : Found Resource) (later : Resource → Outcome) → ((r : Resource) → f ≡ found r → P (later r)) → P (on-live f h later)
+  live-or none later k = refuses (refusal bad-handle)
+  live-or (found r) later k = k r refl
+
+  kind-or : (k : Kind) (later : Outcome) → P later → P (on-kind k h later)
+  kind-or (Bytes n) later p = p
+  kind-or (Picture s) later p = refuses (refusal bad-handle)
+
+  buffer-or : (f : Found Resource) (later : Resource → Outcome) → ((r : Resource) → f ≡ found r → P (later r)) → P (on-buffer f h later)
+  buffer-or f later k = live-or f (λ r. on-kind (r .kind) h (later r)) (λ r e. kind-or (r .kind) (later r) (k r e))
+
+  entry-or : (f : Found Entry) (later : Entry → Outcome) → ((e : Entry) → f ≡ found e → P (later e)) → P (on-entry f h later)
+  entry-or none later k = refuses (refusal not-in-table)
+  entry-or (found e) later k = k e refl
+
+  pick-or : (t : Bool) (x y : Outcome) → (t ≡ true → P x) → (t ≡ false → P y) → P (pick t x y)
+  pick-or true x y p q = p refl
+  pick-or false x y p q = q refl
+
+  module _ (es : List Entry)
+      (keeps : P (accepted h))
+      (stores : (r : Resource) → Fresh h r → P (accepted (stored r h)))
+      (backs-up : (r : Resource) (e : Entry) → Fresh h r → InRange es h backs r e 0 (resource-bytes r) → P (accepted (recorded (range-of backs r e 0 (resource-bytes r)) (stored r h))))
+      (removes : (k : ℕ) (r : Resource) → live k h ≡ found r → P (accepted (record { resources = removed (indexOf handle-of k (h .resources)) (h .resources); records = h .records })))
+      (hands : (kind : ℕ) (r : Resource) (e : Entry) (from size : ℕ) → InRange es h kind r e from size → P (accepted (recorded (range-of kind r e from size) h))) where
+    handed-or : (kind : ℕ) (r : Resource) (e : Entry) (from size : ℕ) → matching (r .backing) es ≡ found e → r .offset + (from + size) ≤ e .size → P (hand-out (range-of kind r e from size) h)
+    unfolding hand-out
+    handed-or kind r e from size m i =
+        pick-or (eqb size 0) (accepted h) _ (λ _. keeps) (λ _.
+        refuse-or too-many (full (h .records)) _ (λ f.
+        hands kind r e from size (record { entry = m; inside = i; room = leb-false most (length (h .records)) f })))
+
+    neither : (a b : Bool) → a || b ≡ false → (a ≡ false) × (b ≡ false)
+    neither true b e = absurd (let z : _≡_ {A = ℕ} 0 1 = cc in omega arith)
+    neither false b e = (refl, e)
+
+    unlive : (f : Found Resource) → is-live f ≡ false → f ≡ none
+    unlive none e = refl
+    unlive (found r) e = absurd (let z : _≡_ {A = ℕ} 0 1 = cc in omega arith)
+
+    create-or : (good : Bool) (r : Resource) → P (create es h good r)
+    unfolding create create-hosted create-backed
+    create-or good r =
+        refuse-or bad-handle (eqb (r .handle) 0 || is-live (live (r .handle) h)) _ (λ a.
+        refuse-or bad-shape (not good) _ (λ _.
+        let two = neither (eqb (r .handle) 0) (is-live (live (r .handle) h)) a in
+        let some : r .handle ≡ 0 → ⊥ = eqb-false (r .handle) 0 (two .0) in
+        let unused : live (r .handle) h ≡ none = unlive (live (r .handle) h) (two .1) in
+        pick-or (backed (r .backing)) _ _
+        (λ _. entry-or (matching (r .backing) es) _ (λ e m.
+        refuse-or past-entry (ltb (e .size) (r .offset + resource-bytes r)) _ (λ i.
+        refuse-or too-many (full (h .resources)) _ (λ f.
+        refuse-or too-many (full (h .records)) _ (λ g.
+        let fits : r .offset + resource-bytes r ≤ e .size = ltb-false (e .size) (r .offset + resource-bytes r) i in
+        backs-up r e (record { some = some; unused = unused; room = leb-false most (length (h .resources)) f })
+        (record { entry = m; inside = omega arith; room = leb-false most (length (h .records)) g }))))))
+        (λ _. refuse-or too-many (full (h .resources)) _ (λ f.
+        stores r (record { some = some; unused = unused; room = leb-false most (length (h .resources)) f })))))
+
+    -- one packet, whatever it is
+    pub apply-or : (p : Packet) → P (apply es h p)
+    unfolding apply on-buffer-packet on-texture-packet on-destroy-packet on-dirty-packet on-copy-packet write-back
+    apply-or (Buffer c) = create-or _ _
+    apply-or (Texture c) = create-or _ _
+    apply-or (Destroy c) = live-or (live (c .handle) h) _ (λ r e. removes (c .handle) r e)
+    apply-or (Dirty c) =
+        live-or (live (c .handle) h) _ (λ r _.
+        refuse-or host-backed (not (backed (r .backing))) _ (λ _.
+        refuse-or past-resource (ltb (resource-bytes r) (c .offset + c .size)) _ (λ _.
+        entry-or (matching (r .backing) es) _ (λ e m.
+        refuse-or past-entry (ltb (e .size) (r .offset + (c .offset + c .size))) _ (λ i.
+        handed-or reads r e (c .offset) (c .size) m (ltb-false (e .size) (r .offset + (c .offset + c .size)) i))))))
+    apply-or (Copy c) =
+        buffer-or (live (c .dst) h) _ (λ d _.
+        buffer-or (live (c .src) h) _ (λ s _.
+        refuse-or bad-copy (eqb (c .dst) (c .src) || ltb 1 (c .flags)) _ (λ _.
+        refuse-or past-resource (ltb (resource-bytes d) (c .dstoffset + c .size)) _ (λ _.
+        refuse-or past-resource (ltb (resource-bytes s) (c .srcoffset + c .size)) _ (λ _.
+        pick-or (eqb (c .flags) 1) _ _
+        (λ _. refuse-or host-backed (not (backed (d .backing))) _ (λ _.
+        entry-or (matching (d .backing) es) _ (λ e m.
+        refuse-or past-entry (ltb (e .size) (d .offset + (c .dstoffset + c .size))) _ (λ i.
+        refuse-or read-only (eqb (e .flags % 2) 1) _ (λ _.
+        handed-or writes d e (c .dstoffset) (c .size) m (ltb-false (e .size) (d .offset + (c .dstoffset + c .size)) i))))))
+        (λ _. keeps))))))
+    apply-or Unknown = keeps
+
+    frame-or : (b : List ℕ) (f : Frame) → P (apply-frame es h b f)
+    frame-or b (Whole op size) = apply-or (packet-of op (take size b))
+    frame-or b (Misframed r) = refuses r
+
+    -- the packet that some bytes begin with
+    pub take-or : (b : List ℕ) → P (take-packet es h b)
+    unfolding take-packet
+    take-or b = frame-or b (frame-of b)

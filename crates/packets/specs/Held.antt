@@ -1,0 +1,137 @@
+-- What is true of a submission's resources and records, whatever packets came: handles are non-zero and each once, at most 64 of
+-- each, and every record lies inside the one entry with its id. Assumes nothing.
+use mathlib.Core.Path.{_≡_, refl, sym, ap, subst, _∙_}
+use mathlib.Core.List.{List, [], _∷_, _++_}
+use mathlib.Core.Logic.{⊎-elim}
+use Prim.Native.Nat.{ℕ, _+_, _≤_, _<_}
+use native.Mathlib.Omega.{arith}
+use lib.ListN.{length, length-append}
+use Rattle.machine.specs.Machine.{pick}
+use Rattle.rules.specs.Numbers.{most}
+use Rattle.rules.specs.Lists.{Found, lookup, indexOf, pushed, removed}
+use Rattle.rules.specs.Lists.Found.{none, found}
+use Rattle.rules.specs.Table.{matching}
+use Rattle.rules.specs.Packets.{Holdings, Outcome, accepted, handle-of, live, range-of, recorded, stored, resource-bytes, apply, take-packet}
+use Rattle.rules.specs.Steps.{at-first}
+use Rattle.rules.specs.declared.Entry.{Entry}
+use Rattle.rules.specs.declared.Resource.{Resource}
+use Rattle.rules.specs.declared.Record.{Record}
+use Rattle.rules.specs.declared.Refusal.{Refusal}
+use Rattle.rules.specs.declared.Verdict.{Verdict}
+use Rattle.rules.specs.declared.Verdict.the-variants.{Fine, Broken}
+use Rattle.rules.specs.declared.Packet.{Packet}
+use Rattle.words.specs.Keys.{Once, once-pushed, once-removed, lookup-pushed-other, lookup-removed-other, length-removed, lookup-none, index-bound}
+use Rattle.words.specs.Over.{below-or-not}
+use Rattle.packets.specs.Effects.{Fresh, InRange, apply-or, take-or}
+
+-- ---- every member of a list
+
+module _ {A : Type 0} (P : A → Type 0) where
+  unfoldable pub Every : List A → Type 0
+  Every [] = 0 ≤ 0
+  Every (x ∷ xs) = P x × Every xs
+
+  pub every-none : Every []
+  unfolding Every
+  every-none = omega arith
+
+  pub every-pushed : (xs : List A) (x : A) → Every xs → P x → Every (pushed xs x)
+  unfolding Every
+  every-pushed [] x h p = (p, h)
+  every-pushed (y ∷ ys) x h p = (h .0, every-pushed ys x (h .1) p)
+
+-- ---- ranges
+
+-- a record lies inside an entry
+abbrev pub Within : Record → Found Entry → Type 0
+Within c none = ⊥
+Within c (found e) = (e .gpa ≤ c .gpa) × (c .gpa + c .length ≤ e .gpa + e .size)
+
+-- and that entry is the one with its id
+abbrev pub Inside : List Entry → Record → Type 0
+Inside es c = Within c (matching (c .id) es)
+
+-- ---- resources
+
+pub record SoundResources (rs : List Resource) : Type 0 where
+  -- at most 64 are live
+  pub few : length rs ≤ most
+  -- no handle is live twice
+  pub once : Once handle-of rs
+  -- none is 0
+  pub some : lookup handle-of 0 rs ≡ none
+
+pub record Sound (es : List Entry) (h : Holdings) : Type 0 where
+  pub resources : SoundResources (h .resources)
+  pub few : length (h .records) ≤ most
+  pub inside : Every (Inside es) (h .records)
+
+-- a submission begins with the device's resources and no record
+pub first-sound : (es : List Entry) (rs : List Resource) → SoundResources rs → Sound es (at-first rs)
+first-sound es rs s = record { resources = s; few = omega arith; inside = every-none (Inside es) }
+
+-- ---- what is found has a place
+
+none-not-found : {A : Type 0} (x : A) → none ≡ found x → ⊥
+none-not-found x e = let z : _≡_ {A = ℕ} 0 1 = cc in omega arith
+
+found-place : {A : Type 0} (key : A → ℕ) (k : ℕ) (xs : List A) (x : A) → lookup key k xs ≡ found x → indexOf key k xs < length xs
+found-place key k xs x e =
+    ⊎-elim (λ h. h) (λ h. absurd (none-not-found x (sym (lookup-none key k xs (omega (arith, index-bound key k xs))) ∙ e)))
+    (below-or-not (indexOf key k xs) (length xs))
+
+-- ---- kept by every packet
+
+module _ (es : List Entry) (h : Holdings) (s : Sound es h) where
+  resources-stored : (r : Resource) → Fresh h r → SoundResources (pushed (h .resources) r)
+  resources-stored r f =
+      record {
+        few = simp length-append (omega (arith, f .room));
+        once = once-pushed handle-of (h .resources) r (s .resources .once) (f .unused);
+        some = lookup-pushed-other handle-of 0 (h .resources) r (f .some) ∙ s .resources .some;
+      }
+
+  range-inside : (kind : ℕ) (r : Resource) (e : Entry) (from size : ℕ) → InRange es h kind r e from size → Inside es (range-of kind r e from size)
+  range-inside kind r e from size i = subst (Within (range-of kind r e from size)) (sym (i .entry)) (omega arith, omega (arith, i .inside))
+
+  records-more : (kind : ℕ) (r : Resource) (e : Entry) (from size : ℕ) → InRange es h kind r e from size → Every (Inside es) (pushed (h .records) (range-of kind r e from size))
+  records-more kind r e from size i = every-pushed (Inside es) (h .records) (range-of kind r e from size) (s .inside) (range-inside kind r e from size i)
+
+  more-few : (c : Record) → length (h .records) < most → length (pushed (h .records) c) ≤ most
+  more-few c f = simp length-append (omega arith)
+
+  resources-removed : (k : ℕ) (r : Resource) → live k h ≡ found r → SoundResources (removed (indexOf handle-of k (h .resources)) (h .resources))
+  resources-removed k r e =
+      let here : indexOf handle-of k (h .resources) < length (h .resources) = found-place handle-of k (h .resources) r e in
+      record {
+        few = rw (length-removed (indexOf handle-of k (h .resources)) (h .resources) here) (omega (arith, s .resources .few));
+        once = once-removed handle-of (indexOf handle-of k (h .resources)) (h .resources) (s .resources .once) here;
+        some =
+            lookup-removed-other handle-of k 0 (indexOf handle-of k (h .resources)) (h .resources) (s .resources .once) refl here
+            (λ z. none-not-found r (sym (s .resources .some) ∙ (ap (λ n. live n h) z ∙ e)))
+            ∙ s .resources .some;
+      }
+
+  abbrev SoundAfter : Outcome → Type 0
+  SoundAfter o = Sound es (o .held)
+
+  pub apply-sound : (p : Packet) → Sound es (apply es h p .held)
+  apply-sound =
+      apply-or SoundAfter h (λ r. s) es s
+      (λ r f. record { resources = resources-stored r f; few = s .few; inside = s .inside })
+      (λ r e f i. record { resources = resources-stored r f; few = more-few _ (i .room); inside = records-more _ r e _ _ i })
+      (λ k r e. record { resources = resources-removed k r e; few = s .few; inside = s .inside })
+      (λ kind r e from size i. record { resources = s .resources; few = more-few _ (i .room); inside = records-more kind r e from size i })
+
+-- ---- a packet that is refused changes neither resources nor records
+
+abbrev KeepsIfBroken : Holdings → Outcome → Type 0
+KeepsIfBroken h o = (r : Refusal) → o .verdict ≡ Broken r → o .held ≡ h
+
+fine-not-broken : (r : Refusal) → Fine ≡ Broken r → ⊥
+fine-not-broken r e = let z : _≡_ {A = ℕ} 0 1 = cc in omega arith
+
+pub refused-keeps-holdings : (es : List Entry) (h : Holdings) (p : Packet) → KeepsIfBroken h (apply es h p)
+refused-keeps-holdings es h =
+    apply-or (KeepsIfBroken h) h (λ r n e. refl) es (λ r e. refl) (λ _ _ r e. absurd (fine-not-broken r e)) (λ _ _ _ _ r e. absurd (fine-not-broken r e)) (λ _ _ _ r e. absurd (fine-not-broken r e))
+    (λ _ _ _ _ _ _ r e. absurd (fine-not-broken r e))

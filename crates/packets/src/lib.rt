@@ -1,0 +1,1 @@
+// What each packet does to a submission's resources and records.
