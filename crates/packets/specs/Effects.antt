@@ -1,32 +1,25 @@
 -- What a packet can come to, whatever it is: refused with what was held, or one of five effects, each with what the rules then
 -- know. A fact about outcomes is shown once for these. Assumes nothing.
-use mathlib.Core.Path.{_≡_, refl, sym, ap, _∙_}
+use mathlib.Core.Path.{_≡_, refl, _∙_}
 use mathlib.Core.Bool.{Bool, true, false, not, _||_}
 use mathlib.Core.List.{List}
 use Prim.Native.Nat.{ℕ, _+_, _%_, _≤_, _<_}
 use native.Mathlib.Omega.{arith}
 use borrow.Author.Tests.{eqb-false, leb-false, ltb-false}
-use lib.Dec.{ltb, leb, eqb}
+use lib.Dec.{ltb, eqb}
 use lib.ListN.{length, take}
 use Rattle.machine.specs.Machine.{pick}
 use Rattle.rules.specs.Numbers.{bad-handle, too-many, bad-shape, not-in-table, past-entry, read-only, past-resource, host-backed, bad-copy, most, backs, reads, writes}
-use Rattle.rules.specs.Lists.{Found, lookup, indexOf, pushed, removed}
+use Rattle.rules.specs.Lists.{Found, indexOf, removed}
 use Rattle.rules.specs.Lists.Found.{none, found}
 use Rattle.rules.specs.Judging.{refusal}
 use Rattle.rules.specs.Table.{matching}
 use Rattle.rules.specs.Stream.{frame-of, packet-of}
-use Rattle.rules.specs.Packets.{Holdings, Outcome, accepted, refused, refuse, full, handle-of, live, is-live, on-live, on-kind, on-buffer, on-entry, resource-bytes, backed, range-of, recorded, hand-out, stored, create-hosted, create-backed, create, resource-of, on-buffer-packet, on-texture-packet, on-destroy-packet, on-dirty-packet, write-back, on-copy-packet, apply, apply-frame, take-packet}
+use Rattle.rules.specs.Packets.{Holdings, Outcome, accepted, refused, refuse, full, handle-of, live, is-live, on-live, on-kind, on-buffer, on-entry, resource-bytes, backed, range-of, recorded, hand-out, stored, create-hosted, create-backed, create, on-buffer-packet, on-texture-packet, on-destroy-packet, on-dirty-packet, write-back, on-copy-packet, apply, apply-frame, take-packet}
 use Rattle.rules.specs.declared.Entry.{Entry}
-use Rattle.rules.specs.declared.CreateBuffer.{CreateBuffer}
-use Rattle.rules.specs.declared.CreateTexture.{CreateTexture}
-use Rattle.rules.specs.declared.DestroyResource.{DestroyResource}
-use Rattle.rules.specs.declared.DirtyRange.{DirtyRange}
-use Rattle.rules.specs.declared.CopyBuffer.{CopyBuffer}
 use Rattle.rules.specs.declared.Resource.{Resource}
-use Rattle.rules.specs.declared.Record.{Record}
 use Rattle.rules.specs.declared.Refusal.{Refusal}
-use Rattle.rules.specs.declared.Verdict.{Verdict}
-use Rattle.rules.specs.declared.Verdict.the-variants.{Fine, Broken}
+use Rattle.rules.specs.declared.Verdict.the-variants.{Broken}
 use Rattle.rules.specs.declared.Kind.{Kind}
 use Rattle.rules.specs.declared.Kind.the-variants.{Bytes, Picture}
 use Rattle.rules.specs.declared.Frame.{Frame}

@@ -6,23 +6,20 @@ use mathlib.Core.Logic.{⊎-elim}
 use Prim.Native.Nat.{ℕ, _+_, _≤_, _<_}
 use native.Mathlib.Omega.{arith}
 use lib.ListN.{length, length-append}
-use Rattle.machine.specs.Machine.{pick}
 use Rattle.rules.specs.Numbers.{most}
 use Rattle.rules.specs.Lists.{Found, lookup, indexOf, pushed, removed}
 use Rattle.rules.specs.Lists.Found.{none, found}
 use Rattle.rules.specs.Table.{matching}
-use Rattle.rules.specs.Packets.{Holdings, Outcome, accepted, handle-of, live, range-of, recorded, stored, resource-bytes, apply, take-packet}
-use Rattle.rules.specs.Steps.{at-first}
+use Rattle.rules.specs.Packets.{Holdings, Outcome, at-first, handle-of, live, range-of, apply}
 use Rattle.rules.specs.declared.Entry.{Entry}
 use Rattle.rules.specs.declared.Resource.{Resource}
 use Rattle.rules.specs.declared.Record.{Record}
 use Rattle.rules.specs.declared.Refusal.{Refusal}
-use Rattle.rules.specs.declared.Verdict.{Verdict}
 use Rattle.rules.specs.declared.Verdict.the-variants.{Fine, Broken}
 use Rattle.rules.specs.declared.Packet.{Packet}
 use Rattle.words.specs.Keys.{Once, once-pushed, once-removed, lookup-pushed-other, lookup-removed-other, length-removed, lookup-none, index-bound}
 use Rattle.words.specs.Over.{below-or-not}
-use Rattle.packets.specs.Effects.{Fresh, InRange, apply-or, take-or}
+use Rattle.packets.specs.Effects.{Fresh, InRange, apply-or}
 
 -- ---- every member of a list
 

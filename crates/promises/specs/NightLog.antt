@@ -3,9 +3,7 @@ use mathlib.Core.Path.{_≡_, refl}
 use mathlib.Core.Bool.{Bool, true, false, _&&_}
 use mathlib.Core.List.{List, [], _∷_, _++_}
 use Prim.Native.Nat.{ℕ, zero, suc, _+_}
-use lib.Dec.{eqb, ltb, leb}
-use lib.ListN.{length, take, drop}
-use Rattle.machine.specs.Machine.{pick}
+use lib.Dec.{eqb}
 use Rattle.rules.specs.Numbers.{ring-magic, version}
 use Rattle.rules.specs.Bytes.{le, bytesOf}
 use Rattle.rules.specs.Lists.{lookup}
@@ -14,19 +12,18 @@ use Rattle.rules.specs.Layouts.{ring-header}
 use Rattle.rules.specs.Table.{entry-rules}
 use Rattle.rules.specs.Ring.{power-of-two, pending, slot, good-header, good-ring, opening-of}
 use Rattle.rules.specs.Shapes.{unit, side, halvings, full-chain, mip-side, blocks, tight, rows, mip-bytes, offset-of, good-shape, good-backed, texture-bytes, packed-size, index-of, start-of}
-use Rattle.rules.specs.Packets.{on-texture-packet, create, create-backed}
+use Rattle.rules.specs.Packets.{at-first, on-texture-packet, create, create-backed}
 use Rattle.rules.specs.State.{World, made, with-regs}
 use Rattle.rules.specs.Settle.{ended-by, signalled, faulted, quieted, next-head}
-use Rattle.rules.specs.Registers.{bit, status}
-use Rattle.rules.specs.Steps.{step, open-step, at-first}
+use Rattle.rules.specs.Registers.{status}
+use Rattle.rules.specs.Steps.{step, open-step}
 use Rattle.rules.specs.declared.Entry.{Entry}
-use Rattle.rules.specs.declared.Job.{Job}
 use Rattle.rules.specs.declared.Shape.{Shape}
 use Rattle.rules.specs.declared.RingHeader.{RingHeader}
 use Rattle.rules.specs.declared.Registers.{Registers}
 use Rattle.rules.specs.declared.Start.{Start}
 use Rattle.rules.specs.declared.Start.the-variants.{At, Nowhere}
-use Rattle.rules.specs.declared.Verdict.the-variants.{Fine, Broken}
+use Rattle.rules.specs.declared.Verdict.the-variants.{Fine}
 
 -- what the rules give, and what the log says
 pub record Case : Type 0 where

@@ -1,5 +1,5 @@
 -- Demand 3: slices and answers in any order. What was spent and what was accepted settles state and memory. Assumes nothing.
-use mathlib.Core.Path.{_≡_, refl}
+use mathlib.Core.Path.{_≡_}
 use mathlib.Core.Bool.{Bool, true, false, _&&_, and-false}
 use mathlib.Core.List.{List}
 use Prim.Native.Nat.{ℕ}

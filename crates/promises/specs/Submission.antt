@@ -1,30 +1,27 @@
 -- Demand 2, whole: from its opening on, over still memory, a submission's steps end where the unsliced rules end, after their
 -- count of units. Assumes nothing.
-use mathlib.Core.Path.{_≡_, refl, sym, ap, subst, _∙_}
+use mathlib.Core.Path.{_≡_, refl, ap, _∙_}
 use mathlib.Core.Bool.{Bool, true, false, not, _&&_}
 use mathlib.Core.List.{List, [], _∷_, _++_}
-use Prim.Native.Nat.{ℕ, zero, suc, _+_, _-_, _*_, _%_, _≤_, _<_}
+use Prim.Native.Nat.{ℕ, suc, _+_, _-_, _*_, _%_, _≤_, _<_}
 use native.Mathlib.Omega.{arith}
-use native.Mathlib.Nat.{add-zero, zero-add, mul-le-mul-left, mul-le-mul-right, mul-comm}
-use native.Mathlib.Numerals.{one-add}
-use borrow.Author.Tests.{le-leb, lt-ltb, le-ltb, leb-true, ltb-false}
-use lib.Dec.{ltb, leb, eqb}
+use native.Mathlib.Nat.{mul-le-mul-right}
+use borrow.Author.Tests.{le-leb, lt-ltb, ltb-false}
+use lib.Dec.{ltb, eqb}
 use lib.ListN.{length, take, drop, length-drop}
 use lib.Seq.{length-take-le}
-use Rattle.machine.specs.Machine.{pick, Out, spent, runFor, run-none, sliced}
+use Rattle.machine.specs.Machine.{pick, Out, spent, sliced}
 use Rattle.rules.specs.Numbers.{most, bad-table, bad-stream, too-many, outside-memory, table-magic, stream-magic}
 use Rattle.rules.specs.Judging.{rule, only, _▹_}
 use Rattle.rules.specs.Layouts.{good-version, ring-header, descriptor, table-header, table-header-size, entry-size, stream-header, stream-header-size}
-use Rattle.rules.specs.Table.{Judged, header-rules, entry-place, in-reach, entries-of, judge-entries}
+use Rattle.rules.specs.Table.{header-rules, in-reach, entries-of, judge-entries}
 use Rattle.rules.specs.Stream.{stream-rules, stream-bytes, packets-of}
 use Rattle.rules.specs.Ring.{present, descriptor-rules, range-rules, submission-rules, opened-of, concluded, job-of, slot-place, submission-opening, good-ring, ring-opening, opening-of}
-use Rattle.rules.specs.Packets.{Holdings}
+use Rattle.rules.specs.Packets.{Holdings, at-first}
 use Rattle.rules.specs.State.{World}
-use Rattle.rules.specs.State.Work.{resting, entries, packets, waiting}
-use Rattle.rules.specs.Settle.{settled, refused-with}
-use Rattle.rules.specs.Steps.{working, at-first, packets-at, entries-at, after-opening, open-step, step, go, run-for}
-use Rattle.rules.specs.Unsliced.{Reckoned, judge-packets, Submission, after-entries, submission, finished, concluding, submitted-on, submitted}
-use Rattle.rules.specs.declared.RingHeader.{RingHeader}
+use Rattle.rules.specs.State.Work.{resting}
+use Rattle.rules.specs.Steps.{after-opening, open-step, step, go, run-for}
+use Rattle.rules.specs.Unsliced.{Reckoned, judge-packets, after-entries, submission, finished, concluding, submitted-on, submitted}
 use Rattle.rules.specs.declared.Descriptor.{Descriptor}
 use Rattle.rules.specs.declared.TableHeader.{TableHeader}
 use Rattle.rules.specs.declared.StreamHeader.{StreamHeader}

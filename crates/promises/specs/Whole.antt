@@ -1,33 +1,30 @@
 -- Demand 2: the steps of a submission over still memory end where the unsliced rules end, after their count of units. Assumes nothing.
-use mathlib.Core.Path.{_≡_, refl, sym, ap, subst, _∙_}
+use mathlib.Core.Path.{_≡_, refl, ap, _∙_}
 use mathlib.Core.Bool.{Bool, true, false, not, _&&_}
 use mathlib.Core.List.{List, [], _∷_, _++_, append-assoc, append-nil}
 use Prim.Native.Nat.{ℕ, zero, suc, _+_, _-_, _*_, _%_, _≤_, _<_}
 use native.Mathlib.Omega.{arith}
-use native.Mathlib.Nat.{add-zero, zero-add, add-suc, add-assoc, mul-le-mul-left, suc-add}
-use native.Mathlib.Numerals.{one-add, add-one}
-use borrow.Author.Tests.{eq-eqb, ne-eqb, le-leb, lt-leb, lt-ltb, le-ltb, leb-true, leb-false, eqb-true, eqb-false, ltb-false, ltb-true}
-use lib.Dec.{ltb, leb, eqb}
+use native.Mathlib.Numerals.{one-add}
+use borrow.Author.Tests.{eq-eqb, ne-eqb, lt-ltb, le-ltb, ltb-false, ltb-true}
+use lib.Dec.{ltb, eqb}
 use lib.ListN.{length, take, drop, length-append, length-drop}
-use lib.Seq.{drop-drop, length-take-le}
-use Rattle.machine.specs.Machine.{pick, Out, spent, halt, runFor, run-none, run-stop, run-go}
-use Rattle.rules.specs.Numbers.{most, bad-packet}
+use lib.Seq.{drop-drop}
+use Rattle.machine.specs.Machine.{run-none, run-go}
+use Rattle.rules.specs.Numbers.{bad-packet}
 use Rattle.rules.specs.Lists.{pushed}
-use Rattle.rules.specs.Layouts.{word, packet-header-size, entry, entry-size, stream-header-size, table-header-size}
-use Rattle.rules.specs.Table.{Judged, entry-place, entry-rules, keep, in-reach, take-entry, entries-from, entries-of, stop-or-go, judge-entries}
+use Rattle.rules.specs.Layouts.{word, packet-header-size, entry, stream-header-size}
+use Rattle.rules.specs.Table.{Judged, entry-place, entry-rules, keep, in-reach, take-entry, entries-from, stop-or-go, judge-entries}
 use Rattle.rules.specs.Judging.{rule}
-use Rattle.rules.specs.Stream.{Piece, frame-rules, framed, frame-of, packet-of, size-of, before, cut, stream-bytes}
-use Rattle.rules.specs.Packets.{Holdings, Outcome, apply, apply-frame, take-packet}
+use Rattle.rules.specs.Stream.{frame-rules, framed, frame-of, packet-of, size-of, before, cut, stream-bytes}
+use Rattle.rules.specs.Packets.{Holdings, at-first, apply, apply-frame, take-packet}
 use Rattle.rules.specs.Unsliced.{Reckoned, one-further, judge-packets}
 use Rattle.promises.specs.Fine.{fine-first, fine-later, kept-rule}
-use Rattle.rules.specs.State.{Work, State, World, with-work, with-state}
-use Rattle.rules.specs.State.Work.{resting, entries, packets, waiting}
-use Rattle.rules.specs.Settle.{settled, refused-with}
-use Rattle.rules.specs.Steps.{working, at-first, packets-at, entries-at, after-entry, entry-step, after-packet, next-place, packet-step, step, go, run-for}
+use Rattle.rules.specs.State.{Work, World, working}
+use Rattle.rules.specs.State.Work.{entries, packets, waiting}
+use Rattle.rules.specs.Settle.{settled, settled-keeping}
+use Rattle.rules.specs.Steps.{packets-at, entries-at, after-entry, entry-step, after-packet, next-place, packet-step, step, go, run-for}
 use Rattle.rules.specs.declared.Entry.{Entry}
-use Rattle.rules.specs.declared.Resource.{Resource}
 use Rattle.rules.specs.declared.Job.{Job}
-use Rattle.rules.specs.declared.Table.{Table}
 use Rattle.rules.specs.declared.Stream.{Stream}
 use Rattle.rules.specs.declared.Opened.{Opened}
 use Rattle.rules.specs.declared.Frame.{Frame}
@@ -51,7 +48,7 @@ module _ (w : World) (on : w .state .regs .enabled ≡ true) (o : Opened) where
   -- what the table's judgement comes to
   abbrev pub after-table : Verdict → List Entry → World
   after-table Fine all = working (packets-at (o .job) (o .stream) stream-header-size all (at-first (w .state .resources))) w
-  after-table (Broken r) all = refused-with (o .job) (Broken r) w
+  after-table (Broken r) all = settled-keeping (o .job) (Broken r) w
 
   -- the entry after those that were kept
   abbrev pub next : List Entry → Entry
@@ -150,7 +147,7 @@ module _ (w : World) (on : w .state .regs .enabled ≡ true) (j : Job) (s : Stre
   -- what the packets' judgement comes to
   abbrev pub after-stream : Verdict → Holdings → World
   after-stream Fine h = working (waiting j es h) w
-  after-stream (Broken r) h = refused-with j (Broken r) w
+  after-stream (Broken r) h = settled-keeping j (Broken r) w
 
   -- what a packet comes to does not look at the work before it
   after-packet-on : (k : Work) (next : ℕ) (h : Holdings) (v : Verdict) → after-packet (working k w) j s next es h v ≡ after-packet w j s next es h v

@@ -1,13 +1,13 @@
 -- 01, "State and calls": the answer of every call, and what stands beside it.
 use mathlib.Core.Bool.{Bool, true, false, not, _&&_, _||_}
 use mathlib.Core.List.{List, [], _∷_}
-use Prim.Native.Nat.{ℕ, zero, suc}
-use lib.Dec.{ltb, eqb}
+use Prim.Native.Nat.{ℕ, zero}
+use lib.Dec.{eqb}
 use lib.ListN.{length}
 use Rattle.machine.specs.Machine.{pick, Out}
-use Rattle.rules.specs.Lists.{Found}
+use Rattle.rules.specs.Numbers.{done, other-memory, no-register, nothing-waits, no-record}
+use Rattle.rules.specs.Lists.{Found, nth}
 use Rattle.rules.specs.Lists.Found.{none, found}
-use Rattle.rules.specs.Packets.{Holdings}
 use Rattle.rules.specs.State.{Work, State, World}
 use Rattle.rules.specs.State.Work.{resting, entries, packets, waiting}
 use Rattle.rules.specs.Registers.{Read, register, Write, write-of}
@@ -15,23 +15,6 @@ use Rattle.rules.specs.Steps.{run-for, waits, answered}
 use Rattle.rules.specs.declared.Record.{Record}
 use Rattle.rules.specs.declared.Ended.{Ended}
 use Rattle.rules.specs.declared.Ended.the-variants.{Idle, Waiting, Paused}
-
--- ---- "Call answer": given exactly when
-
-abbrev pub done : ℕ
-done = 0
-
-abbrev pub other-memory : ℕ
-other-memory = 1
-
-abbrev pub no-register : ℕ
-no-register = 2
-
-abbrev pub nothing-waits : ℕ
-nothing-waits = 3
-
-abbrev pub no-record : ℕ
-no-record = 4
 
 -- "lent memory has another length than at making"
 abbrev pub lent-another : World → Bool
@@ -51,7 +34,7 @@ ending s =
     pick (waits s) Waiting
     (pick (not (s .regs .enabled) || (not (s .regs .rung) && at-rest (s .work))) Idle Paused)
 
--- this paper's order of the three, as the exports number them
+-- a number for each of the three, for exports: idle is 0, as beside a refused run
 abbrev pub ended-number : Ended → ℕ
 ended-number Idle = 0
 ended-number Waiting = 1
@@ -102,12 +85,6 @@ pub record Handed : Type 0 where
 
 abbrev pub no-range : Record
 no-range = record { kind = 0; handle = 0; id = 0; gpa = 0; length = 0 }
-
--- the i-th of a list, where there is one
-unfoldable pub nth : {A : Type 0} → List A → ℕ → Found A
-nth [] i = none
-nth (x ∷ xs) zero = found x
-nth (x ∷ xs) (suc i) = nth xs i
 
 -- the records that the host may read: only while a submission waits
 abbrev pub handed-out : Work → List Record

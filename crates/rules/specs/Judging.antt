@@ -1,5 +1,5 @@
 -- A rule and its number; the first broken rule decides.
-use mathlib.Core.Bool.{Bool, true, false}
+use mathlib.Core.Bool.{Bool}
 use Prim.Native.Nat.{ℕ}
 use Rattle.machine.specs.Machine.{pick}
 use Rattle.rules.specs.declared.Refusal.{Refusal}
@@ -14,7 +14,7 @@ refusal n = record { code = n }
 abbrev pub rule : ℕ → Bool → Verdict
 rule n broken = pick broken (Broken (refusal n)) Fine
 
--- "the first broken rule is its error"
+-- "checked in this order": the first of two that is broken
 abbrev pub _▹_ : Verdict → Verdict → Verdict
 Fine ▹ later = later
 Broken r ▹ later = Broken r

@@ -3,14 +3,13 @@ use mathlib.Core.Bool.{Bool}
 use mathlib.Core.List.{List, _++_}
 use Prim.Native.Nat.{ℕ, _+_, _/_}
 use lib.Dec.{eqb}
-use Rattle.rules.specs.Numbers.{page-magic, version}
+use Rattle.rules.specs.Numbers.{page-magic, version, minors, good-major}
 use Rattle.rules.specs.Bytes.{field, bytesOf}
 use Rattle.rules.specs.declared.RingHeader.{RingHeader}
 use Rattle.rules.specs.declared.Descriptor.{Descriptor}
 use Rattle.rules.specs.declared.TableHeader.{TableHeader}
 use Rattle.rules.specs.declared.Entry.{Entry}
 use Rattle.rules.specs.declared.StreamHeader.{StreamHeader}
-use Rattle.rules.specs.declared.Shape.{Shape}
 use Rattle.rules.specs.declared.CreateBuffer.{CreateBuffer}
 use Rattle.rules.specs.declared.CreateTexture.{CreateTexture}
 use Rattle.rules.specs.declared.DestroyResource.{DestroyResource}
@@ -26,7 +25,7 @@ long = field 8
 
 -- "A version is good when its major is 1; any minor passes."
 abbrev pub good-version : ℕ → Bool
-good-version v = eqb (v / 65536) 1
+good-version v = eqb (v / minors) good-major
 
 -- "Ring header, 64: 0 "ARNG", 4 version, 8 size, 12 count, 16 stride, 24 head, 28 tail."
 unfoldable pub ring-header : List ℕ → ℕ → RingHeader
@@ -103,11 +102,11 @@ packet-header-size = 8
 
 -- ---- the fields of a packet, from its own bytes
 
--- "create buffer, 40: 8 handle, 16 size u64, 24 backing id, 28 backing offset"
+-- create buffer, 40: "8 handle, 16 size u64, 24 backing id, 28 backing offset"
 unfoldable pub buffer-fields : List ℕ → CreateBuffer
 buffer-fields b = record { handle = word b 8; size = long b 16; backing = word b 24; offset = word b 28 }
 
--- "create texture, 56: 8 handle, 16 format, 20 width, 24 height, 28 mips, 32 layers, 36 pitch, 40 backing id, 44 backing offset"
+-- create texture, 56: "8 handle, 16 format, 20 width, 24 height, 28 mips, 32 layers, 36 pitch, 40 backing id, 44 backing offset"
 unfoldable pub texture-fields : List ℕ → CreateTexture
 texture-fields b =
     record {
@@ -118,15 +117,15 @@ texture-fields b =
       offset = word b 44;
     }
 
--- "destroy, 16: 8 handle"
+-- destroy, 16: "8 handle"
 unfoldable pub destroy-fields : List ℕ → DestroyResource
 destroy-fields b = record { handle = word b 8 }
 
--- "dirty range, 32: 8 handle, 16 offset u64, 24 size u64"
+-- dirty range, 32: "8 handle, 16 offset u64, 24 size u64"
 unfoldable pub dirty-fields : List ℕ → DirtyRange
 dirty-fields b = record { handle = word b 8; offset = long b 16; size = long b 24 }
 
--- "copy buffer, 48: 8 dst, 12 src, 16 dst offset u64, 24 src offset u64, 32 size u64, 40 flags (bit 0 writeback)"
+-- copy buffer, 48: "8 dst, 12 src, 16 dst offset u64, 24 src offset u64, 32 size u64, 40 flags (bit 0 writeback)"
 unfoldable pub copy-fields : List ℕ → CopyBuffer
 copy-fields b =
     record {

@@ -1,5 +1,4 @@
 -- Lists whose members have a key, and a part of a list written over.
-use mathlib.Core.Bool.{Bool, true, false}
 use mathlib.Core.List.{List, [], _∷_, _++_}
 use Prim.Native.Nat.{ℕ, zero, suc, _+_, _-_}
 use lib.Dec.{eqb}
@@ -22,6 +21,12 @@ module _ {A : Type 0} where
   -- without the one at i: the last one takes its place. The order of such a list says nothing.
   unfoldable pub removed : ℕ → List A → List A
   removed i xs = take (length xs - 1) (over i (drop (length xs - 1) xs) xs)
+
+  -- the i-th, where there is one
+  unfoldable pub nth : List A → ℕ → Found A
+  nth [] i = none
+  nth (x ∷ xs) zero = found x
+  nth (x ∷ xs) (suc i) = nth xs i
 
 module _ {A : Type 0} (key : A → ℕ) (k : ℕ) where
   -- "stops at the first hit": the first that has the key

@@ -1,5 +1,5 @@
 -- The numbers of document 01 that have a meaning of their own, each named once. Offsets of fields stand in Layouts.
-use Prim.Native.Nat.{ℕ, _^_}
+use Prim.Native.Nat.{ℕ}
 
 -- ---- errors
 
@@ -63,8 +63,9 @@ host-failed = 27
 abbrev pub most : ℕ
 most = 64
 
-abbrev pub most-slots : ℕ
-most-slots = 1024
+-- "a power of two, 1 to 1,024": 2 to the tenth at most
+abbrev pub slot-doublings : ℕ
+slot-doublings = 10
 
 abbrev pub longest-side : ℕ
 longest-side = 16384
@@ -72,7 +73,7 @@ longest-side = 16384
 abbrev pub most-layers : ℕ
 most-layers = 256
 
--- ---- magics, as their four bytes stand in memory, and the version
+-- ---- magics, each the little-endian number of its four bytes, and the version
 
 -- "ARNG"
 abbrev pub ring-magic : ℕ
@@ -101,6 +102,13 @@ version = 65539
 abbrev pub features : ℕ
 features = 7
 
+-- "A version is good when its major is 1": what a version is divided by, and the major
+abbrev pub minors : ℕ
+minors = 65536
+
+abbrev pub good-major : ℕ
+good-major = 1
+
 -- ---- opcodes
 
 abbrev pub create-buffer : ℕ
@@ -118,6 +126,23 @@ dirty-range = 259
 abbrev pub copy-buffer : ℕ
 copy-buffer = 261
 
+-- ---- the bytes of each packet that we know
+
+abbrev pub create-buffer-size : ℕ
+create-buffer-size = 40
+
+abbrev pub create-texture-size : ℕ
+create-texture-size = 56
+
+abbrev pub destroy-size : ℕ
+destroy-size = 16
+
+abbrev pub dirty-range-size : ℕ
+dirty-range-size = 32
+
+abbrev pub copy-buffer-size : ℕ
+copy-buffer-size = 48
+
 -- ---- kinds of record
 
 abbrev pub backs : ℕ
@@ -128,3 +153,24 @@ reads = 2
 
 abbrev pub writes : ℕ
 writes = 3
+
+-- ---- call answers
+
+abbrev pub done : ℕ
+done = 0
+
+-- "lent memory has another length than at making"
+abbrev pub other-memory : ℕ
+other-memory = 1
+
+-- "no such register, or not readable/writable"
+abbrev pub no-register : ℕ
+no-register = 2
+
+-- "host answer, nothing waiting"
+abbrev pub nothing-waits : ℕ
+nothing-waits = 3
+
+-- "record index not below the count, or nothing waiting"
+abbrev pub no-record : ℕ
+no-record = 4

@@ -13,7 +13,6 @@ use Rattle.rules.specs.Shapes.{good-shape, good-backed, texture-bytes}
 use Rattle.rules.specs.Table.{matching}
 use Rattle.rules.specs.Stream.{frame-of, packet-of}
 use Rattle.rules.specs.declared.Entry.{Entry}
-use Rattle.rules.specs.declared.Shape.{Shape}
 use Rattle.rules.specs.declared.CreateBuffer.{CreateBuffer}
 use Rattle.rules.specs.declared.CreateTexture.{CreateTexture}
 use Rattle.rules.specs.declared.DestroyResource.{DestroyResource}
@@ -34,6 +33,10 @@ use Rattle.rules.specs.declared.Packet.the-variants.{Buffer, Texture, De
 pub record Holdings : Type 0 where
   pub resources : List Resource
   pub records : List Record
+
+-- "Resources live within a submission as its earlier packets left them": at first they are the device's
+abbrev pub at-first : List Resource → Holdings
+at-first resources = record { resources = resources; records = [] }
 
 -- what a packet comes to. One that is refused leaves what was held.
 pub record Outcome : Type 0 where

@@ -1,11 +1,11 @@
 -- 01, "Open": the ring, its descriptor, and how an opening ends.
-use mathlib.Core.Bool.{Bool, true, false, not, _&&_, _||_}
+use mathlib.Core.Bool.{Bool, not, _&&_, _||_}
 use mathlib.Core.List.{List}
 use Prim.Native.Nat.{ℕ, zero, suc, _+_, _-_, _*_, _%_, _^_}
 use lib.Dec.{ltb, leb, eqb}
 use lib.ListN.{length}
 use Rattle.machine.specs.Machine.{pick}
-use Rattle.rules.specs.Numbers.{bad-descriptor, outside-memory, ring-magic}
+use Rattle.rules.specs.Numbers.{bad-descriptor, outside-memory, ring-magic, slot-doublings}
 use Rattle.rules.specs.Judging.{rule, only, _▹_}
 use Rattle.rules.specs.Layouts.{good-version, ring-header, ring-header-size, descriptor, descriptor-size, table-header, stream-header}
 use Rattle.rules.specs.Table.{header-rules, table-of, no-table}
@@ -36,7 +36,7 @@ unfoldable pub good-header : ℕ → RingHeader → Bool
 good-header size h =
     eqb (h .magic) ring-magic
     && (good-version (h .version)
-    && (power-of-two 10 (h .count)
+    && (power-of-two slot-doublings (h .count)
     && (leb descriptor-size (h .stride)
     && (leb (ring-header-size + h .count * h .stride) (h .size)
     && (leb (h .size) size

@@ -5,11 +5,12 @@ use Prim.Native.Nat.{ℕ, _+_, _-_, _%_, _^_}
 use lib.Dec.{ltb, leb, eqb}
 use lib.ListN.{length}
 use Rattle.machine.specs.Machine.{pick}
+use Rattle.rules.specs.Numbers.{bad-ring}
 use Rattle.rules.specs.Bytes.{bytesOf}
 use Rattle.rules.specs.Lists.{over}
 use Rattle.rules.specs.Layouts.{head-offset, page-bytes}
 use Rattle.rules.specs.Shapes.{larger}
-use Rattle.rules.specs.State.{State, World}
+use Rattle.rules.specs.State.{World, registering}
 use Rattle.rules.specs.State.Work.{resting}
 use Rattle.rules.specs.declared.Registers.{Registers}
 use Rattle.rules.specs.declared.Resource.{Resource}
@@ -120,6 +121,16 @@ settled j v resources w =
       mem = marked j (ended-by j v (w .state .regs)) (w .mem);
     }
 
--- "On "good" the submission's resources become the device's; otherwise those before it stay."
-abbrev pub refused-with : Job → Verdict → World → World
-refused-with j v w = settled j v (w .state .resources) w
+-- "otherwise those before it stay": after a refusal, and after the answer "failed"
+abbrev pub settled-keeping : Job → Verdict → World → World
+settled-keeping j v w = settled j v (w .state .resources) w
+
+-- ---- openings that settle nothing
+
+-- "A bad ring clears the flag, sets the error with fence 0 and settles nothing."
+abbrev pub ring-refused : World → World
+ring-refused w = registering (quieted (faulted bad-ring 0 (w .state .regs))) w
+
+-- "Head = tail clears the flag."
+abbrev pub found-no-work : World → World
+found-no-work w = registering (quieted (w .state .regs)) w

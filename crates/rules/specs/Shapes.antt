@@ -1,5 +1,5 @@
 -- 01, "Shapes": which shapes are good, and where their bytes stand.
-use mathlib.Core.Bool.{Bool, true, false, _&&_, _||_}
+use mathlib.Core.Bool.{Bool, _&&_, _||_}
 use Prim.Native.Nat.{ℕ, zero, suc, _+_, _-_, _*_, _/_, _%_, _^_}
 use lib.Dec.{ltb, leb, eqb}
 use Rattle.machine.specs.Machine.{pick}

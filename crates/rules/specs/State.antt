@@ -1,5 +1,5 @@
--- 01, "State and calls": the device's state, and the memory beside it. No stale number is part of it.
-use mathlib.Core.Bool.{Bool, true, false}
+-- 01, "State and calls": the device's state, and the memory beside it. What a phase does not use is no part of it.
+use mathlib.Core.Bool.{false}
 use mathlib.Core.List.{List, []}
 use Prim.Native.Nat.{ℕ}
 use Rattle.rules.specs.Packets.{Holdings}
@@ -17,7 +17,7 @@ pub data Work : Type 0 where
   entries : Opened → List Entry → Work
   -- the stream and the place in it, the table's entries, and what is held
   packets : Job → Stream → ℕ → List Entry → Holdings → Work
-  -- the host's answer is awaited
+  -- the host's answer is awaited. The entries stay, so that it can be said of each record handed out which one it lies in.
   waiting : Job → List Entry → Holdings → Work
 
 pub record State : Type 0 where
@@ -62,3 +62,9 @@ with-work k s = record { memory = s .memory; regs = s .regs; resources = s .reso
 
 abbrev pub with-state : State → World → World
 with-state s w = record { state = s; mem = w .mem }
+
+abbrev pub working : Work → World → World
+working k w = with-state (with-work k (w .state)) w
+
+abbrev pub registering : Registers → World → World
+registering r w = with-state (with-regs r (w .state)) w

@@ -1,20 +1,20 @@
 -- 01, "The steps and their price": one unit over the state and the memory lent at that unit; a run; the host's answer.
-use mathlib.Core.Bool.{Bool, true, false, not, _&&_}
+use mathlib.Core.Bool.{Bool, true, false, _&&_}
 use mathlib.Core.List.{List, [], _∷_}
 use Prim.Native.Nat.{ℕ, _+_}
 use lib.Dec.{ltb}
 use lib.ListN.{length}
 use Rattle.machine.specs.Machine.{pick, Out, runFor}
-use Rattle.rules.specs.Numbers.{bad-ring, host-failed}
+use Rattle.rules.specs.Numbers.{host-failed}
 use Rattle.rules.specs.Judging.{refusal}
 use Rattle.rules.specs.Layouts.{stream-header-size}
 use Rattle.rules.specs.Table.{take-entry}
 use Rattle.rules.specs.Stream.{left, frame-of, size-of}
 use Rattle.rules.specs.Ring.{opening-of}
-use Rattle.rules.specs.Packets.{Holdings, take-packet}
-use Rattle.rules.specs.State.{Work, State, World, with-regs, with-work, with-state}
+use Rattle.rules.specs.Packets.{Holdings, at-first, take-packet}
+use Rattle.rules.specs.State.{Work, State, World, working}
 use Rattle.rules.specs.State.Work.{resting, entries, packets, waiting}
-use Rattle.rules.specs.Settle.{faulted, quieted, settled, refused-with}
+use Rattle.rules.specs.Settle.{settled, settled-keeping, ring-refused, found-no-work}
 use Rattle.rules.specs.declared.Entry.{Entry}
 use Rattle.rules.specs.declared.Resource.{Resource}
 use Rattle.rules.specs.declared.Job.{Job}
@@ -25,14 +25,7 @@ use Rattle.rules.specs.declared.Verdict.the-variants.{Fine, Broken}
 use Rattle.rules.specs.declared.Opening.{Opening}
 use Rattle.rules.specs.declared.Opening.the-variants.{BadRing, NoWork, Refused, Started}
 
-abbrev pub working : Work → World → World
-working k w = with-state (with-work k (w .state)) w
-
 -- ---- what comes next: "After the last step the submission waits for the host."
-
--- "Resources live within a submission as its earlier packets left them": at first they are the device's
-abbrev pub at-first : List Resource → Holdings
-at-first resources = record { resources = resources; records = [] }
 
 -- the next packet, if one is left
 abbrev pub packets-at : Job → Stream → ℕ → List Entry → Holdings → Work
@@ -46,11 +39,10 @@ entries-at o kept resources =
 
 -- ---- opening
 
--- "A bad ring clears the flag, sets the error with fence 0 and settles nothing. Head = tail clears the flag."
 abbrev pub after-opening : World → Opening → World
-after-opening w BadRing = with-state (with-regs (quieted (faulted bad-ring 0 (w .state .regs))) (w .state)) w
-after-opening w NoWork = with-state (with-regs (quieted (w .state .regs)) (w .state)) w
-after-opening w (Refused j r) = refused-with j (Broken r) w
+after-opening w BadRing = ring-refused w
+after-opening w NoWork = found-no-work w
+after-opening w (Refused j r) = settled-keeping j (Broken r) w
 after-opening w (Started o) = working (entries-at o [] (w .state .resources)) w
 
 -- "Ring GPA and size are taken when a submission is opened"
@@ -61,7 +53,7 @@ open-step w = after-opening w (opening-of (w .mem) (w .state .regs .ring) (w .st
 
 abbrev pub after-entry : World → Opened → List Entry → Verdict → World
 after-entry w o kept Fine = working (entries-at o kept (w .state .resources)) w
-after-entry w o kept (Broken r) = refused-with (o .job) (Broken r) w
+after-entry w o kept (Broken r) = settled-keeping (o .job) (Broken r) w
 
 unfoldable pub entry-step : World → Opened → List Entry → World
 entry-step w o kept = after-entry w o (take-entry (w .mem) (o .table) kept .kept) (take-entry (w .mem) (o .table) kept .verdict)
@@ -70,7 +62,7 @@ entry-step w o kept = after-entry w o (take-entry (w .mem) (o .table) kept .kept
 
 abbrev pub after-packet : World → Job → Stream → ℕ → List Entry → Holdings → Verdict → World
 after-packet w j s next es h Fine = working (packets-at j s next es h) w
-after-packet w j s next es h (Broken r) = refused-with j (Broken r) w
+after-packet w j s next es h (Broken r) = settled-keeping j (Broken r) w
 
 -- where the packet after the one that some bytes begin with stands
 abbrev pub next-place : ℕ → List ℕ → ℕ
@@ -117,13 +109,13 @@ waits-on (waiting j es h) = true
 abbrev pub waits : State → Bool
 waits s = waits-on (s .work)
 
--- "On "good" the submission's resources become the device's; otherwise those before it stay." "An answer "failed" is error 27"
+-- "On "good" the submission's resources become the device's; otherwise those before it stay." "An answer "failed" is error 27, no refusal."
 abbrev pub answer-on : Bool → World → Work → World
 answer-on good w resting = w
 answer-on good w (entries o kept) = w
 answer-on good w (packets j s at es h) = w
 answer-on true w (waiting j es h) = settled j Fine (h .resources) w
-answer-on false w (waiting j es h) = refused-with j (Broken (refusal host-failed)) w
+answer-on false w (waiting j es h) = settled-keeping j (Broken (refusal host-failed)) w
 
 unfoldable pub answered : Bool → World → World
 answered good w = answer-on good w (w .state .work)

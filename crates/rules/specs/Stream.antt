@@ -1,11 +1,11 @@
 -- 01, "Open" 16, and the framing of "Packet": the command stream.
-use mathlib.Core.Bool.{Bool, true, false, not, _&&_}
+use mathlib.Core.Bool.{Bool, not, _&&_}
 use mathlib.Core.List.{List, [], _∷_}
 use Prim.Native.Nat.{ℕ, zero, suc, _%_}
 use lib.Dec.{ltb, eqb}
 use lib.ListN.{length, take, drop}
 use Rattle.machine.specs.Machine.{pick}
-use Rattle.rules.specs.Numbers.{bad-stream, bad-packet, stream-magic, create-buffer, create-texture, destroy, dirty-range, copy-buffer}
+use Rattle.rules.specs.Numbers.{bad-stream, bad-packet, stream-magic, create-buffer, create-texture, destroy, dirty-range, copy-buffer, create-buffer-size, create-texture-size, destroy-size, dirty-range-size, copy-buffer-size}
 use Rattle.rules.specs.Judging.{rule, _▹_}
 use Rattle.rules.specs.Layouts.{word, good-version, stream-header-size, packet-header-size, buffer-fields, texture-fields, destroy-fields, dirty-fields, copy-fields}
 use Rattle.rules.specs.declared.StreamHeader.{StreamHeader}
@@ -39,11 +39,11 @@ no-stream = record { gpa = 0; size = 0 }
 -- the size that the table of opcodes gives; 0 for an opcode that we do not know
 unfoldable pub known-size : ℕ → ℕ
 known-size op =
-    pick (eqb op create-buffer) 40
-    (pick (eqb op create-texture) 56
-    (pick (eqb op destroy) 16
-    (pick (eqb op dirty-range) 32
-    (pick (eqb op copy-buffer) 48 0))))
+    pick (eqb op create-buffer) create-buffer-size
+    (pick (eqb op create-texture) create-texture-size
+    (pick (eqb op destroy) destroy-size
+    (pick (eqb op dirty-range) dirty-range-size
+    (pick (eqb op copy-buffer) copy-buffer-size 0))))
 
 -- "a known opcode whose size is not exactly its table size"
 unfoldable pub wrong-size : ℕ → ℕ → Bool

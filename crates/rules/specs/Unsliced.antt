@@ -1,19 +1,17 @@
 -- 01, "The unsliced rules": a whole submission over one memory. They "judge the opening, then all entries, then all packets,
 -- as lists, and know no steps or kept place".
-use mathlib.Core.Bool.{Bool, true, false}
 use mathlib.Core.List.{List, [], _∷_}
 use Prim.Native.Nat.{ℕ, suc, _+_}
 use lib.ListN.{length}
-use Rattle.machine.specs.Machine.{pick, Out}
-use Rattle.rules.specs.Numbers.{bad-ring}
+use Rattle.machine.specs.Machine.{Out}
 use Rattle.rules.specs.Table.{Judged, entries-of, judge-entries}
 use Rattle.rules.specs.Stream.{Piece, packets-of}
 use Rattle.rules.specs.Stream.Piece.{packet, misframed}
 use Rattle.rules.specs.Ring.{opening-of}
-use Rattle.rules.specs.Packets.{Holdings, Outcome, apply}
-use Rattle.rules.specs.State.{Work, State, World, with-regs, with-work, with-state}
+use Rattle.rules.specs.Packets.{Holdings, at-first, apply}
+use Rattle.rules.specs.State.{World, working}
 use Rattle.rules.specs.State.Work.{waiting}
-use Rattle.rules.specs.Settle.{faulted, quieted, refused-with}
+use Rattle.rules.specs.Settle.{settled-keeping, ring-refused, found-no-work}
 use Rattle.rules.specs.declared.Entry.{Entry}
 use Rattle.rules.specs.declared.Job.{Job}
 use Rattle.rules.specs.declared.Opened.{Opened}
@@ -63,21 +61,21 @@ submission m o h =
     (judge-packets (entries-of m (o .table)) h (packets-of m (o .stream)))
 
 abbrev pub finished : World → Job → List Entry → Holdings → Verdict → World
-finished w j es h Fine = with-state (with-work (waiting j es h) (w .state)) w
-finished w j es h (Broken r) = refused-with j (Broken r) w
+finished w j es h Fine = working (waiting j es h) w
+finished w j es h (Broken r) = settled-keeping j (Broken r) w
 
 abbrev pub concluding : World → Job → List Entry → Submission → Out World
 concluding w j es b = record { state = finished w j es (b .held) (b .verdict); units = b .units }
 
 -- what an opening comes to: finished with its error, or waiting for the host
 abbrev pub submitted-on : World → Opening → Out World
-submitted-on w BadRing =
-    record { state = with-state (with-regs (quieted (faulted bad-ring 0 (w .state .regs))) (w .state)) w; units = 1 }
-submitted-on w NoWork = record { state = with-state (with-regs (quieted (w .state .regs)) (w .state)) w; units = 1 }
-submitted-on w (Refused j r) = record { state = refused-with j (Broken r) w; units = 1 }
+submitted-on w BadRing = record { state = ring-refused w; units = 1 }
+submitted-on w NoWork = record { state = found-no-work w; units = 1 }
+submitted-on w (Refused j r) = record { state = settled-keeping j (Broken r) w; units = 1 }
 submitted-on w (Started o) =
     concluding w (o .job) (entries-of (w .mem) (o .table))
-    (submission (w .mem) o (record { resources = w .state .resources; records = [] }))
+    (submission (w .mem) o (at-first (w .state .resources)))
 
+-- of a device at rest, enabled and with the flag set
 unfoldable pub submitted : World → Out World
 submitted w = submitted-on w (opening-of (w .mem) (w .state .regs .ring) (w .state .regs .ringsize))

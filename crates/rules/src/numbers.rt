@@ -59,6 +59,11 @@ pub const VERSION: u32 = 65539;
 
 pub const FEATURES: u32 = 7;
 
+// What a version is divided by to give its major, and the major that is good.
+pub const MINORS: u32 = 65536;
+
+pub const GOOD_MAJOR: u32 = 1;
+
 // ---- opcodes
 pub const CREATE_BUFFER: u32 = 256;
 
@@ -70,9 +75,31 @@ pub const DIRTY_RANGE: u32 = 259;
 
 pub const COPY_BUFFER: u32 = 261;
 
+// ---- the bytes of each packet that we know
+pub const CREATE_BUFFER_SIZE: u32 = 40;
+
+pub const CREATE_TEXTURE_SIZE: u32 = 56;
+
+pub const DESTROY_SIZE: u32 = 16;
+
+pub const DIRTY_RANGE_SIZE: u32 = 32;
+
+pub const COPY_BUFFER_SIZE: u32 = 48;
+
 // ---- kinds of record
 pub const BACKS: u32 = 1;
 
 pub const READS: u32 = 2;
 
 pub const WRITES: u32 = 3;
+
+// ---- call answers
+pub const DONE: u32 = 0;
+
+pub const OTHER_MEMORY: u32 = 1;
+
+pub const NO_REGISTER: u32 = 2;
+
+pub const NOTHING_WAITS: u32 = 3;
+
+pub const NO_RECORD: u32 = 4;
