@@ -10,16 +10,15 @@ use Rattle.rules.specs.Numbers.{most}
 use Rattle.rules.specs.Lists.{Found, lookup, indexOf, pushed, removed}
 use Rattle.rules.specs.Lists.Found.{none, found}
 use Rattle.rules.specs.Table.{matching}
-use Rattle.rules.specs.Packets.{Holdings, Outcome, at-first, handle-of, live, range-of, apply}
+use Rattle.rules.specs.Packets.{Holdings, Outcome, at-first, handle-of, live, range-of, take-packet}
 use Rattle.rules.specs.declared.Entry.{Entry}
 use Rattle.rules.specs.declared.Resource.{Resource}
 use Rattle.rules.specs.declared.Record.{Record}
 use Rattle.rules.specs.declared.Refusal.{Refusal}
 use Rattle.rules.specs.declared.Verdict.the-variants.{Fine, Broken}
-use Rattle.rules.specs.declared.Packet.{Packet}
 use Rattle.words.specs.Keys.{Once, once-pushed, once-removed, lookup-pushed-other, lookup-removed-other, length-removed, lookup-none, index-bound}
 use Rattle.words.specs.Over.{below-or-not}
-use Rattle.packets.specs.Effects.{Fresh, InRange, apply-or}
+use Rattle.packets.specs.Effects.{Fresh, InRange, take-or}
 
 -- ---- every member of a list
 
@@ -112,9 +111,10 @@ module _ (es : List Entry) (h : Holdings) (s : Sound es h) where
   abbrev SoundAfter : Outcome → Type 0
   SoundAfter o = Sound es (o .held)
 
-  pub apply-sound : (p : Packet) → Sound es (apply es h p .held)
-  apply-sound =
-      apply-or SoundAfter h (λ r. s) es s
+  -- whatever the bytes left of a stream begin with
+  pub take-sound : (b : List ℕ) → Sound es (take-packet es h b .held)
+  take-sound =
+      take-or SoundAfter h (λ r. s) es s
       (λ r f. record { resources = resources-stored r f; few = s .few; inside = s .inside })
       (λ r e f i. record { resources = resources-stored r f; few = more-few _ (i .room); inside = records-more _ r e _ _ i })
       (λ k r e. record { resources = resources-removed k r e; few = s .few; inside = s .inside })
@@ -128,7 +128,7 @@ KeepsIfBroken h o = (r : Refusal) → o .verdict ≡ Broken r → o .held ≡ h
 fine-not-broken : (r : Refusal) → Fine ≡ Broken r → ⊥
 fine-not-broken r e = let z : _≡_ {A = ℕ} 0 1 = cc in omega arith
 
-pub refused-keeps-holdings : (es : List Entry) (h : Holdings) (p : Packet) → KeepsIfBroken h (apply es h p)
+pub refused-keeps-holdings : (es : List Entry) (h : Holdings) (b : List ℕ) → KeepsIfBroken h (take-packet es h b)
 refused-keeps-holdings es h =
-    apply-or (KeepsIfBroken h) h (λ r n e. refl) es (λ r e. refl) (λ _ _ r e. absurd (fine-not-broken r e)) (λ _ _ _ _ r e. absurd (fine-not-broken r e)) (λ _ _ _ r e. absurd (fine-not-broken r e))
+    take-or (KeepsIfBroken h) h (λ r n e. refl) es (λ r e. refl) (λ _ _ r e. absurd (fine-not-broken r e)) (λ _ _ _ _ r e. absurd (fine-not-broken r e)) (λ _ _ _ r e. absurd (fine-not-broken r e))
     (λ _ _ _ _ _ _ r e. absurd (fine-not-broken r e))

@@ -3,3 +3,4 @@ pub mod Fine
 pub mod Whole
 pub mod Submission
 pub mod Slices
+pub mod Sound
