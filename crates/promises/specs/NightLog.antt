@@ -11,7 +11,7 @@ use Rattle.rules.specs.Judging.{number}
 use Rattle.rules.specs.Layouts.{ring-header}
 use Rattle.rules.specs.Table.{entry-rules}
 use Rattle.rules.specs.Ring.{power-of-two, pending, slot, good-header, good-ring, opening-of}
-use Rattle.rules.specs.Shapes.{unit, side, halvings, full-chain, mip-side, blocks, tight, rows, mip-bytes, offset-of, good-shape, good-backed, texture-bytes, packed-size, index-of, start-of}
+use Rattle.rules.specs.Shapes.{block-bytes, block-side, halvings, full-chain, mip-side, blocks, tight, rows, mip-bytes, offset-of, good-shape, good-backed, texture-bytes, packed-size, index-of, start-of}
 use Rattle.rules.specs.Packets.{at-first, on-texture-packet, create, create-backed}
 use Rattle.rules.specs.State.{World, made, with-regs}
 use Rattle.rules.specs.Settle.{ended-by, signalled, faulted, quieted, next-head}
@@ -157,5 +157,5 @@ agree (c ∷ cs) = eqb (c .given) (c .says) && agree cs
 
 -- the rules give what the night log says, in every example
 pub night-log-holds : agree night-log ≡ true
-unfolding packed-size good-backed good-shape unit side halvings full-chain mip-side blocks tight rows mip-bytes offset-of texture-bytes start-of on-texture-packet create create-backed lookup ended-by signalled faulted quieted le bytesOf ring-header power-of-two good-header good-ring opening-of open-step step entry-rules night-log shape roomy creating start completed-nine after-signal zeros ring header rung entry-error agree
+unfolding packed-size good-backed good-shape block-bytes block-side halvings full-chain mip-side blocks tight rows mip-bytes offset-of texture-bytes start-of on-texture-packet create create-backed lookup ended-by signalled faulted quieted le bytesOf ring-header power-of-two good-header good-ring opening-of open-step step entry-rules night-log shape roomy creating start completed-nine after-signal zeros ring header rung entry-error agree
 night-log-holds = refl

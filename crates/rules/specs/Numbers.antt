@@ -70,6 +70,10 @@ slot-doublings = 10
 abbrev pub longest-side : ℕ
 longest-side = 16384
 
+-- it is 2 ^ 14, so no side is halved more often until it is 1
+abbrev pub most-halvings : ℕ
+most-halvings = 14
+
 abbrev pub most-layers : ℕ
 most-layers = 256
 

@@ -3,7 +3,7 @@ use mathlib.Core.Bool.{Bool, _&&_, _||_}
 use Prim.Native.Nat.{ℕ, zero, suc, _+_, _-_, _*_, _/_, _%_, _^_}
 use lib.Dec.{ltb, leb, eqb}
 use Rattle.machine.specs.Machine.{pick}
-use Rattle.rules.specs.Numbers.{longest-side, most-layers}
+use Rattle.rules.specs.Numbers.{longest-side, most-halvings, most-layers}
 use Rattle.rules.specs.declared.Shape.{Shape}
 use Rattle.rules.specs.declared.Start.{Start}
 use Rattle.rules.specs.declared.Start.the-variants.{At, Nowhere}
@@ -12,24 +12,24 @@ abbrev pub larger : ℕ → ℕ → ℕ
 larger a b = pick (ltb a b) b a
 
 -- "format 1, 2, 3 (4 bytes a pixel), 64 (8 bytes a 4x4 block), 65, 66 (16)": the bytes of a pixel or block; 0 for no format
-unfoldable pub unit : ℕ → ℕ
-unit f =
+unfoldable pub block-bytes : ℕ → ℕ
+block-bytes f =
     pick (eqb f 1 || (eqb f 2 || eqb f 3)) 4
     (pick (eqb f 64) 8
     (pick (eqb f 65 || eqb f 66) 16 0))
 
 -- the side of a block: a pixel is a block of side 1
-unfoldable pub side : ℕ → ℕ
-side f = pick (eqb f 64 || (eqb f 65 || eqb f 66)) 4 1
+unfoldable pub block-side : ℕ → ℕ
+block-side f = pick (eqb f 64 || (eqb f 65 || eqb f 66)) 4 1
 
 -- "halvings of the larger side until 1", of which there are at most k
 unfoldable pub halvings : ℕ → ℕ → ℕ
 halvings zero n = 0
 halvings (suc k) n = pick (leb n 1) 0 (suc (halvings k (n / 2)))
 
--- "the full chain (halvings of the larger side until 1, plus one)": no side is above 2^14, so there are at most 14
+-- "the full chain (halvings of the larger side until 1, plus one)"
 unfoldable pub full-chain : ℕ → ℕ → ℕ
-full-chain w h = suc (halvings 14 (larger w h))
+full-chain w h = suc (halvings most-halvings (larger w h))
 
 -- "Mip m has sides max(1, side >> m)"
 unfoldable pub mip-side : ℕ → ℕ → ℕ
@@ -37,11 +37,11 @@ mip-side s m = larger 1 (s / 2 ^ m)
 
 -- "blocks round up"
 unfoldable pub blocks : ℕ → ℕ → ℕ
-blocks f s = (s + (side f - 1)) / side f
+blocks f s = (s + (block-side f - 1)) / block-side f
 
 -- the bytes of a tight row of mip m; "minimum for mip 0" is that of mip 0
 unfoldable pub tight : Shape → ℕ → ℕ
-tight s m = blocks (s .format) (mip-side (s .width) m) * unit (s .format)
+tight s m = blocks (s .format) (mip-side (s .width) m) * block-bytes (s .format)
 
 -- "rows are block rows for 64 to 66"
 unfoldable pub rows : Shape → ℕ → ℕ
@@ -63,7 +63,7 @@ subresources s = s .layers * s .mips
 -- "width, height 1 to 16,384; mips 1 to the full chain; layers 1 to 256"
 unfoldable pub good-shape : Shape → Bool
 good-shape s =
-    ltb 0 (unit (s .format))
+    ltb 0 (block-bytes (s .format))
     && (leb 1 (s .width)
     && (leb (s .width) longest-side
     && (leb 1 (s .height)

@@ -11,7 +11,7 @@ use borrow.Author.Needs.{needs}
 use lib.ListN.{length, getD, take, drop, set, length-drop, take-append-drop}
 use lib.Seq.{sets, length-take-le, getD-take, getD-drop, ext-getD, take-all, take-suc}
 use Rattle.rules.specs.Lists.{over, pushed, removed}
-use Rattle.words.specs.Over.{below-or-not, sets-over, length-over, over-over, part-before, part-at, drop-after, getD-before, getD-within, getD-after}
+use Rattle.words.specs.Over.{below-or-not, sets-over, length-over, over-over, part-before, part-at, drop-after, getD-before, getD-within, getD-after, part-front, part-read}
 
 module _ {A : Type 0} where
   -- f at i, i + 1, .., n of them
@@ -254,3 +254,50 @@ module _ (w from to : ℕ) (l : List ℕ) where
     copy-end h q = rw (part, take-all k (rowAt w l from) (rw (length-rowAt w l from (pre .0)) q))
 
 pub ruleset moving = (copy-start, copy-length, copy-reads, copy-writes, copy-next, copy-end, needs)
+
+-- ---- copy_words
+
+-- the first n rows of one list, copied over another's, are the first n of the other
+pub table-copied : {E : Type 0} (f : List ℕ → E) (w n : ℕ) (l m : List ℕ) → w * n ≤ length l → table f w n (over 0 (take (w * n) l) m) ≡ table f w n l
+unfolding table rowAt over
+table-copied f w n l m room =
+    let long : length (take (w * n) l) ≡ w * n = length-take-le (w * n) l room in
+    tab-ext _ _ 0 n (λ k p q.
+    let fits : w * k + w ≤ w * n = row-end w k n (omega arith) in
+    ap f (part-front w (w * k) (take (w * n) l) (drop (0 + length (take (w * n) l)) m) (omega arith) ∙ part-read w (w * k) (w * n) 0 l fits (omega arith) ∙ rw zero-add))
+
+module _ (n : ℕ) (from l : List ℕ) where
+  -- after k words were copied
+  abbrev pub copied-words : ℕ → List ℕ
+  copied-words k = over 0 (take k from) l
+
+  pub words-start : l ≡ copied-words 0
+  unfolding over
+  words-start = refl
+
+  module _ (pre : (n ≤ length from) × (n ≤ length l)) (k : ℕ) (m : List ℕ) (part : m ≡ copied-words k) where
+    words-front : k ≤ n → length (take k from) ≡ k
+    words-front h = length-take-le k from (omega arith)
+
+    pub words-length : k ≤ n → length m ≡ length l
+    words-length h =
+        let e : length (take k from) ≡ k = words-front h in
+        rw (part, length-over 0 (take k from) l (omega arith))
+
+    -- the word of a turn is within the list
+    pub words-writes : k < n → k < length m
+    words-writes h = let same : length m ≡ length l = words-length (omega arith) in omega arith
+
+    pub words-next : k < n → set m k (getD from k 0) ≡ copied-words (k + 1)
+    words-next h =
+        let e : length (take k from) ≡ k = words-front (omega arith) in
+        let same : length m ≡ length l = words-length (omega arith) in
+        let x : ℕ = getD from k 0 in
+        let long : k < length from = omega arith in
+        rw (add-one, take-suc from k 0 long)
+        (sets-over k (x ∷ []) m (omega arith) ∙ rw part (over-over 0 k (take k from) (x ∷ []) l (omega arith) (omega arith)))
+
+    pub words-end : k ≤ n → n ≤ k → m ≡ over 0 (take n from) l
+    words-end h q = let e : k ≡ n = omega arith in part ∙ ap (λ i. over 0 (take i from) l) e
+
+pub ruleset copying = (words-start, words-length, words-writes, words-next, words-end, needs)

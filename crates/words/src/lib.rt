@@ -2,7 +2,7 @@
 // crate reads, writes and finds its numbers with.
 ghost use mathlib.Core.Path.{_≡_};
 ghost use Prim.Native.Nat.{_+_, _*_, _/_, _%_, _≤_, _<_};
-ghost use lib.ListN.{length};
+ghost use lib.ListN.{length, take};
 ghost use Rattle.rules.specs.Bytes.{bytesOf, field};
 ghost use Rattle.rules.specs.Lists.{over, indexOf};
 ghost use Rattle.words.specs.Rows.{rowAt, table, firstWord};
@@ -102,6 +102,18 @@ pub fn move_row(rows: &mut [u64], width: usize, from: usize, to: usize)
     let mut k: usize = 0;
     while k < width {
         rows[target + k] = rows[source + k];
+        k += 1;
+    }
+}
+
+// Copies the first `n` words of one list over another's.
+pub fn copy_words(from: &[u64], to: &mut [u64], n: usize)
+    requires { ⌜ (n ≤ length (now from)) × (n ≤ length (now to)) ⌝ }
+    ensures { λ _. ⌜ now (to .exit) ≡ over 0 (take n (now (from .entry))) (now (to .entry)) ⌝ }
+{
+    let mut k: usize = 0;
+    while k < n {
+        to[k] = from[k];
         k += 1;
     }
 }

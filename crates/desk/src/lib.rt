@@ -1,0 +1,19 @@
+// The exports for a host that is not Rattle: plain numbers and lent bytes in, numbers out.
+// Each only hands its words on, so that what it promises is the promise of the crate behind it.
+ghost use mathlib.Core.Path.{_≡_};
+ghost use Rattle.rules.specs.Shapes.{packed-size};
+
+// For the emulator's host: the bytes of a backed texture, 0 for a bad shape or pitch.
+#[no_mangle]
+pub extern "C" fn zelezmut_packed_size(
+    format: u32,
+    width: u32,
+    height: u32,
+    mips: u32,
+    layers: u32,
+    pitch: u32,
+) -> u64
+    ensures { λ r. ⌜ r ≡ packed-size (record { format = format; width = width; height = height; mips = mips; layers = layers }) pitch ⌝ }
+{
+    shapes::packed_size(format, width, height, mips, layers, pitch)
+}

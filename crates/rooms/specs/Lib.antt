@@ -1,0 +1,3 @@
+pub mod Views
+pub mod Resources
+pub mod Records
