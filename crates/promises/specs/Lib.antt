@@ -1,5 +1,4 @@
 pub mod NightLog
-pub mod Fine
 pub mod Whole
 pub mod Submission
 pub mod Slices

@@ -34,7 +34,7 @@ use Rattle.rules.specs.declared.Opening.{Opening}
 use Rattle.rules.specs.declared.Opening.the-variants.{BadRing, NoWork, Refused, Started}
 use Rattle.words.specs.Keys.{Once, once-nil, once-pushed, lookup-nil}
 use Rattle.packets.specs.Held.{SoundResources, Sound, first-sound, take-sound}
-use Rattle.promises.specs.Fine.{fine-later, kept-rule, both-left}
+use Rattle.laws.specs.Fine.{fine-later, kept-rule, both-left}
 
 -- ---- the entries of a table: at most 64, each id once
 

@@ -34,7 +34,7 @@ use Rattle.rules.specs.declared.Verdict.{Verdict}
 use Rattle.rules.specs.declared.Verdict.the-variants.{Fine, Broken}
 use Rattle.rules.specs.declared.Opening.{Opening}
 use Rattle.rules.specs.declared.Opening.the-variants.{BadRing, NoWork, Refused, Started}
-use Rattle.promises.specs.Fine.{fine-first, fine-later, kept-rule, kept-only, both-left}
+use Rattle.laws.specs.Fine.{fine-first, fine-later, kept-rule, kept-only, both-left}
 use Rattle.promises.specs.Whole.{unit-more, unit-last, reading, after-table, entries-end, placed, after-stream, packets-end}
 
 -- ---- what was opened lies within memory

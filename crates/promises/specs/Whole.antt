@@ -18,7 +18,7 @@ use Rattle.rules.specs.Judging.{rule}
 use Rattle.rules.specs.Stream.{frame-rules, framed, frame-of, packet-of, size-of, before, cut, stream-bytes}
 use Rattle.rules.specs.Packets.{Holdings, at-first, apply, apply-frame, take-packet}
 use Rattle.rules.specs.Unsliced.{Reckoned, one-further, judge-packets}
-use Rattle.promises.specs.Fine.{fine-first, fine-later, kept-rule}
+use Rattle.laws.specs.Fine.{fine-first, fine-later, kept-rule}
 use Rattle.rules.specs.State.{Work, World, working}
 use Rattle.rules.specs.State.Work.{entries, packets, waiting}
 use Rattle.rules.specs.Settle.{settled, settled-keeping}

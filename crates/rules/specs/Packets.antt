@@ -9,7 +9,7 @@ use Rattle.rules.specs.Numbers.{bad-handle, too-many, bad-shape, not-in-
 use Rattle.rules.specs.Lists.{Found, lookup, indexOf, pushed, removed}
 use Rattle.rules.specs.Lists.Found.{none, found}
 use Rattle.rules.specs.Judging.{refusal}
-use Rattle.rules.specs.Shapes.{good-shape, good-backed, texture-bytes}
+use Rattle.rules.specs.Shapes.{good-shape, good-backed, packed-size}
 use Rattle.rules.specs.Table.{matching}
 use Rattle.rules.specs.Stream.{frame-of, packet-of}
 use Rattle.rules.specs.declared.Entry.{Entry}
@@ -89,7 +89,7 @@ on-entry (found e) h later = later e
 
 abbrev pub kind-bytes : Kind → ℕ → ℕ
 kind-bytes (Bytes n) pitch = n
-kind-bytes (Picture s) pitch = texture-bytes s pitch
+kind-bytes (Picture s) pitch = packed-size s pitch
 
 -- the bytes of a resource
 abbrev pub resource-bytes : Resource → ℕ

@@ -64,6 +64,19 @@ pub const MINORS: u32 = 65536;
 
 pub const GOOD_MAJOR: u32 = 1;
 
+// ---- the bytes of each header, and of what a guest's table holds
+pub const RING_HEADER_SIZE: u32 = 64;
+
+pub const DESCRIPTOR_SIZE: u32 = 64;
+
+pub const TABLE_HEADER_SIZE: u32 = 24;
+
+pub const ENTRY_SIZE: u32 = 32;
+
+pub const STREAM_HEADER_SIZE: u32 = 24;
+
+pub const PACKET_HEADER_SIZE: u32 = 8;
+
 // ---- opcodes
 pub const CREATE_BUFFER: u32 = 256;
 

@@ -4,10 +4,12 @@ use mathlib.Core.Path.{_≡_, refl, sym, ap, _∙_}
 use mathlib.Core.List.{List, [], _∷_, _++_}
 use mathlib.Core.Logic.{_⊎_, inl, inr, ⊎-elim}
 use Prim.Native.Nat.{ℕ, zero, suc, _+_, _*_, _-_, _≤_, _<_, _%_, _^_}
-use native.Mathlib.Nat.{add-zero, zero-add, add-suc, suc-add, mul-le-mul-left, mul-suc, sub-zero}
+use native.Mathlib.Nat.{add-zero, zero-add, add-suc, suc-add, mul-le-mul-left, mul-suc, sub-zero, mul-le-mul}
 use native.Mathlib.Numerals.{add-one}
 use native.Mathlib.Omega.{arith}
 use borrow.Author.Needs.{needs}
+use mir.Syntax.{w64}
+use mir.Val.{Fits}
 use lib.ListN.{length, getD, take, drop, set, length-drop, take-append-drop}
 use lib.Seq.{sets, length-take-le, getD-take, getD-drop, ext-getD, take-all, take-suc}
 use Rattle.rules.specs.Lists.{over, pushed, removed}
@@ -301,3 +303,21 @@ module _ (n : ℕ) (from l : List ℕ) where
     words-end h q = let e : k ≡ n = omega arith in part ∙ ap (λ i. over 0 (take i from) l) e
 
 pub ruleset copying = (words-start, words-length, words-writes, words-next, words-end, needs)
+
+-- ---- row_offset: two words of four bytes, multiplied, leave room for two more
+module _ (header i stride : ℕ) (o : header < 2 ^ 32) (p : i < 2 ^ 32) (q : stride < 2 ^ 32) where
+  product-room : i * stride + (2 ^ 33 - 1) ≤ 2 ^ 64
+  product-room =
+      let far : i * stride ≤ 4294967295 * 4294967295 = mul-le-mul {n₂ = 4294967295} {m₂ = 4294967295} (omega arith) (omega arith) in
+      omega arith
+
+  pub offset-product : Fits w64 (i * stride)
+  offset-product = record { fits = omega (arith, product-room) }
+
+  pub offset-sum : Fits w64 (header + i * stride)
+  offset-sum = record { fits = omega (arith, product-room) }
+
+  pub offset-is : (header + i * stride ≡ header + i * stride) × (header + i * stride + 4294967296 ≤ 18446744073709551616)
+  offset-is = (refl, omega (arith, product-room))
+
+pub ruleset offsets = (offset-product, offset-sum, offset-is, needs)

@@ -117,3 +117,10 @@ pub fn copy_words(from: &[u64], to: &mut [u64], n: usize)
         k += 1;
     }
 }
+
+// Where row `i` of a guest's table stands, by the table's own header size and stride. Nothing wraps, and another word still fits.
+pub fn row_offset(header: u32, i: u32, stride: u32) -> u64
+    ensures { λ r. ⌜ (r ≡ header + i * stride) × (r + 4294967296 ≤ 18446744073709551616) ⌝ }
+{
+    header as u64 + i as u64 * stride as u64
+}

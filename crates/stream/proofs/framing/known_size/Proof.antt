@@ -1,0 +1,25 @@
+-- `known_size` meets its contract, a law for each row of the table of opcodes. Assumes nothing.
+use Rattle.stream.specs.Fields.{knowing}
+use Rattle.stream.proofs.framing.known_size.Statement.{statement}
+use Rattle.stream.proofs.framing.known_size.Tie as tie
+
+returns : tie.Need-returns
+returns c = search knowing
+
+returns-2 : tie.Need-returns-2
+returns-2 c = search knowing
+
+returns-3 : tie.Need-returns-3
+returns-3 c = search knowing
+
+returns-4 : tie.Need-returns-4
+returns-4 c = search knowing
+
+returns-5 : tie.Need-returns-5
+returns-5 c = search knowing
+
+returns-6 : tie.Need-returns-6
+returns-6 c = search knowing
+
+pub known-size-spec : {M : Type 1} → statement M
+known-size-spec = tie.close (tie.spec returns returns-2 returns-3 returns-4 returns-5 returns-6)

@@ -1,0 +1,185 @@
+-- The frame of a packet: what the framer asks for, and what a whole packet is known by. Assumes nothing.
+use mathlib.Core.Path.{_≡_, refl, sym, _∙_}
+use mathlib.Core.Bool.{Bool, true, false, not, _&&_}
+use mathlib.Core.List.{List}
+use mathlib.Core.Logic.{⊎-elim}
+use Prim.Native.Nat.{ℕ, _+_, _-_, _%_, _≤_, _<_}
+use native.Mathlib.Omega.{arith}
+use borrow.Author.Needs.{needs}
+use borrow.Author.Tests.{eq-eqb, ne-eqb, lt-ltb, le-ltb, ltb-false, eqb-true, not-false}
+use lib.Dec.{ltb, eqb}
+use lib.ListN.{length, take, drop, length-drop}
+use lib.Seq.{drop-drop, length-take-le}
+use Rattle.words.specs.Keys.{same-or-not}
+use Rattle.rules.specs.Numbers.{bad-packet}
+use Rattle.stream.specs.Kept.{all-kept}
+use Rattle.rules.specs.Judging.{refusal, rule, _▹_}
+use Rattle.rules.specs.Layouts.{word, packet-header-size}
+use Rattle.rules.specs.Stream.{known-size, wrong-size, frame-rules, framed, frame-of, packet-of}
+use Rattle.rules.specs.declared.Verdict.{Verdict}
+use Rattle.rules.specs.declared.Verdict.the-variants.{Fine, Broken}
+use Rattle.rules.specs.declared.Packet.{Packet}
+use Rattle.rules.specs.declared.Frame.{Frame}
+use Rattle.rules.specs.declared.Frame.the-variants.{Whole, Misframed}
+
+-- ---- frame_at
+
+module _ (m : List ℕ) (at : ℕ) where
+  few : length m - at < packet-header-size → Misframed (refusal bad-packet) ≡ frame-of (drop at m)
+  unfolding frame-of frame-rules
+  few h = rw (length-drop, lt-ltb (length m - at) packet-header-size h)
+
+  pub past-stream : length m < at → Misframed (refusal bad-packet) ≡ frame-of (drop at m)
+  past-stream h = few (omega arith)
+
+  module _ (inside : at ≤ length m) where
+    pub last-bytes : length m - at < packet-header-size → Misframed (refusal bad-packet) ≡ frame-of (drop at m)
+    last-bytes h = few h
+
+    module _ (head : packet-header-size ≤ length m - at) (op size room : ℕ) (po : op ≡ word m at) (ps : size ≡ word m (at + 4)) (pr : room ≡ size) where
+      -- the rules that are left, put to what was read
+      abbrev later : Verdict
+      later =
+          rule bad-packet (ltb size packet-header-size)
+          ▹ rule bad-packet (not (eqb (size % 4) 0))
+          ▹ rule bad-packet (ltb (length m - at) size)
+          ▹ rule bad-packet (wrong-size op size)
+
+      frame-is : frame-of (drop at m) ≡ framed later op size
+      unfolding frame-of frame-rules
+      frame-is = rw (length-drop, le-ltb (length m - at) packet-header-size head, drop-drop, ps, po)
+
+      pub small-size : room < packet-header-size → Misframed (refusal bad-packet) ≡ frame-of (drop at m)
+      small-size h = rw (frame-is, lt-ltb size packet-header-size (omega arith))
+
+      module _ (s₁ : packet-header-size ≤ room) where
+        pub odd-size : (size % 4 ≡ 0 → ⊥) → Misframed (refusal bad-packet) ≡ frame-of (drop at m)
+        odd-size h = rw (frame-is, le-ltb size packet-header-size (omega arith), ne-eqb (size % 4) 0 h)
+
+        module _ (s₂ : size % 4 ≡ 0) where
+          pub past-end : length m - at < room → Misframed (refusal bad-packet) ≡ frame-of (drop at m)
+          past-end h = rw (frame-is, le-ltb size packet-header-size (omega arith), eq-eqb (size % 4) 0 s₂, lt-ltb (length m - at) size (omega arith))
+
+          module _ (s₃ : room ≤ length m - at) (wrong : Bool) (pw : wrong ≡ wrong-size op size) where
+            sized : frame-of (drop at m) ≡ framed (rule bad-packet wrong) op size
+            sized =
+                rw (
+                  frame-is,
+                  le-ltb size packet-header-size (omega arith),
+                  eq-eqb (size % 4) 0 s₂,
+                  le-ltb (length m - at) size (omega arith),
+                  pw,
+                )
+
+            pub other-size : wrong ≡ true → Misframed (refusal bad-packet) ≡ frame-of (drop at m)
+            other-size h = rw (sized, h)
+
+            pub whole : wrong ≡ false → Whole op size ≡ frame-of (drop at m)
+            whole h = rw (sized, h)
+
+pub ruleset framing-packets = (past-stream, last-bytes, small-size, odd-size, past-end, other-size, whole, needs)
+
+-- ---- wrong_size
+
+module _ (op size known : ℕ) (pk : known ≡ known-size op) where
+  pub unknown-right : known ≡ 0 → false ≡ wrong-size op size
+  unfolding wrong-size
+  unknown-right h = rw (← pk, eq-eqb known 0 h)
+
+  pub known-right : (known ≡ 0 → ⊥) → not (eqb known size) ≡ wrong-size op size
+  unfolding wrong-size
+  known-right h = rw (← pk, ne-eqb known 0 h)
+
+pub ruleset sizing = (unknown-right, known-right, needs)
+
+-- ---- what a whole packet is known by
+
+framed-fine : (v : Verdict) (o s op size : ℕ) → framed v o s ≡ Whole op size → (v ≡ Fine) × ((o ≡ op) × (s ≡ size))
+framed-fine Fine o s op size e = (refl, (cc, cc))
+framed-fine (Broken r) o s op size e = let z : _≡_ {A = ℕ} 0 1 = cc in absurd (omega arith)
+
+one-of : (a b : Bool) → not a && not b ≡ false → a ≡ false → b ≡ true
+one-of true b e f = let z : _≡_ {A = ℕ} 0 1 = cc in absurd (omega arith)
+one-of false true e f = refl
+one-of false false e f = let z : _≡_ {A = ℕ} 0 1 = cc in absurd (omega arith)
+
+pub record Sound (b : List ℕ) (op size : ℕ) : Type 0 where
+  pub opcode : op ≡ word b 0
+  pub stated : size ≡ word b 4
+  pub header : packet-header-size ≤ size
+  pub inside : size ≤ length b
+  pub fours : size % 4 ≡ 0
+  -- "a known opcode whose size is exactly its table size"
+  pub exact : (known-size op ≡ 0 → ⊥) → known-size op ≡ size
+  pub known : known-size op ≤ size
+
+right-size : (op size : ℕ) → wrong-size op size ≡ false → (known-size op ≡ 0 → ⊥) → known-size op ≡ size
+unfolding wrong-size
+right-size op size w n = eqb-true _ _ (one-of (eqb (known-size op) 0) (eqb (known-size op) size) w (ne-eqb _ _ n))
+
+-- a whole packet has a header, ends within the bytes left, and has room for the fields of its opcode
+pub frame-sound : (b : List ℕ) (op size : ℕ) → frame-of b ≡ Whole op size → Sound b op size
+unfolding frame-of frame-rules
+frame-sound b op size e =
+    let f = framed-fine (frame-rules b) (word b 0) (word b 4) op size e in
+    let k =
+    all-kept bad-packet (ltb (length b) packet-header-size) (ltb (word b 4) packet-header-size) (not (eqb (word b 4 % 4) 0)) (ltb (length b) (word b 4))
+    (wrong-size (word b 0) (word b 4)) (f .0) in
+    let head : packet-header-size ≤ word b 4 = ltb-false (word b 4) packet-header-size (k .1 .0) in
+    let end : word b 4 ≤ length b = ltb-false (length b) (word b 4) (k .1 .1 .1 .0) in
+    let four : word b 4 % 4 ≡ 0 = eqb-true (word b 4 % 4) 0 (not-false _ (k .1 .1 .0)) in
+    let right : (known-size op ≡ 0 → ⊥) → known-size op ≡ size = right-size op size (rw (f .1 .0, f .1 .1) at (k .1 .1 .1 .1)) in
+    record {
+      opcode = sym (f .1 .0);
+      stated = sym (f .1 .1);
+      header = rw (f .1 .1) at head;
+      inside = rw (f .1 .1) at end;
+      fours = rw (f .1 .1) at four;
+      exact = right;
+      known = ⊎-elim (λ z. omega arith) (λ n. let s : known-size op ≡ size = right n in omega arith) (same-or-not (known-size op) 0);
+    }
+
+-- ---- packet_part, packet_at
+
+pub part-is : (at size : ℕ) (m : List ℕ) → take (at + size - at) (drop at m) ≡ take size (drop at m)
+part-is at size m = let n : at + size - at ≡ size = omega arith in rw n
+
+module _ (m : List ℕ) (at op size room : ℕ) (whole : frame-of (drop at m) ≡ Whole op size) (same : room ≡ size) where
+  -- a whole packet ends within the stream
+  pub part-room : at + room ≤ length m
+  part-room =
+      let s = frame-sound (drop at m) op size whole in
+      let in-left : size ≤ length m - at = rw length-drop at (s .inside) in
+      let some : 8 ≤ size = s .header in
+      omega arith
+
+  module _ (p : List ℕ) (own : p ≡ take room (drop at m)) where
+    pub part-known : known-size op ≤ length p
+    part-known =
+        let s = frame-sound (drop at m) op size whole in
+        let len : length p ≡ room = rw own (length-take-le room (drop at m) (rw same (s .inside))) in
+        omega (arith, s .known)
+
+    pub says-framed : (r : Packet) → r ≡ packet-of op p → r ≡ packet-of op (take size (drop at m))
+    says-framed r h = rw (h, own, same)
+
+pub ruleset packet-reading = (part-is, part-room, part-known, says-framed, needs)
+
+-- ---- a loop over packets, from what frame_at says and the match on it
+
+module _ (m : List ℕ) (at op size : ℕ) (f : Frame) (said : f ≡ frame-of (drop at m)) (met : f ≡ Whole op size) where
+  pub is-whole : frame-of (drop at m) ≡ Whole op size
+  is-whole = sym said ∙ met
+
+  module _ (room : ℕ) (same : room ≡ size) where
+    pub next-inside : at + room ≤ length m
+    next-inside = part-room m at op size room is-whole same
+
+    -- each packet brings the end nearer
+    pub next-nearer : length m - (at + room) < length m - at
+    next-nearer =
+        let head : packet-header-size ≤ size = frame-sound (drop at m) op size is-whole .header in
+        let inside : at + room ≤ length m = next-inside in
+        omega arith
+
+pub ruleset going-on = (is-whole, next-inside, next-nearer, needs)

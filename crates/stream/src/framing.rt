@@ -1,0 +1,98 @@
+// Where a packet of the stream ends, judged from its first eight bytes, and its own part of the stream.
+// A reader goes on by the frame's size until no byte is left.
+ghost use mathlib.Core.Path.{_≡_};
+ghost use Prim.Native.Nat.{_+_, _≤_};
+ghost use lib.ListN.{length, take, drop};
+ghost use Rattle.rules.specs.Stream.{known-size, wrong-size, frame-of, packet-of};
+ghost use Rattle.rules.specs.declared.Frame.the-variants.{Whole};
+use crate::fields::packet_from;
+use rules::Frame;
+use rules::Packet;
+use rules::Refusal;
+use rules::numbers::BAD_PACKET;
+use rules::numbers::COPY_BUFFER;
+use rules::numbers::CREATE_BUFFER;
+use rules::numbers::CREATE_TEXTURE;
+use rules::numbers::DESTROY;
+use rules::numbers::DIRTY_RANGE;
+use words::u32_at;
+
+const PACKET_HEADER_SIZE: usize = 8;
+
+fn place(x: u32) -> usize
+    ensures { λ r. ⌜ r ≡ x ⌝ }
+{
+    x as usize
+}
+
+// The size that the table of opcodes gives; 0 for an opcode that we do not know.
+fn known_size(op: u32) -> u32
+    ensures { λ r. ⌜ r ≡ known-size op ⌝ }
+{
+    match op {
+        CREATE_BUFFER => 40,
+        CREATE_TEXTURE => 56,
+        DESTROY => 16,
+        DIRTY_RANGE => 32,
+        COPY_BUFFER => 48,
+        _ => 0,
+    }
+}
+
+// Whether an opcode that we know comes with another size than its own.
+fn wrong_size(op: u32, size: u32) -> bool
+    ensures { λ r. ⌜ r ≡ wrong-size op size ⌝ }
+{
+    let known = known_size(op);
+    if known == 0 {
+        return false;
+    }
+    known != size
+}
+
+// Frames the packet at a place of the stream, whatever the bytes and the place are.
+pub fn frame_at(stream: &[u8], at: usize) -> Frame
+    ensures { λ r. ⌜ r ≡ frame-of (drop at (now (stream .entry))) ⌝ }
+{
+    let end = stream.len();
+    if at > end {
+        return Frame::Misframed(Refusal { code: BAD_PACKET }); // no such place
+    }
+    let left = end - at;
+    if left < PACKET_HEADER_SIZE {
+        return Frame::Misframed(Refusal { code: BAD_PACKET }); // no whole header is left
+    }
+    let op = u32_at(stream, at);
+    let size = u32_at(stream, at + 4);
+    let room = place(size);
+    if room < PACKET_HEADER_SIZE {
+        return Frame::Misframed(Refusal { code: BAD_PACKET }); // shorter than its header
+    }
+    if size % 4 != 0 {
+        return Frame::Misframed(Refusal { code: BAD_PACKET }); // not a multiple of 4
+    }
+    if room > left {
+        return Frame::Misframed(Refusal { code: BAD_PACKET }); // past the end
+    }
+    if wrong_size(op, size) {
+        return Frame::Misframed(Refusal { code: BAD_PACKET }); // not its table size
+    }
+    Frame::Whole(op, size)
+}
+
+// A packet's own part of the stream.
+pub fn packet_part(stream: &[u8], at: usize, size: usize) -> &[u8]
+    requires { ⌜ at + size ≤ length (now stream) ⌝ }
+    ensures { λ r. ⌜ now r ≡ take size (drop at (now (stream .entry))) ⌝ }
+{
+    let end = at + size;
+    &stream[at..end]
+}
+
+// Reads a packet that was framed: what it says is in its own part.
+pub fn packet_at(stream: &[u8], at: usize, op: u32, size: u32) -> Packet
+    requires { ⌜ frame-of (drop at (now stream)) ≡ Whole op size ⌝ }
+    ensures { λ r. ⌜ r ≡ packet-of op (take size (drop at (now (stream .entry)))) ⌝ }
+{
+    packet_from(op, packet_part(stream, at, place(size)))
+}

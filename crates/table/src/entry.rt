@@ -1,0 +1,151 @@
+// One entry of a table: read once, judged, and kept as a row of four words: id, flags, gpa, end.
+// The kept rows are what later packets resolve their ids against.
+use crate::header::ENTRY_SIZE;
+use crate::header::entry_offset;
+use rules::Entry;
+use rules::Refusal;
+use rules::Table;
+use rules::Verdict;
+use rules::numbers::BAD_ENTRY;
+use rules::numbers::MOST;
+use rules::numbers::TWICE_IN_TABLE;
+ghost use mathlib.Core.Path.{_≡_};
+ghost use Prim.Native.Nat.{_+_, _-_, _≤_, _<_};
+ghost use lib.ListN.{length};
+ghost use Rattle.rules.specs.Layouts.{entry, entry-size};
+ghost use Rattle.rules.specs.Lists.{indexOf, pushed};
+ghost use Rattle.rules.specs.Numbers.{most};
+ghost use Rattle.rules.specs.Table.{entry-id, entry-rules, take-entry};
+ghost use Rattle.words.specs.Rows.{rowAt};
+ghost use Rattle.table.specs.Views.{RowRead, entriesOf, takenOf};
+ghost use Rattle.table.specs.Entry.{sound as sound-entry};
+
+// The words of a kept entry.
+const WORDS: usize = 4;
+
+// How far it is from one place up to another: nothing if that is below.
+fn up_to(from: u64, to: u64) -> u64
+    ensures { λ r. ⌜ (r ≡ to - from) × (from + r < 18446744073709551616) ⌝ }
+{
+    if to < from { 0 } else { to - from }
+}
+
+// The kept entry of row i. Its range ends below 2^64, whatever words stand there.
+pub fn entry_row(kept: &[u64; 256], i: usize) -> Entry
+    requires { ⌜ i < most ⌝ }
+    ensures { λ r. ⌜ RowRead (rowAt 4 (now (kept .entry)) i) r ⌝ }
+{
+    let b = WORDS * i;
+    let gpa = kept[b + 2];
+    Entry {
+        id: words::low32(kept[b]),
+        flags: words::low32(kept[b + 1]),
+        gpa,
+        size: up_to(gpa, kept[b + 3]),
+    }
+}
+
+// The place of the kept entry that has an id, or `n`.
+pub fn find_entry(kept: &[u64; 256], n: usize, id: u32) -> usize
+    requires { ⌜ n ≤ most ⌝ }
+    ensures { λ r. ⌜ r ≡ indexOf entry-id id (entriesOf n (now (kept .entry))) ⌝ }
+{
+    words::find_row(kept, WORDS, n, id)
+}
+
+// Reads each field of an entry once.
+pub fn entry_at(mem: &[u8], at: usize) -> Entry
+    requires { ⌜ at + entry-size ≤ length (now mem) ⌝ }
+    ensures { λ r. ⌜ r ≡ entry (now (mem .entry)) at ⌝ }
+{
+    Entry {
+        id: words::u32_at(mem, at),
+        flags: words::u32_at(mem, at + 4),
+        gpa: words::u64_at(mem, at + 8),
+        size: words::u64_at(mem, at + 16),
+    }
+}
+
+// Whether an entry is good by itself: it has an id and bytes, and they lie within memory.
+pub fn sound(memory: u64, e: Entry) -> bool
+    ensures { λ r. ⌜ r ≡ sound-entry memory e ⌝ }
+{
+    if e.id == 0 {
+        return false;
+    }
+    if e.size == 0 {
+        return false;
+    }
+    if e.size > memory {
+        return false;
+    }
+    if e.gpa > memory - e.size {
+        return false;
+    }
+    true
+}
+
+// Judges an entry that was read, after `n` that were kept.
+pub fn judge_entry(memory: u64, e: Entry, kept: &[u64; 256], n: usize) -> Verdict
+    requires { ⌜ n ≤ most ⌝ }
+    ensures { λ r. ⌜ r ≡ entry-rules memory (entriesOf n (now (kept .entry))) e ⌝ }
+{
+    if !sound(memory, e) {
+        return Verdict::Broken(Refusal { code: BAD_ENTRY });
+    }
+    let place = find_entry(kept, n, e.id);
+    if place < n {
+        return Verdict::Broken(Refusal {
+            code: TWICE_IN_TABLE,
+        });
+    }
+    Verdict::Fine
+}
+
+// A field of four bytes as a word of eight, known to be small.
+fn wide(x: u32) -> u64
+    ensures { λ r. ⌜ (r ≡ x) × (r < 4294967296) ⌝ }
+{
+    x as u64
+}
+
+// Keeps an entry after `n` others.
+fn push_entry(kept: &mut [u64; 256], n: usize, e: Entry)
+    requires { ⌜ (n < most) × (e .gpa + e .size < 18446744073709551616) ⌝ }
+    ensures { λ _. ⌜ entriesOf (n + 1) (now (kept .exit)) ≡ pushed (entriesOf n (now (kept .entry))) e ⌝ }
+{
+    // costs nothing, and says how many words there are
+    let all = &kept[..];
+    let b = WORDS * n;
+    kept[b] = wide(e.id);
+    kept[b + 1] = wide(e.flags);
+    kept[b + 2] = e.gpa;
+    kept[b + 3] = e.gpa + e.size;
+}
+
+// One step: judges the entry after the `n` kept ones, over the memory lent at this step, and keeps it if it is fine.
+pub fn take_entry(mem: &[u8], t: Table, kept: &mut [u64; 256], n: usize) -> Verdict
+    requires { ⌜ n ≤ most ⌝ }
+    ensures { λ r. ⌜ takenOf r n (now (kept .exit)) ≡ take-entry (now (mem .entry)) t (entriesOf n (now (kept .entry))) ⌝ }
+{
+    let memory = mem.len() as u64;
+    if n >= MOST {
+        return Verdict::Broken(Refusal { code: BAD_ENTRY });
+    }
+    let offset = entry_offset(t.stride, n as u32);
+    if memory < offset + ENTRY_SIZE {
+        return Verdict::Broken(Refusal { code: BAD_ENTRY });
+    }
+    if t.gpa > memory - (offset + ENTRY_SIZE) {
+        return Verdict::Broken(Refusal { code: BAD_ENTRY });
+    }
+    let e = entry_at(mem, (t.gpa + offset) as usize);
+    let verdict = judge_entry(memory, e, kept, n);
+    match verdict {
+        Verdict::Fine => {
+            push_entry(kept, n, e);
+            Verdict::Fine
+        }
+        Verdict::Broken(why) => Verdict::Broken(why),
+    }
+}
