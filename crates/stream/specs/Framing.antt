@@ -22,6 +22,47 @@ use Rattle.rules.specs.declared.Packet.{Packet}
 use Rattle.rules.specs.declared.Frame.{Frame}
 use Rattle.rules.specs.declared.Frame.the-variants.{Whole, Misframed}
 
+-- the frame of a packet whose header is there, from the number of bytes left and what the header says
+unfoldable pub frame-by : ℕ → ℕ → ℕ → Frame
+frame-by left op size =
+    framed
+    (rule bad-packet (ltb size packet-header-size)
+    ▹ rule bad-packet (not (eqb (size % 4) 0))
+    ▹ rule bad-packet (ltb left size)
+    ▹ rule bad-packet (wrong-size op size))
+    op
+    size
+
+-- ---- frame_by
+
+module _ (left op size room : ℕ) (same : room ≡ size) where
+  pub small-size : room < packet-header-size → Misframed (refusal bad-packet) ≡ frame-by left op size
+  unfolding frame-by
+  small-size h = rw (lt-ltb size packet-header-size (omega arith))
+
+  module _ (s₁ : packet-header-size ≤ room) where
+    pub odd-size : (size % 4 ≡ 0 → ⊥) → Misframed (refusal bad-packet) ≡ frame-by left op size
+    unfolding frame-by
+    odd-size h = rw (le-ltb size packet-header-size (omega arith), ne-eqb (size % 4) 0 h)
+
+    module _ (s₂ : size % 4 ≡ 0) where
+      pub past-end : left < room → Misframed (refusal bad-packet) ≡ frame-by left op size
+      unfolding frame-by
+      past-end h = rw (le-ltb size packet-header-size (omega arith), eq-eqb (size % 4) 0 s₂, lt-ltb left size (omega arith))
+
+      module _ (s₃ : room ≤ left) (wrong : Bool) (pw : wrong ≡ wrong-size op size) where
+        by-size : frame-by left op size ≡ framed (rule bad-packet wrong) op size
+        unfolding frame-by
+        by-size = rw (le-ltb size packet-header-size (omega arith), eq-eqb (size % 4) 0 s₂, le-ltb left size (omega arith), pw)
+
+        pub other-size : wrong ≡ true → Misframed (refusal bad-packet) ≡ frame-by left op size
+        other-size h = rw (by-size, h)
+
+        pub whole : wrong ≡ false → Whole op size ≡ frame-by left op size
+        whole h = rw (by-size, h)
+
+pub ruleset judging-frame = (small-size, odd-size, past-end, other-size, whole, needs)
+
 -- ---- frame_at
 
 module _ (m : List ℕ) (at : ℕ) where
@@ -32,52 +73,15 @@ module _ (m : List ℕ) (at : ℕ) where
   pub past-stream : length m < at → Misframed (refusal bad-packet) ≡ frame-of (drop at m)
   past-stream h = few (omega arith)
 
-  module _ (inside : at ≤ length m) where
-    pub last-bytes : length m - at < packet-header-size → Misframed (refusal bad-packet) ≡ frame-of (drop at m)
-    last-bytes h = few h
+  pub last-bytes : at ≤ length m → length m - at < packet-header-size → Misframed (refusal bad-packet) ≡ frame-of (drop at m)
+  last-bytes i h = few h
 
-    module _ (head : packet-header-size ≤ length m - at) (op size room : ℕ) (po : op ≡ word m at) (ps : size ≡ word m (at + 4)) (pr : room ≡ size) where
-      -- the rules that are left, put to what was read
-      abbrev later : Verdict
-      later =
-          rule bad-packet (ltb size packet-header-size)
-          ▹ rule bad-packet (not (eqb (size % 4) 0))
-          ▹ rule bad-packet (ltb (length m - at) size)
-          ▹ rule bad-packet (wrong-size op size)
+  pub frame-read : (op size : ℕ) (f : Frame) → packet-header-size ≤ length m - at → op ≡ word m at → size ≡ word m (at + 4)
+      → f ≡ frame-by (length m - at) op size → f ≡ frame-of (drop at m)
+  unfolding frame-of frame-rules frame-by
+  frame-read op size f h po ps e = e ∙ rw (length-drop, le-ltb (length m - at) packet-header-size h, drop-drop, ps, po)
 
-      frame-is : frame-of (drop at m) ≡ framed later op size
-      unfolding frame-of frame-rules
-      frame-is = rw (length-drop, le-ltb (length m - at) packet-header-size head, drop-drop, ps, po)
-
-      pub small-size : room < packet-header-size → Misframed (refusal bad-packet) ≡ frame-of (drop at m)
-      small-size h = rw (frame-is, lt-ltb size packet-header-size (omega arith))
-
-      module _ (s₁ : packet-header-size ≤ room) where
-        pub odd-size : (size % 4 ≡ 0 → ⊥) → Misframed (refusal bad-packet) ≡ frame-of (drop at m)
-        odd-size h = rw (frame-is, le-ltb size packet-header-size (omega arith), ne-eqb (size % 4) 0 h)
-
-        module _ (s₂ : size % 4 ≡ 0) where
-          pub past-end : length m - at < room → Misframed (refusal bad-packet) ≡ frame-of (drop at m)
-          past-end h = rw (frame-is, le-ltb size packet-header-size (omega arith), eq-eqb (size % 4) 0 s₂, lt-ltb (length m - at) size (omega arith))
-
-          module _ (s₃ : room ≤ length m - at) (wrong : Bool) (pw : wrong ≡ wrong-size op size) where
-            sized : frame-of (drop at m) ≡ framed (rule bad-packet wrong) op size
-            sized =
-                rw (
-                  frame-is,
-                  le-ltb size packet-header-size (omega arith),
-                  eq-eqb (size % 4) 0 s₂,
-                  le-ltb (length m - at) size (omega arith),
-                  pw,
-                )
-
-            pub other-size : wrong ≡ true → Misframed (refusal bad-packet) ≡ frame-of (drop at m)
-            other-size h = rw (sized, h)
-
-            pub whole : wrong ≡ false → Whole op size ≡ frame-of (drop at m)
-            whole h = rw (sized, h)
-
-pub ruleset framing-packets = (past-stream, last-bytes, small-size, odd-size, past-end, other-size, whole, needs)
+pub ruleset framing-packets = (past-stream, last-bytes, frame-read, needs)
 
 -- ---- wrong_size
 

@@ -4,6 +4,7 @@ ghost use mathlib.Core.Path.{_≡_};
 ghost use Prim.Native.Nat.{_+_, _≤_};
 ghost use lib.ListN.{length, take, drop};
 ghost use Rattle.rules.specs.Stream.{known-size, wrong-size, frame-of, packet-of};
+ghost use Rattle.stream.specs.Framing.{frame-by};
 ghost use Rattle.rules.specs.declared.Frame.the-variants.{Whole};
 use crate::fields::packet_from;
 use rules::Frame;
@@ -50,34 +51,41 @@ fn wrong_size(op: u32, size: u32) -> bool
     known != size
 }
 
-// Frames the packet at a place of the stream, whatever the bytes and the place are.
+// Judges a packet by the bytes left of the stream and its own header, which is among them.
+fn frame_by(left: usize, op: u32, size: u32) -> Frame
+    ensures { λ r. ⌜ r ≡ frame-by left op size ⌝ }
+{
+    let room = place(size);
+    if room < PACKET_HEADER_SIZE {
+        return Frame::Misframed(Refusal { code: BAD_PACKET });
+    }
+    if size % 4 != 0 {
+        return Frame::Misframed(Refusal { code: BAD_PACKET });
+    }
+    if room > left {
+        return Frame::Misframed(Refusal { code: BAD_PACKET });
+    }
+    if wrong_size(op, size) {
+        return Frame::Misframed(Refusal { code: BAD_PACKET });
+    }
+    Frame::Whole(op, size)
+}
+
+// Frames the packet at a place of the stream, whatever the bytes and the place are. Past the end no byte is left.
 pub fn frame_at(stream: &[u8], at: usize) -> Frame
     ensures { λ r. ⌜ r ≡ frame-of (drop at (now (stream .entry))) ⌝ }
 {
     let end = stream.len();
     if at > end {
-        return Frame::Misframed(Refusal { code: BAD_PACKET }); // no such place
+        return Frame::Misframed(Refusal { code: BAD_PACKET });
     }
     let left = end - at;
     if left < PACKET_HEADER_SIZE {
-        return Frame::Misframed(Refusal { code: BAD_PACKET }); // no whole header is left
+        return Frame::Misframed(Refusal { code: BAD_PACKET }); // the last 1 to 7 bytes
     }
     let op = u32_at(stream, at);
     let size = u32_at(stream, at + 4);
-    let room = place(size);
-    if room < PACKET_HEADER_SIZE {
-        return Frame::Misframed(Refusal { code: BAD_PACKET }); // shorter than its header
-    }
-    if size % 4 != 0 {
-        return Frame::Misframed(Refusal { code: BAD_PACKET }); // not a multiple of 4
-    }
-    if room > left {
-        return Frame::Misframed(Refusal { code: BAD_PACKET }); // past the end
-    }
-    if wrong_size(op, size) {
-        return Frame::Misframed(Refusal { code: BAD_PACKET }); // not its table size
-    }
-    Frame::Whole(op, size)
+    frame_by(left, op, size)
 }
 
 // A packet's own part of the stream.

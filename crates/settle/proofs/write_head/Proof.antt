@@ -1,0 +1,58 @@
+-- `write_head` meets its contract, by the laws of `writing`. Assumes nothing.
+use borrow.Author.Needs.{needs}
+use Rattle.settle.specs.Laws.{writing}
+use Rattle.settle.proofs.write_head.Statement.{statement}
+use Rattle.settle.proofs.write_head.Tie as tie
+
+place-requires : tie.Need-place-requires
+place-requires c κs = search needs
+
+wrapping-add-u32-requires : tie.Need-wrapping-add-u32-requires
+wrapping-add-u32-requires c κs = search needs
+
+returns : tie.Need-returns
+returns c = search writing
+
+returns-2 : tie.Need-returns-2
+returns-2 c = search writing
+
+add-at : tie.Need-add-at
+add-at c = search needs
+
+add-end : tie.Need-add-end
+add-end c = search needs
+
+sub-put-u32 : tie.Need-sub-put-u32
+sub-put-u32 c = search needs
+
+part-put-u32-start : tie.Need-part-put-u32-start
+part-put-u32-start c = search needs
+
+part-put-u32-end : tie.Need-part-put-u32-end
+part-put-u32-end c = search needs
+
+put-u32-requires : tie.Need-put-u32-requires
+put-u32-requires c κs = search needs
+
+same-length : tie.Need-same-length
+same-length c = search needs
+
+returns-3 : tie.Need-returns-3
+returns-3 c = search writing
+
+pub write-head-spec : {M : Type 1} → statement M
+write-head-spec =
+    tie.close
+    (tie.spec
+    place-requires
+    wrapping-add-u32-requires
+    returns
+    returns-2
+    add-at
+    add-end
+    sub-put-u32
+    part-put-u32-start
+    part-put-u32-end
+    put-u32-requires
+    same-length
+    returns-3)

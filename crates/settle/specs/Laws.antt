@@ -1,0 +1,232 @@
+-- What the functions of this crate ask for: a law for each way to a return, with the tests on the way as its premises.
+-- Assumes nothing.
+use mathlib.Core.Path.{_≡_, refl, sym, ap, _∙_}
+use mathlib.Core.Bool.{Bool, true, false, _||_}
+use mathlib.Core.List.{List, _++_, append-assoc}
+use Prim.Native.Nat.{ℕ, _+_, _-_, _≤_, _<_}
+use native.Mathlib.Omega.{arith}
+use borrow.Author.Needs.{needs}
+use borrow.Author.Tests.{lt-ltb, le-ltb, le-leb, lt-leb, eq-eqb, ne-eqb}
+use lib.ListN.{length, take, drop, length-append}
+use Rattle.words.specs.Over.{part-over, over-over}
+use Rattle.words.specs.Fields.{length-bytesOf, put-part, length-put}
+use Rattle.rules.specs.Numbers.{page-magic, version}
+use Rattle.rules.specs.Bytes.{bytesOf}
+use Rattle.rules.specs.Lists.{over}
+use Rattle.rules.specs.Layouts.{head-offset, page-bytes}
+use Rattle.rules.specs.Settle.{quieted, faulted, signalled, ended-by, written, next-head, head-written, page-written, marked}
+use Rattle.rules.specs.declared.Registers.{Registers}
+use Rattle.rules.specs.declared.Job.{Job}
+use Rattle.rules.specs.declared.Refusal.{Refusal}
+use Rattle.rules.specs.declared.Verdict.{Verdict}
+use Rattle.rules.specs.declared.Verdict.the-variants.{Fine, Broken}
+use Rattle.settle.specs.Settling.{Settled, most-errors, head-size, head-end, page-size}
+
+-- ---- quieted
+
+-- the flag, and all else as it was
+pub quiets : (r : Registers)
+    → _≡_ {A = Registers}
+    (record {
+      ring = r .ring;
+      ringsize = r .ringsize;
+      enabled = r .enabled;
+      page = r .page;
+      completed = r .completed;
+      fenced = r .fenced;
+      failed = r .failed;
+      irqenable = r .irqenable;
+      code = r .code;
+      fence = r .fence;
+      errors = r .errors;
+      rung = false;
+    })
+    (quieted r)
+unfolding quieted
+quiets r = refl
+
+pub ruleset quieting = (quiets, needs)
+
+-- ---- faulted
+
+-- an error set, and the count as it now is
+abbrev pub with-error : ℕ → ℕ → ℕ → Registers → Registers
+with-error code fence errors r =
+    record {
+      ring = r .ring;
+      ringsize = r .ringsize;
+      enabled = r .enabled;
+      page = r .page;
+      completed = r .completed;
+      fenced = r .fenced;
+      failed = true;
+      irqenable = r .irqenable;
+      code = code;
+      fence = fence;
+      errors = errors;
+      rung = r .rung;
+    }
+
+module _ (code fence : ℕ) (r : Registers) where
+  pub count-stops : most-errors ≤ r .errors → with-error code fence (r .errors) r ≡ faulted code fence r
+  unfolding faulted
+  count-stops h = rw (le-ltb _ _ h)
+
+  pub count-rises : r .errors < most-errors → with-error code fence (r .errors + 1) r ≡ faulted code fence r
+  unfolding faulted
+  count-rises h = rw (lt-ltb _ _ h)
+
+pub ruleset faulting = (count-stops, count-rises, needs)
+
+-- ---- signalled
+
+-- a fence that rose, and the status as it now is
+abbrev pub with-fence : ℕ → Bool → Registers → Registers
+with-fence completed fenced r =
+    record {
+      ring = r .ring;
+      ringsize = r .ringsize;
+      enabled = r .enabled;
+      page = r .page;
+      completed = completed;
+      fenced = fenced;
+      failed = r .failed;
+      irqenable = r .irqenable;
+      code = r .code;
+      fence = r .fence;
+      errors = r .errors;
+      rung = r .rung;
+    }
+
+or-false : (b : Bool) → b ≡ b || false
+or-false true = refl
+or-false false = refl
+
+or-true : (b : Bool) → true ≡ b || true
+or-true true = refl
+or-true false = refl
+
+module _ (fence : ℕ) (silent : Bool) (r : Registers) where
+  pub fence-stays : fence ≤ r .completed → r ≡ signalled fence silent r
+  unfolding signalled
+  fence-stays h = rw (le-ltb _ _ h) (ap (λ b. with-fence (r .completed) b r) (or-false (r .fenced)))
+
+  module _ (rose : r .completed < fence) where
+    pub fence-silent : silent ≡ true → with-fence fence (r .fenced) r ≡ signalled fence silent r
+    unfolding signalled
+    fence-silent s = rw (lt-ltb _ _ rose, s) (ap (λ b. with-fence fence b r) (or-false (r .fenced)))
+
+    pub fence-told : silent ≡ false → with-fence fence true r ≡ signalled fence silent r
+    unfolding signalled
+    fence-told s = rw (lt-ltb _ _ rose, s) (ap (λ b. with-fence fence b r) (or-true (r .fenced)))
+
+pub ruleset signalling = (fence-stays, fence-silent, fence-told, needs)
+
+-- ---- ended_by
+
+module _ (j : Job) (v : Verdict) (r r′ : Registers) where
+  pub ends-fine : v ≡ Fine → r′ ≡ signalled (j .signal) (j .silent) r → r′ ≡ ended-by j v r
+  unfolding ended-by
+  ends-fine x e = rw x e
+
+  pub ends-broken : (refusal : Refusal) (f : Registers) → v ≡ Broken refusal → f ≡ faulted (refusal .code) (j .signal) r
+      → r′ ≡ signalled (j .signal) (j .silent) f → r′ ≡ ended-by j v r
+  unfolding ended-by
+  ends-broken refusal f x d e = rw x (e ∙ ap (signalled (j .signal) (j .silent)) d)
+
+pub ruleset ending = (ends-fine, ends-broken, needs)
+
+-- ---- put_page
+
+pub length-page-bytes : (completed : ℕ) → length (page-bytes completed) ≡ page-size
+unfolding page-bytes
+length-page-bytes completed = simp (length-append, length-bytesOf)
+
+-- three fields written side by side are the page
+pub page-fields : (completed : ℕ) (p : List ℕ) → page-size ≤ length p
+    → over 8 (bytesOf 8 completed) (over 4 (bytesOf 4 version) (over 0 (bytesOf 4 page-magic) p)) ≡ over 0 (page-bytes completed) p
+unfolding page-bytes
+page-fields completed p h =
+    let two : over 4 (bytesOf 4 version) (over 0 (bytesOf 4 page-magic) p) ≡ over 0 (bytesOf 4 page-magic ++ bytesOf 4 version) p =
+    over-over 0 4 (bytesOf 4 page-magic) (bytesOf 4 version) p (simp length-bytesOf (omega arith)) (simp length-bytesOf (omega arith)) in
+    let three : over 8 (bytesOf 8 completed) (over 0 (bytesOf 4 page-magic ++ bytesOf 4 version) p) ≡ over 0 ((bytesOf 4 page-magic ++ bytesOf 4 version) ++ bytesOf 8 completed) p =
+    over-over 0 8 (bytesOf 4 page-magic ++ bytesOf 4 version) (bytesOf 8 completed) p (simp (length-append, length-bytesOf) (omega arith)) (simp (length-append, length-bytesOf) (omega arith)) in
+    rw (two, three) (ap (λ b. over 0 b p) (append-assoc (bytesOf 4 page-magic) (bytesOf 4 version) (bytesOf 8 completed)))
+
+-- a memory whose part from `at` on, of n bytes, is given back as b
+abbrev put-back : ℕ → ℕ → List ℕ → List ℕ → List ℕ
+put-back at n b m = take at m ++ (b ++ drop n (drop at m))
+
+-- the same of three parts that were lent one after the other
+pub page-puts : (completed : ℕ) (l p q s : List ℕ) → page-size ≤ length l → p ≡ over 0 (bytesOf 4 page-magic) (take 4 l)
+    → q ≡ over 0 (bytesOf 4 version) (take 4 (drop 4 (p ++ drop 4 l)))
+    → s ≡ over 0 (bytesOf 8 completed) (take 8 (drop 8 (put-back 4 4 q (p ++ drop 4 l))))
+    → put-back 8 8 s (put-back 4 4 q (p ++ drop 4 l)) ≡ over 0 (page-bytes completed) l
+page-puts completed l p q s h a b d =
+    let first : p ++ drop 4 l ≡ over 0 (bytesOf 4 page-magic) l = put-part 4 0 4 page-magic l p refl (omega arith) a in
+    let n : length (p ++ drop 4 l) ≡ length l = rw first (length-put 4 0 page-magic l (omega arith)) in
+    let second : put-back 4 4 q (p ++ drop 4 l) ≡ over 4 (bytesOf 4 version) (p ++ drop 4 l) = put-part 4 4 8 version (p ++ drop 4 l) q refl (omega arith) b in
+    let k : length (put-back 4 4 q (p ++ drop 4 l)) ≡ length l = ap length second ∙ (length-put 4 4 version (p ++ drop 4 l) (omega arith) ∙ n) in
+    put-part 8 8 16 completed (put-back 4 4 q (p ++ drop 4 l)) s refl (omega arith) d
+    ∙ (ap (λ x. over 8 (bytesOf 8 completed) x) (second ∙ ap (λ x. over 4 (bytesOf 4 version) x) first) ∙ page-fields completed l h)
+
+-- ---- write_head, write_page
+
+module _ (at : ℕ) (b m : List ℕ) where
+  pub written-within : at + length b ≤ length m → written at b m ≡ over at b m
+  unfolding written
+  written-within h = rw (le-leb _ _ h)
+
+  pub written-past : length m < at + length b → written at b m ≡ m
+  unfolding written
+  written-past h = rw (lt-leb _ _ h)
+
+module _ (j : Job) (m : List ℕ) (ring : ℕ) (same : ring ≡ j .ring) where
+  pub head-short : length m < head-end → m ≡ head-written j m
+  unfolding head-written
+  head-short h = sym (written-past (j .ring + head-offset) (bytesOf head-size (next-head (j .head))) m (rw length-bytesOf (omega arith)))
+
+  pub head-far : head-end ≤ length m → length m - head-end < ring → m ≡ head-written j m
+  unfolding head-written
+  head-far k h = sym (written-past (j .ring + head-offset) (bytesOf head-size (next-head (j .head))) m (rw length-bytesOf (omega arith)))
+
+  pub head-in : (next at end : ℕ) (last : List ℕ) → head-end ≤ length m → ring ≤ length m - head-end → next ≡ next-head (j .head) → at ≡ ring + head-offset → end ≡ ring + head-end
+      → last ≡ over 0 (bytesOf head-size next) (take (end - at) (drop at m)) → take at m ++ (last ++ drop (end - at) (drop at m)) ≡ head-written j m
+  unfolding head-written
+  head-in next at end last k h n a e l =
+      let there : at ≡ j .ring + head-offset = omega arith in
+      put-part head-size at end next m last (omega arith) (omega arith) l
+      ∙ rw (n, there) (sym (written-within (j .ring + head-offset) (bytesOf head-size (next-head (j .head))) m (rw length-bytesOf (omega arith))))
+
+module _ (r : Registers) (m : List ℕ) (page : ℕ) (same : page ≡ r .page) where
+  pub page-none : page ≡ 0 → m ≡ page-written r m
+  unfolding page-written
+  page-none z = rw (eq-eqb (r .page) 0 (omega arith))
+
+  module _ (some : page ≡ 0 → ⊥) where
+    there : page-written r m ≡ written (r .page) (page-bytes (r .completed)) m
+    unfolding page-written
+    there = rw (ne-eqb (r .page) 0 (λ z. some (same ∙ z)))
+
+    pub page-short : length m < page-size → m ≡ page-written r m
+    page-short h = sym (there ∙ written-past (r .page) (page-bytes (r .completed)) m (rw length-page-bytes (omega arith)))
+
+    pub page-far : page-size ≤ length m → length m - page-size < page → m ≡ page-written r m
+    page-far k h = sym (there ∙ written-past (r .page) (page-bytes (r .completed)) m (rw length-page-bytes (omega arith)))
+
+    pub page-in : (end : ℕ) (last : List ℕ) → page-size ≤ length m → page ≤ length m - page-size → end ≡ page + page-size
+        → last ≡ over 0 (page-bytes (r .completed)) (take (end - page) (drop page m)) → take page m ++ (last ++ drop (end - page) (drop page m)) ≡ page-written r m
+    page-in end last k h e l =
+        part-over page end m last (page-bytes (r .completed)) (rw length-page-bytes e) (omega arith) l
+        ∙ rw same (sym (there ∙ written-within (r .page) (page-bytes (r .completed)) m (rw length-page-bytes (omega arith))))
+
+pub ruleset writing = (page-puts, head-short, head-far, head-in, page-none, page-short, page-far, page-in, needs)
+
+-- ---- settle
+
+pub settles : (r : Registers) (m : List ℕ) (j : Job) (v : Verdict) (r′ : Registers) (m₁ m₂ : List ℕ)
+    → r′ ≡ ended-by j v r → m₁ ≡ head-written j m → m₂ ≡ page-written r′ m₁ → Settled r m j v r′ m₂
+unfolding marked
+settles r m j v r′ m₁ m₂ a b c = record { regs = a; mem = rw (← a, ← b) c }
+
+pub ruleset settling = (settles, needs)
