@@ -1,2 +1,10 @@
+pub mod Views
 pub mod Effects
 pub mod Held
+pub mod Bytes
+pub mod Create
+pub mod Handout
+pub mod Destroy
+pub mod Dirty
+pub mod Copy
+pub mod Apply

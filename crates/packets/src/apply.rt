@@ -1,0 +1,40 @@
+// One packet that was framed and read, whatever it is. One whose opcode we do not know touches nothing.
+use crate::applied::Applied;
+use crate::copy::on_copy;
+use crate::create::on_buffer;
+use crate::create::on_texture;
+use crate::destroy::on_destroy;
+use crate::dirty::on_dirty;
+use rules::Packet;
+use rules::Verdict;
+ghost use Rattle.rules.specs.Packets.{apply};
+ghost use Rattle.table.specs.Views.{entriesOf};
+ghost use Rattle.rooms.specs.Views.{holdingsOf};
+ghost use Rattle.packets.specs.Views.{Applies, Room};
+
+// What a packet does to the resources and records that a submission holds, by the entries of its table.
+pub fn apply_packet(
+    entries: &[u64; 256],
+    n: usize,
+    rooms: &mut [u64; 640],
+    live: usize,
+    records: &mut [u64; 320],
+    made: usize,
+    p: Packet,
+) -> Applied
+    requires { ⌜ Room n live made ⌝ }
+    ensures { λ r. ⌜ Applies (apply (entriesOf n (now (entries .entry))) (holdingsOf live (now (rooms .entry)) made (now (records .entry))) p) r (now (rooms .exit)) (now (records .exit)) ⌝ }
+{
+    match p {
+        Packet::Buffer(c) => on_buffer(entries, n, rooms, live, records, made, c),
+        Packet::Texture(c) => on_texture(entries, n, rooms, live, records, made, c),
+        Packet::Destroy(c) => on_destroy(rooms, live, made, c),
+        Packet::Dirty(c) => on_dirty(entries, n, rooms, live, records, made, c),
+        Packet::Copy(c) => on_copy(entries, n, rooms, live, records, made, c),
+        Packet::Unknown => Applied {
+            verdict: Verdict::Fine,
+            live,
+            made,
+        },
+    }
+}
