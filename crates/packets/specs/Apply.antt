@@ -3,9 +3,7 @@ use mathlib.Core.Path.{_≡_, refl}
 use mathlib.Core.List.{List}
 use Prim.Native.Nat.{ℕ, _≤_}
 use borrow.Author.Needs.{needs}
-use Rattle.rules.specs.Numbers.{most}
 use Rattle.rules.specs.Packets.{on-buffer-packet, on-texture-packet, on-dirty-packet, on-copy-packet, apply}
-use Rattle.rules.specs.declared.Entry.{Entry}
 use Rattle.rules.specs.declared.CreateBuffer.{CreateBuffer}
 use Rattle.rules.specs.declared.CreateTexture.{CreateTexture}
 use Rattle.rules.specs.declared.DestroyResource.{DestroyResource}

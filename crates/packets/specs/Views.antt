@@ -5,7 +5,7 @@ use Prim.Native.Nat.{ℕ, _≤_}
 use Rattle.rules.specs.Numbers.{most}
 use Rattle.rules.specs.Judging.{refusal}
 use Rattle.rules.specs.Packets.{Outcome}
-use Rattle.rules.specs.declared.Verdict.the-variants.{Fine, Broken}
+use Rattle.rules.specs.declared.Verdict.the-variants.{Broken}
 use Rattle.rooms.specs.Views.{holdingsOf}
 use Rattle.packets.specs.declared.applied.Applied.{Applied}
 

@@ -3,7 +3,6 @@ use rules::Refusal;
 use rules::Verdict;
 ghost use mathlib.Core.Path.{_≡_};
 ghost use Prim.Native.Nat.{_≤_};
-ghost use Rattle.rules.specs.Judging.{refusal};
 ghost use Rattle.packets.specs.Views.{refusedWith};
 
 pub struct Applied {

@@ -2,3 +2,4 @@
 // Each is a loop over the few numbers that it changes, in place on lent rows.
 pub mod ending;
 pub mod entries;
+pub mod playing;

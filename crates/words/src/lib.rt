@@ -111,10 +111,10 @@ pub fn copy_words(from: &[u64], to: &mut [u64], n: usize)
     requires { ⌜ (n ≤ length (now from)) × (n ≤ length (now to)) ⌝ }
     ensures { λ _. ⌜ now (to .exit) ≡ over 0 (take n (now (from .entry))) (now (to .entry)) ⌝ }
 {
-    let mut k: usize = 0;
-    while k < n {
-        to[k] = from[k];
-        k += 1;
+    let mut done: usize = 0;
+    while done < n {
+        to[done] = from[done];
+        done += 1;
     }
 }
 

@@ -28,8 +28,8 @@ mul-to-2 c = search copying
 slice-write-to : tie.Need-slice-write-to Inv-loop μ-loop
 slice-write-to c = search copying
 
-add-k : tie.Need-add-k Inv-loop μ-loop
-add-k c = omega arith
+add-done : tie.Need-add-done Inv-loop μ-loop
+add-done c = omega arith
 
 loop-less : tie.Need-loop-less Inv-loop μ-loop
 loop-less c = omega arith
@@ -54,7 +54,7 @@ copy-words-spec =
     shared-slice-read-to
     mul-to-2
     slice-write-to
-    add-k
+    add-done
     loop-less
     loop-again
     same-length
