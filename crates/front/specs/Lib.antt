@@ -1,3 +1,4 @@
 pub mod Views
 pub mod Starting
 pub mod Landing
+pub mod Turning

@@ -3,3 +3,4 @@
 pub mod landing;
 pub mod scalars;
 pub mod starting;
+pub mod turning;

@@ -1,0 +1,140 @@
+// A run, turn by turn: an opening is one unit, a phase as many as the allowance and its own length let.
+// So the hot loops are the phases', and the contract is still unit by unit.
+use crate::landing::land_entries;
+use crate::landing::land_packets;
+use crate::landing::open_ring;
+use crate::scalars::Scalars;
+use crate::scalars::Stage;
+use phases::ending::Ending;
+use phases::entries::read_entries;
+use phases::playing::PacketsPlace;
+use phases::playing::PacketsRun;
+use phases::playing::read_packets;
+use rules::Job;
+use rules::Opened;
+use rules::Stream;
+ghost use mathlib.Core.Path.{_≡_};
+ghost use mathlib.Core.Bool.{true, false};
+ghost use Prim.Native.Nat.{_≤_, _<_};
+ghost use lib.ListN.{length};
+ghost use Rattle.rules.specs.Stream.{stream-bytes};
+ghost use Rattle.packets.specs.Views.{Room};
+ghost use Rattle.phases.specs.Playing.{PacketsRan};
+ghost use Rattle.front.specs.Views.{Roomy};
+ghost use Rattle.front.specs.Turning.{Due, EntriesTurn, PacketsTurn};
+
+pub struct Turn {
+    pub scalars: Scalars,
+    pub units: u16,
+}
+
+fn place(x: u64) -> usize
+    ensures { λ r. ⌜ r ≡ x ⌝ }
+{
+    x as usize
+}
+
+fn size_of(x: u32) -> usize
+    ensures { λ r. ⌜ r ≡ x ⌝ }
+{
+    x as usize
+}
+
+// The stream's own part of the memory lent now.
+fn stream_part(mem: &[u8], s: Stream) -> &[u8]
+    ensures { λ r. ⌜ now r ≡ stream-bytes (now (mem .entry)) s ⌝ }
+{
+    let end = mem.len();
+    let from = place(s.gpa);
+    let size = size_of(s.size);
+    if from > end {
+        return &mem[end..end];
+    }
+    if size > end - from {
+        return &mem[from..end];
+    }
+    let to = from + size;
+    &mem[from..to]
+}
+
+// The phase of packets over the memory lent now.
+fn play(
+    mem: &[u8],
+    stream: Stream,
+    entries: &[u64; 256],
+    n: usize,
+    held: &mut [u64; 640],
+    records: &mut [u64; 320],
+    from: PacketsPlace,
+    left: u16,
+) -> PacketsRun
+    requires { ⌜ Room n (from .live) (from .made) ⌝ }
+    ensures { λ r. ⌜ PacketsRan (stream-bytes (now (mem .entry)) stream) (stream .size) n (now (entries .entry)) from (now (held .entry)) (now (records .entry)) left r (now (held .exit)) (now (records .exit)) ⌝ }
+{
+    let part = stream_part(mem, stream);
+    read_packets(
+        part,
+        size_of(stream.size),
+        entries,
+        n,
+        held,
+        records,
+        from,
+        left,
+    )
+}
+
+// A turn of the phase of entries.
+fn entries_turn(
+    s: Scalars,
+    o: Opened,
+    mem: &mut [u8],
+    entries: &mut [u64; 256],
+    rooms: &[u64; 640],
+    held: &mut [u64; 640],
+    left: u16,
+) -> Turn
+    requires { ⌜ Due s left ⌝ }
+    ensures { λ r. ⌜ EntriesTurn s o left (now (mem .entry)) (now (entries .entry)) (now (rooms .entry)) (now (held .entry)) r (now (mem .exit)) (now (entries .exit)) (now (held .exit)) ⌝ }
+{
+    let n = s.counts;
+    let table = o.table;
+    let run = read_entries(mem, table, entries, n.entries, left);
+    let p = run.place;
+    let scalars = land_entries(s, o, p, mem, rooms, held);
+    Turn {
+        scalars,
+        units: run.units,
+    }
+}
+
+// A turn of the phase of packets.
+fn packets_turn(
+    s: Scalars,
+    job: Job,
+    stream: Stream,
+    at: usize,
+    mem: &mut [u8],
+    entries: &[u64; 256],
+    held: &mut [u64; 640],
+    records: &mut [u64; 320],
+    left: u16,
+) -> Turn
+    requires { ⌜ Due s left ⌝ }
+    ensures { λ r. ⌜ PacketsTurn s job stream at left (now (mem .entry)) (now (entries .entry)) (now (held .entry)) (now (records .entry)) r (now (mem .exit)) (now (held .exit)) (now (records .exit)) ⌝ }
+{
+    let n = s.counts;
+    let from = PacketsPlace {
+        at,
+        live: n.held,
+        made: n.records,
+        ending: Ending::Going,
+    };
+    let run = play(mem, stream, entries, n.entries, held, records, from, left);
+    let p = run.place;
+    let scalars = land_packets(s, job, stream, p, mem);
+    Turn {
+        scalars,
+        units: run.units,
+    }
+}
