@@ -1,17 +1,18 @@
 -- A run, turn by turn: the phases are small machines within the large one. Assumes nothing.
 use mathlib.Core.Path.{_≡_, refl, sym, ap, _∙_}
-use mathlib.Core.Bool.{Bool, true, false, not, _&&_}
+use mathlib.Core.Bool.{Bool, true, false, not, _&&_, and-false}
 use mathlib.Core.List.{List, []}
 use Prim.Native.Nat.{ℕ, _+_, _-_, _^_, _≤_, _<_}
 use native.Mathlib.Omega.{arith}
 use borrow.Author.Needs.{needs}
+use borrow.Author.Tests.{not-true, not-false}
 use lib.Dec.{ltb}
 use lib.ListN.{length, take, drop, length-drop, drop-of-length-le}
 use lib.Seq.{take-all, take-nil}
 use mir.Syntax.{w64}
 use mir.Val.{Fits}
-use Rattle.machine.specs.Machine.{pick, Out, runFor}
-use Rattle.machine.specs.Within.{Turned, turned-stop, turned-step, turned-phase}
+use Rattle.machine.specs.Machine.{pick, Out, spent, runFor}
+use Rattle.machine.specs.Within.{Turned, turned-stop, turned-step, turned-phase, turns-stop}
 use Rattle.rules.specs.Numbers.{most}
 use Rattle.rules.specs.Layouts.{stream-header-size}
 use Rattle.rules.specs.Table.{take-entry}
@@ -20,7 +21,7 @@ use Rattle.rules.specs.Packets.{Holdings, at-first, take-packet}
 use Rattle.rules.specs.State.{Work, World, working}
 use Rattle.rules.specs.State.Work.{entries, packets, waiting}
 use Rattle.rules.specs.Settle.{settled, settled-keeping}
-use Rattle.rules.specs.Steps.{packets-at, entries-at, after-entry, entry-step, after-packet, next-place, packet-step, step, go}
+use Rattle.rules.specs.Steps.{packets-at, entries-at, after-entry, entry-step, after-packet, next-place, packet-step, open-step, step, go, run-for}
 use Rattle.rules.specs.declared.Entry.{Entry}
 use Rattle.rules.specs.declared.Job.{Job}
 use Rattle.rules.specs.declared.Stream.{Stream}
@@ -40,7 +41,8 @@ use Rattle.phases.specs.declared.entries.EntriesRun.{EntriesRun}
 use Rattle.phases.specs.declared.playing.PacketsPlace.{PacketsPlace}
 use Rattle.phases.specs.declared.playing.PacketsRun.{PacketsRun}
 use Rattle.front.specs.Views.{worldOf, bare, Roomy}
-use Rattle.front.specs.Landing.{laid-on, laid, LandsEntries, played-on, played, LandsPackets}
+use Rattle.front.specs.Landing.{laid-on, laid, LandsEntries, played-on, played, LandsPackets, Opens}
+use Rattle.front.specs.declared.scalars.Stage.the-variants.{Resting, Entries, Packets, Waiting}
 use Rattle.front.specs.declared.scalars.Counts.{Counts}
 use Rattle.front.specs.declared.scalars.Scalars.{Scalars}
 use Rattle.front.specs.declared.turning.Turn.{Turn}
@@ -210,3 +212,59 @@ pub landing-room : (s : Scalars) (t : Stream) (at left : ℕ) (m e h c : List �
 landing-room s t at left m e h c x h′ c′ due ran = (due .roomy, ran .room)
 
 pub ruleset turning-packets = (due-room, packets-turned, landing-room, needs)
+
+-- ---- turn_once
+
+abbrev pub stillTurn : Scalars → Turn
+stillTurn s = record { scalars = s; units = 0 }
+
+module _ (s : Scalars) (left : ℕ) (m e r h c : List ℕ) (pre : Roomy (s .counts) × (0 < left)) where
+  stands : go (worldOf s e r h c m) ≡ false → (t : Turn) → t ≡ stillTurn s → TurnOf left (worldOf s e r h c m) (worldOf (t .scalars) e r h c m) (t .scalars .counts) (t .units)
+  stands g t is = rw is (record { turned = turned-stop go step left (worldOf s e r h c m) g; roomy = pre .0 })
+
+  pub turn-off : (t : Turn) → not (s .regs .enabled) ≡ true → t ≡ stillTurn s → TurnOf left (worldOf s e r h c m) (worldOf (t .scalars) e r h c m) (t .scalars .counts) (t .units)
+  unfolding go
+  turn-off t off = stands (rw (not-true (s .regs .enabled) off)) t
+
+  pub turn-waits : (t : Turn) (j : Job) → s .stage ≡ Waiting j → t ≡ stillTurn s → TurnOf left (worldOf s e r h c m) (worldOf (t .scalars) e r h c m) (t .scalars .counts) (t .units)
+  unfolding go
+  turn-waits t j i = stands (rw i (and-false (s .regs .enabled))) t
+
+  module _ (on : not (s .regs .enabled) ≡ false) where
+    pub is-due : Due s left
+    is-due = record { some = pre .1; on = not-false (s .regs .enabled) on; roomy = pre .0 }
+
+    module _ (i : s .stage ≡ Resting) where
+      pub turn-quiet : (t : Turn) → not (s .regs .rung) ≡ true → t ≡ stillTurn s → TurnOf left (worldOf s e r h c m) (worldOf (t .scalars) e r h c m) (t .scalars .counts) (t .units)
+      unfolding go
+      turn-quiet t q = stands (rw (i, not-false (s .regs .enabled) on, not-true (s .regs .rung) q)) t
+
+      pub turn-opens : (s′ : Scalars) (m′ h′ : List ℕ) → not (s .regs .rung) ≡ false → Opens s m r s′ m′ h′ → TurnOf left (worldOf s e r h c m) (worldOf s′ e r h′ c m′) (s′ .counts) 1
+      unfolding go step open-step
+      turn-opens s′ m′ h′ q o =
+          record {
+            turned =
+                turned-step go step left (worldOf s e r h c m) (worldOf s′ e r h′ c m′) (pre .1) (rw (i, not-false (s .regs .enabled) on, not-false (s .regs .rung) q)) (o .world e c ∙ rw i);
+            roomy = o .roomy;
+          }
+
+    pub turn-entries : (o : Opened) (t : Turn) (m′ e′ h′ : List ℕ) → s .stage ≡ Entries o → EntriesTurn s o left m e r h t m′ e′ h′ → TurnOf left (worldOf s e r h c m) (worldOf (t .scalars) e′ r h′ c m′) (t .scalars .counts) (t .units)
+    turn-entries o t m′ e′ h′ i x = rw i (x .turn c)
+
+    pub turn-packets : (j : Job) (k : Stream) (at : ℕ) (t : Turn) (m′ h′ c′ : List ℕ) → s .stage ≡ Packets j k at → PacketsTurn s j k at left m e h c t m′ h′ c′
+        → TurnOf left (worldOf s e r h c m) (worldOf (t .scalars) e r h′ c′ m′) (t .scalars .counts) (t .units)
+    turn-packets j k at t m′ h′ c′ i x = rw i (x .turn r)
+
+pub ruleset turning-once = (turn-off, turn-waits, is-due, turn-quiet, turn-opens, turn-entries, turn-packets, needs)
+
+-- ---- advance
+
+pub record Advanced (allowance : ℕ) (before after : World) (n : Counts) (units : ℕ) : Type 0 where
+  pub run : record { state = after; units = units } ≡ run-for allowance before
+  pub roomy : Roomy n
+
+-- a turn that spends nothing is the end
+pub advance-stops : (a u k : ℕ) (w₀ w w′ : World) (n : Counts) → run-for a w₀ ≡ spent u (run-for (a - u) w) → TurnOf (a - u) w w′ n k → k ≡ 0 → Advanced a w₀ w′ n u
+advance-stops a u k w₀ w w′ n inv t z = record { run = turns-stop go step a u w (run-for a w₀) inv w′ k (t .turned) z; roomy = t .roomy }
+
+pub ruleset advancing = (advance-stops, needs)

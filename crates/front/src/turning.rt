@@ -20,8 +20,8 @@ ghost use lib.ListN.{length};
 ghost use Rattle.rules.specs.Stream.{stream-bytes};
 ghost use Rattle.packets.specs.Views.{Room};
 ghost use Rattle.phases.specs.Playing.{PacketsRan};
-ghost use Rattle.front.specs.Views.{Roomy};
-ghost use Rattle.front.specs.Turning.{Due, EntriesTurn, PacketsTurn};
+ghost use Rattle.front.specs.Views.{Roomy, worldOf};
+ghost use Rattle.front.specs.Turning.{Due, EntriesTurn, PacketsTurn, TurnOf, stillTurn, Advanced};
 
 pub struct Turn {
     pub scalars: Scalars,
@@ -137,4 +137,79 @@ fn packets_turn(
         scalars,
         units: run.units,
     }
+}
+
+// Nothing is due: no unit is spent.
+fn still(s: Scalars) -> Turn
+    ensures { λ r. ⌜ r ≡ stillTurn s ⌝ }
+{
+    Turn {
+        scalars: s,
+        units: 0,
+    }
+}
+
+// One turn: an opening, or a phase for as long as the allowance lets; none where the device has stopped.
+fn turn_once(
+    s: Scalars,
+    mem: &mut [u8],
+    entries: &mut [u64; 256],
+    rooms: &[u64; 640],
+    held: &mut [u64; 640],
+    records: &mut [u64; 320],
+    left: u16,
+) -> Turn
+    requires { ⌜ Roomy (s .counts) × (0 < left) ⌝ }
+    ensures { λ r. ⌜ TurnOf left (worldOf s (now (entries .entry)) (now (rooms .entry)) (now (held .entry)) (now (records .entry)) (now (mem .entry))) (worldOf (r .scalars) (now (entries .exit)) (now (rooms .entry)) (now (held .exit)) (now (records .exit)) (now (mem .exit))) (r .scalars .counts) (r .units) ⌝ }
+{
+    let regs = s.regs;
+    let stage = s.stage;
+    if !regs.enabled {
+        return still(s);
+    }
+    match stage {
+        Stage::Waiting(_) => still(s),
+        Stage::Resting => {
+            if !regs.rung {
+                return still(s);
+            }
+            let scalars = open_ring(s, mem, rooms, held);
+            Turn { scalars, units: 1 }
+        }
+        Stage::Entries(o) => entries_turn(s, o, mem, entries, rooms, held, left),
+        Stage::Packets(job, stream, at) => {
+            packets_turn(s, job, stream, at, mem, entries, held, records, left)
+        }
+    }
+}
+
+// As many units as are allowed: until they are spent, nothing is due, or a submission waits.
+pub fn advance(
+    from: Scalars,
+    mem: &mut [u8],
+    entries: &mut [u64; 256],
+    rooms: &[u64; 640],
+    held: &mut [u64; 640],
+    records: &mut [u64; 320],
+    allowance: u16,
+) -> Turn
+    requires { ⌜ Roomy (from .counts) ⌝ }
+    ensures { λ r. ⌜ Advanced allowance (worldOf from (now (entries .entry)) (now (rooms .entry)) (now (held .entry)) (now (records .entry)) (now (mem .entry))) (worldOf (r .scalars) (now (entries .exit)) (now (rooms .entry)) (now (held .exit)) (now (records .exit)) (now (mem .exit))) (r .scalars .counts) (r .units) ⌝ }
+{
+    let mut s = from;
+    let mut units: u16 = 0;
+    while units < allowance {
+        let t = turn_once(s, mem, entries, rooms, held, records, allowance - units);
+        let next = t.scalars;
+        let n = t.units;
+        if n == 0 {
+            return Turn {
+                scalars: next,
+                units,
+            };
+        }
+        s = next;
+        units += n;
+    }
+    Turn { scalars: s, units }
 }
