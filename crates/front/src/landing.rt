@@ -25,7 +25,7 @@ ghost use Rattle.front.specs.Views.{Roomy};
 ghost use Rattle.front.specs.Landing.{Refuses, LandsEntries, LandsPackets, Opens};
 
 // A submission refused: settled with its error, and nothing in work.
-fn refuse(s: Scalars, mem: &mut [u8], job: Job, why: Verdict) -> Scalars
+pub fn refuse(s: Scalars, mem: &mut [u8], job: Job, why: Verdict) -> Scalars
     ensures { λ r. ⌜ Refuses s (now (mem .entry)) job why r (now (mem .exit)) ⌝ }
 {
     let regs = settle::settle(s.regs, mem, job, why);
