@@ -1,0 +1,13 @@
+use Rattle.device.specs.Runs.{making}
+use borrow.Author.Needs.{needs}
+use Rattle.device.proofs.Device.new.Statement.{statement}
+use Rattle.device.proofs.Device.new.Tie as tie
+
+zero-registers-requires : tie.Need-zero-registers-requires
+zero-registers-requires c κs = search needs
+
+returns : tie.Need-returns
+returns c = search making
+
+pub new-spec : {M : Type 1} → statement M
+new-spec = tie.close (tie.spec zero-registers-requires returns)

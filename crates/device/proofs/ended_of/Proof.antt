@@ -1,0 +1,57 @@
+use Rattle.device.specs.Runs.{ending-up}
+use borrow.Author.Needs.{needs}
+use Rattle.device.proofs.ended_of.Statement.{statement}
+use Rattle.device.proofs.ended_of.Tie as tie
+
+enum-told : tie.Need-enum-told
+enum-told c = search needs
+
+enum-told-2 : tie.Need-enum-told-2
+enum-told-2 c = search needs
+
+returns : tie.Need-returns
+returns c = search ending-up
+
+returns-2 : tie.Need-returns-2
+returns-2 c = search ending-up
+
+enum-told-3 : tie.Need-enum-told-3
+enum-told-3 c = search needs
+
+returns-3 : tie.Need-returns-3
+returns-3 c = search ending-up
+
+enum-told-4 : tie.Need-enum-told-4
+enum-told-4 c = search needs
+
+returns-4 : tie.Need-returns-4
+returns-4 c = search ending-up
+
+returns-5 : tie.Need-returns-5
+returns-5 c = search ending-up
+
+returns-6 : tie.Need-returns-6
+returns-6 c = search ending-up
+
+returns-7 : tie.Need-returns-7
+returns-7 c = search ending-up
+
+returns-8 : tie.Need-returns-8
+returns-8 c = search ending-up
+
+pub ended-of-spec : {M : Type 1} → statement M
+ended-of-spec =
+    tie.close
+    (tie.spec
+    enum-told
+    enum-told-2
+    returns
+    returns-2
+    enum-told-3
+    returns-3
+    enum-told-4
+    returns-4
+    returns-5
+    returns-6
+    returns-7
+    returns-8)
