@@ -1,3 +1,4 @@
 pub mod Tame
 pub mod Views
 pub mod Runs
+pub mod Reads

@@ -1,19 +1,18 @@
 -- The calls run and answer, and a new device: what their code asks. Assumes nothing.
 use mathlib.Core.Path.{_≡_, refl, sym, ap, _∙_}
 use mathlib.Core.Bool.{Bool, true, false, not, _&&_, _||_}
-use mathlib.Core.List.{List, []}
+use mathlib.Core.List.{List}
 use Prim.Native.Nat.{ℕ, _≤_}
 use native.Mathlib.Omega.{arith}
 use borrow.Author.Needs.{needs}
 use borrow.Author.Tests.{eq-eqb, ne-eqb, not-true, not-false}
-use lib.Dec.{eqb}
 use lib.ListN.{length}
-use Rattle.machine.specs.Machine.{pick, Out}
+use Rattle.machine.specs.Machine.{pick}
 use Rattle.rules.specs.Numbers.{done, other-memory, nothing-waits}
-use Rattle.rules.specs.State.{Work, State, World, fresh, made}
-use Rattle.rules.specs.State.Work.{resting, entries, packets, waiting}
-use Rattle.rules.specs.Steps.{run-for, waits-on, waits, answer-on, answered}
-use Rattle.rules.specs.Calls.{lent-another, ending, call-run, call-answer, Ran as RanBy, Told as ToldBy}
+use Rattle.rules.specs.State.{World, fresh, made}
+use Rattle.rules.specs.State.Work.{entries}
+use Rattle.rules.specs.Steps.{run-for, waits-on, waits, answered}
+use Rattle.rules.specs.Calls.{lent-another, ending, call-run, call-answer, Told as ToldBy}
 use Rattle.rules.specs.declared.Registers.{Registers}
 use Rattle.rules.specs.declared.Job.{Job}
 use Rattle.rules.specs.declared.Stream.{Stream}
@@ -22,7 +21,7 @@ use Rattle.rules.specs.declared.Ended.{Ended}
 use Rattle.rules.specs.declared.Ended.the-variants.{Idle, Waiting as WaitingEnd, Paused}
 use Rattle.rooms.specs.Views.{resourceOf}
 use Rattle.words.specs.Rows.{table-zero}
-use Rattle.front.specs.Views.{workOf, worldOf, Roomy}
+use Rattle.front.specs.Views.{workOf, worldOf}
 use Rattle.front.specs.Turning.{Advanced}
 use Rattle.front.specs.Answering.{Answers}
 use Rattle.front.specs.declared.scalars.Stage.the-variants.{Resting, Entries, Packets, Waiting}
@@ -31,7 +30,7 @@ use Rattle.front.specs.declared.scalars.Counts.{Counts}
 use Rattle.front.specs.declared.scalars.Scalars.{Scalars}
 use Rattle.front.specs.declared.turning.Turn.{Turn}
 use Rattle.front.specs.declared.answering.Told.{Told as ToldFront}
-use Rattle.device.specs.Tame.{least, least-same, tamed, Tames, roomy-tamed}
+use Rattle.device.specs.Tame.{least-same, tamed, Tames, roomy-tamed}
 use Rattle.device.specs.Views.{stateIn, worldIn, ranOf, toldOf, Ends, stageWaits}
 use Rattle.device.specs.declared.Device.{Device}
 

@@ -3,9 +3,11 @@ use mathlib.Core.Path.{_≡_}
 use mathlib.Core.Bool.{Bool, true, false}
 use mathlib.Core.List.{List, []}
 use Prim.Native.Nat.{ℕ}
+use Rattle.rules.specs.Numbers.{no-record}
 use Rattle.rules.specs.State.{State, World}
-use Rattle.rules.specs.Calls.{ending, Wrote as WroteBy, Value, Ran as RanBy, Handed as HandedBy, Told as ToldBy}
+use Rattle.rules.specs.Calls.{ending, Wrote as WroteBy, Value, no-range, Ran as RanBy, Handed as HandedBy, Told as ToldBy}
 use Rattle.rules.specs.declared.Ended.{Ended}
+use Rattle.rules.specs.declared.Registers.{Registers}
 use Rattle.front.specs.Views.{worldOf}
 use Rattle.front.specs.declared.scalars.Stage.{Stage}
 use Rattle.front.specs.declared.scalars.Stage.the-variants.{Resting, Entries, Packets, Waiting}
@@ -35,7 +37,7 @@ abbrev pub ranOf : Ran → List ℕ → RanBy
 ranOf r m = record { answer = r .answer; units = r .units; ended = r .ended; world = worldIn (r .device) m }
 
 abbrev pub handedOf : Handed → HandedBy
-handedOf r = record { answer = r .answer; range = r .record }
+handedOf r = record { answer = r .answer; range = r .range }
 
 abbrev pub toldOf : Told → List ℕ → ToldBy
 toldOf r m = record { answer = r .answer; world = worldIn (r .device) m }
@@ -49,3 +51,18 @@ stageWaits Resting = false
 stageWaits (Entries o) = false
 stageWaits (Packets j s at) = false
 stageWaits (Waiting j) = true
+
+abbrev pub withRegisters : Registers → Scalars → Scalars
+withRegisters regs s = record { memory = s .memory; regs = regs; stage = s .stage; counts = s .counts }
+
+abbrev pub droppedWith : Registers → Scalars → Scalars
+droppedWith regs s =
+    record {
+      memory = s .memory;
+      regs = regs;
+      stage = Resting;
+      counts = record { entries = s .counts .entries; rooms = 0; held = s .counts .held; records = s .counts .records };
+    }
+
+abbrev pub noneHanded : Handed
+noneHanded = record { answer = no-record; range = no-range }

@@ -7,18 +7,22 @@ use front::scalars::Counts;
 use front::scalars::Scalars;
 use front::scalars::Stage;
 use front::turning::advance;
+use registers::Shown;
+use registers::Written;
+use rooms::records::record_row;
 use rules::Ended;
 use rules::Record;
 use rules::Registers;
 use rules::numbers::DONE;
+use rules::numbers::NO_RECORD;
+use rules::numbers::NO_REGISTER;
 use rules::numbers::NOTHING_WAITS;
 use rules::numbers::OTHER_MEMORY;
 use tame::tame;
 ghost use mathlib.Core.Path.{_≡_};
 ghost use Rattle.rules.specs.State.{fresh, made};
-ghost use Rattle.rules.specs.Calls.{call-write, call-read, call-run, call-record, call-answer, ending};
-ghost use Rattle.front.specs.Views.{worldOf};
-ghost use Rattle.device.specs.Views.{stateIn, worldIn, wroteOf, valueOf, ranOf, handedOf, toldOf, Ends, stageWaits};
+ghost use Rattle.rules.specs.Calls.{call-write, call-read, call-run, call-record, call-answer};
+ghost use Rattle.device.specs.Views.{stateIn, worldIn, wroteOf, valueOf, ranOf, handedOf, toldOf, Ends, stageWaits, withRegisters, droppedWith, noneHanded};
 
 pub struct Device {
     pub scalars: Scalars,
@@ -47,7 +51,7 @@ pub struct Ran {
 
 pub struct Handed {
     pub answer: u32,
-    pub record: Record,
+    pub range: Record,
 }
 
 pub struct Told {
@@ -99,6 +103,62 @@ fn awaits(stage: Stage) -> bool
     }
 }
 
+fn place(x: u32) -> usize
+    ensures { λ r. ⌜ r ≡ x ⌝ }
+{
+    x as usize
+}
+
+// No record: every value beside the refusal is zero.
+fn none_handed() -> Handed
+    ensures { λ r. ⌜ r ≡ noneHanded ⌝ }
+{
+    let range = Record {
+        kind: 0,
+        handle: 0,
+        id: 0,
+        gpa: 0,
+        length: 0,
+    };
+    Handed {
+        answer: NO_RECORD,
+        range,
+    }
+}
+
+// The same device with other registers.
+fn with_registers(s: Scalars, regs: Registers) -> Scalars
+    ensures { λ r. ⌜ r ≡ withRegisters regs s ⌝ }
+{
+    let stage = s.stage;
+    let counts = s.counts;
+    Scalars {
+        memory: s.memory,
+        regs,
+        stage,
+        counts,
+    }
+}
+
+// A reset: what was in work and every resource is dropped.
+fn dropped(s: Scalars, regs: Registers) -> Scalars
+    ensures { λ r. ⌜ r ≡ droppedWith regs s ⌝ }
+{
+    let n = s.counts;
+    let counts = Counts {
+        entries: n.entries,
+        rooms: 0,
+        held: n.held,
+        records: n.records,
+    };
+    Scalars {
+        memory: s.memory,
+        regs,
+        stage: Stage::Resting,
+        counts,
+    }
+}
+
 fn zero_registers() -> Registers
     ensures { λ r. ⌜ r ≡ fresh ⌝ }
 {
@@ -142,6 +202,90 @@ impl Device {
             rooms: [0u64; 640],
             held: [0u64; 640],
             records: [0u64; 320],
+        }
+    }
+
+    // What a write to a register makes of the device.
+    pub fn write(self, offset: u32, value: u32) -> Wrote
+        ensures { λ r. ⌜ wroteOf r ≡ call-write (stateIn self) offset value ⌝ }
+    {
+        let s = self.scalars;
+        let entries = self.entries;
+        let rooms = self.rooms;
+        let held = self.held;
+        let records = self.records;
+        match registers::write(s.regs, offset, value) {
+            Written::NoRegister => Wrote {
+                answer: NO_REGISTER,
+                device: self,
+            },
+            Written::Kept(regs) => {
+                let scalars = with_registers(s, regs);
+                let device = Device {
+                    scalars,
+                    entries,
+                    rooms,
+                    held,
+                    records,
+                };
+                Wrote {
+                    answer: DONE,
+                    device,
+                }
+            }
+            Written::Reset(regs) => {
+                let scalars = dropped(s, regs);
+                let device = Device {
+                    scalars,
+                    entries,
+                    rooms,
+                    held,
+                    records,
+                };
+                Wrote {
+                    answer: DONE,
+                    device,
+                }
+            }
+        }
+    }
+
+    // What a register shows.
+    pub fn read(self, offset: u32) -> Read
+        ensures { λ r. ⌜ valueOf r ≡ call-read (stateIn self) offset ⌝ }
+    {
+        let s = self.scalars;
+        match registers::read(s.regs, offset) {
+            Shown::NoRegister => Read {
+                answer: NO_REGISTER,
+                value: 0,
+            },
+            Shown::Value(value) => Read {
+                answer: DONE,
+                value,
+            },
+        }
+    }
+
+    // Record i of the submission that waits.
+    pub fn record(self, i: u32) -> Handed
+        ensures { λ r. ⌜ handedOf r ≡ call-record (stateIn self) i ⌝ }
+    {
+        let s = tame(self.scalars);
+        let records = self.records;
+        let stage = s.stage;
+        let n = s.counts;
+        let at = place(i);
+        if !awaits(stage) {
+            return none_handed();
+        }
+        if at >= n.records {
+            return none_handed();
+        }
+        let range = record_row(&records, at);
+        Handed {
+            answer: DONE,
+            range,
         }
     }
 

@@ -1,12 +1,12 @@
 -- The host's answer: what its code asks. Assumes nothing.
-use mathlib.Core.Path.{_≡_, refl, sym, ap, _∙_}
+use mathlib.Core.Path.{_≡_, refl, _∙_}
 use mathlib.Core.Bool.{Bool, true, false}
 use mathlib.Core.List.{List}
 use Prim.Native.Nat.{ℕ}
 use borrow.Author.Needs.{needs}
 use Rattle.rules.specs.Numbers.{host-failed}
 use Rattle.rules.specs.Judging.{refusal}
-use Rattle.rules.specs.Settle.{settled, settled-keeping}
+use Rattle.rules.specs.Settle.{settled}
 use Rattle.rules.specs.Steps.{waits, answered}
 use Rattle.rules.specs.declared.Registers.{Registers}
 use Rattle.rules.specs.declared.Job.{Job}

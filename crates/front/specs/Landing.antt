@@ -1,6 +1,6 @@
 -- Where a phase or an opening has come to: what its code asks. Assumes nothing.
-use mathlib.Core.Path.{_≡_, refl, sym, ap, _∙_}
-use mathlib.Core.List.{List, []}
+use mathlib.Core.Path.{_≡_, refl, _∙_}
+use mathlib.Core.List.{List}
 use Prim.Native.Nat.{ℕ, _≤_}
 use borrow.Author.Needs.{needs}
 use Rattle.rules.specs.Numbers.{bad-ring, most}
@@ -9,7 +9,7 @@ use Rattle.rules.specs.Ring.{opening-of}
 use Rattle.rules.specs.Packets.{at-first}
 use Rattle.rules.specs.State.{World, working}
 use Rattle.rules.specs.State.Work.{entries, packets, waiting}
-use Rattle.rules.specs.Settle.{faulted, quieted, ended-by, marked, settled, settled-keeping}
+use Rattle.rules.specs.Settle.{faulted, quieted, settled, settled-keeping}
 use Rattle.rules.specs.Steps.{packets-at, after-opening}
 use Rattle.rules.specs.declared.Registers.{Registers}
 use Rattle.rules.specs.declared.Entry.{Entry}
@@ -18,11 +18,10 @@ use Rattle.rules.specs.declared.Stream.{Stream}
 use Rattle.rules.specs.declared.Opened.{Opened}
 use Rattle.rules.specs.declared.Refusal.{Refusal}
 use Rattle.rules.specs.declared.Verdict.{Verdict}
-use Rattle.rules.specs.declared.Verdict.the-variants.{Fine, Broken as BrokenRule}
+use Rattle.rules.specs.declared.Verdict.the-variants.{Broken as BrokenRule}
 use Rattle.rules.specs.declared.Opening.{Opening}
 use Rattle.rules.specs.declared.Opening.the-variants.{BadRing, NoWork, Refused, Started}
 use Rattle.table.specs.Views.{entriesOf}
-use Rattle.rooms.specs.Views.{resourcesOf, holdingsOf}
 use Rattle.packets.specs.Views.{Room}
 use Rattle.settle.specs.Settling.{Settled}
 use Rattle.phases.specs.Entries.{Reading, readingOf}
@@ -33,8 +32,7 @@ use Rattle.phases.specs.declared.entries.EntriesPlace.{EntriesPlace}
 use Rattle.phases.specs.declared.playing.PacketsPlace.{PacketsPlace}
 use Rattle.front.specs.Views.{worldOf, bare, restingWith, Roomy}
 use Rattle.front.specs.Starting.{Begins, Starts}
-use Rattle.front.specs.declared.scalars.Stage.the-variants.{Resting, Entries, Packets, Waiting}
-use Rattle.front.specs.declared.scalars.Counts.{Counts}
+use Rattle.front.specs.declared.scalars.Stage.the-variants.{Entries, Packets, Waiting}
 use Rattle.front.specs.declared.scalars.Scalars.{Scalars}
 
 -- ---- a refusal, whatever the rows are

@@ -1,5 +1,5 @@
 -- What comes after an opening: what its code asks. Assumes nothing.
-use mathlib.Core.Path.{_≡_, refl, sym, ap, _∙_}
+use mathlib.Core.Path.{_≡_, refl, _∙_}
 use mathlib.Core.List.{List, []}
 use mathlib.Core.Bool.{Bool, true, false}
 use Prim.Native.Nat.{ℕ, _≤_, _<_}
@@ -7,12 +7,11 @@ use native.Mathlib.Omega.{arith}
 use borrow.Author.Needs.{needs}
 use borrow.Author.Tests.{lt-ltb, le-ltb}
 use lib.Dec.{ltb}
-use lib.ListN.{length}
 use Rattle.machine.specs.Machine.{pick}
 use Rattle.rules.specs.Numbers.{most}
 use Rattle.rules.specs.Layouts.{stream-header-size}
 use Rattle.rules.specs.Packets.{at-first}
-use Rattle.rules.specs.State.{World, working}
+use Rattle.rules.specs.State.{working}
 use Rattle.rules.specs.State.Work.{packets, waiting}
 use Rattle.rules.specs.Steps.{packets-at, entries-at}
 use Rattle.rules.specs.declared.Job.{Job}
@@ -23,7 +22,7 @@ use Rattle.table.specs.Views.{entryOf, entriesOf}
 use Rattle.rooms.specs.Views.{recordOf, resourcesOf, holdingsOf}
 use Rattle.front.specs.Views.{worldOf, workOf, bare, Roomy}
 use Rattle.front.specs.declared.scalars.Stage.{Stage}
-use Rattle.front.specs.declared.scalars.Stage.the-variants.{Resting, Entries, Packets, Waiting}
+use Rattle.front.specs.declared.scalars.Stage.the-variants.{Entries, Packets, Waiting}
 use Rattle.front.specs.declared.scalars.Counts.{Counts}
 use Rattle.front.specs.declared.scalars.Scalars.{Scalars}
 

@@ -1,5 +1,5 @@
 -- A run, turn by turn: the phases are small machines within the large one. Assumes nothing.
-use mathlib.Core.Path.{_≡_, refl, sym, ap, _∙_}
+use mathlib.Core.Path.{_≡_, refl, sym, _∙_}
 use mathlib.Core.Bool.{Bool, true, false, not, _&&_, and-false}
 use mathlib.Core.List.{List, []}
 use Prim.Native.Nat.{ℕ, _+_, _-_, _^_, _≤_, _<_}
@@ -11,29 +11,27 @@ use lib.ListN.{length, take, drop, length-drop, drop-of-length-le}
 use lib.Seq.{take-all, take-nil}
 use mir.Syntax.{w64}
 use mir.Val.{Fits}
-use Rattle.machine.specs.Machine.{pick, Out, spent, runFor}
+use Rattle.machine.specs.Machine.{pick, spent}
 use Rattle.machine.specs.Within.{Turned, turned-stop, turned-step, turned-phase, turns-stop}
-use Rattle.rules.specs.Numbers.{most}
 use Rattle.rules.specs.Layouts.{stream-header-size}
 use Rattle.rules.specs.Table.{take-entry}
 use Rattle.rules.specs.Stream.{stream-bytes}
 use Rattle.rules.specs.Packets.{Holdings, at-first, take-packet}
 use Rattle.rules.specs.State.{Work, World, working}
 use Rattle.rules.specs.State.Work.{entries, packets, waiting}
-use Rattle.rules.specs.Settle.{settled, settled-keeping}
-use Rattle.rules.specs.Steps.{packets-at, entries-at, after-entry, entry-step, after-packet, next-place, packet-step, open-step, step, go, run-for}
+use Rattle.rules.specs.Settle.{settled}
+use Rattle.rules.specs.Steps.{packets-at, after-entry, entry-step, after-packet, next-place, packet-step, open-step, step, go, run-for}
 use Rattle.rules.specs.declared.Entry.{Entry}
 use Rattle.rules.specs.declared.Job.{Job}
 use Rattle.rules.specs.declared.Stream.{Stream}
 use Rattle.rules.specs.declared.Opened.{Opened}
-use Rattle.rules.specs.declared.Refusal.{Refusal}
 use Rattle.rules.specs.declared.Verdict.{Verdict}
 use Rattle.rules.specs.declared.Verdict.the-variants.{Fine, Broken as BrokenRule}
 use Rattle.table.specs.Views.{entriesOf}
 use Rattle.rooms.specs.Views.{holdingsOf}
 use Rattle.packets.specs.Views.{Room}
-use Rattle.phases.specs.Ending.{onward, ending-at}
-use Rattle.phases.specs.Entries.{Reading, reading-goes, read-on, read-step, readingOf, EntriesRan, from-row, outOf as entriesOut}
+use Rattle.phases.specs.Ending.{onward}
+use Rattle.phases.specs.Entries.{Reading, reading-goes, read-on, read-step, EntriesRan, from-row, outOf as entriesOut}
 use Rattle.phases.specs.Playing.{Playing, playing-goes, play-on, play-step, playingOf, PacketsRan, outOf as packetsOut}
 use Rattle.phases.specs.declared.ending.Ending.{Ending}
 use Rattle.phases.specs.declared.ending.Ending.the-variants.{Going, Done, Broken}

@@ -14,7 +14,6 @@ use rules::Job;
 use rules::Opened;
 use rules::Stream;
 ghost use mathlib.Core.Path.{_≡_};
-ghost use mathlib.Core.Bool.{true, false};
 ghost use Prim.Native.Nat.{_≤_, _<_};
 ghost use lib.ListN.{length};
 ghost use Rattle.rules.specs.Stream.{stream-bytes};
