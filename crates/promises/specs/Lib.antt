@@ -3,3 +3,5 @@ pub mod Whole
 pub mod Submission
 pub mod Slices
 pub mod Sound
+pub mod Fences
+pub mod Refused

@@ -1,5 +1,5 @@
 -- What is true of every device that was made and called, whatever bytes stood in memory: its soundness. A new device has it and
--- every step, answer and register write keeps it. Assumes nothing.
+-- every step, run and answer keeps it; Refused.antt says it of every call. Assumes nothing.
 use mathlib.Core.Path.{_≡_, refl, sym, subst, _∙_}
 use mathlib.Core.Bool.{Bool, true, false, _&&_}
 use mathlib.Core.List.{List, [], _∷_}
@@ -33,7 +33,7 @@ use Rattle.rules.specs.declared.Verdict.the-variants.{Fine, Broken}
 use Rattle.rules.specs.declared.Opening.{Opening}
 use Rattle.rules.specs.declared.Opening.the-variants.{BadRing, NoWork, Refused, Started}
 use Rattle.words.specs.Keys.{Once, once-nil, once-pushed, lookup-nil}
-use Rattle.packets.specs.Held.{SoundResources, Sound, first-sound, take-sound}
+use Rattle.packets.specs.Held.{Every, Inside, SoundResources, Sound, first-sound, take-sound}
 use Rattle.laws.specs.Fine.{fine-later, kept-rule, both-left}
 
 -- ---- the entries of a table: at most 64, each id once
@@ -164,3 +164,9 @@ run-keeps-sound (suc n) w s = by-test (go w) refl (run-keeps-sound n (step w) (s
 pub answer-keeps-sound : (good : Bool) (w : World) → SoundState (w .state) → SoundState (answered good w .state)
 unfolding answered
 answer-keeps-sound good w s = answer-sound w (s .resources) good (w .state .work) refl (s .work)
+
+-- while a submission waits: every record lies inside the one entry of its table that has its id, and no other has it
+pub waiting-ranges-inside : (s : State) (j : Job) (es : List Entry) (h : Holdings) → SoundState s → s .work ≡ waiting j es h → Every (Inside es) (h .records) × Once entry-id es
+waiting-ranges-inside s j es h k e =
+    let here : SoundWork (waiting j es h) = subst SoundWork e (k .work) in
+    (here .1 .inside, here .0 .once)

@@ -1,0 +1,107 @@
+-- Demand 1: a refused call gives its number and changes no state and no byte; every call keeps the device sound. Assumes nothing.
+use mathlib.Core.Path.{_≡_, refl, sym, ap, subst, _∙_}
+use mathlib.Core.Bool.{Bool, true, false}
+use mathlib.Core.List.{List, [], _∷_}
+use Prim.Native.Nat.{ℕ, _≤_}
+use native.Mathlib.Omega.{arith}
+use lib.Dec.{eqb}
+use Rattle.machine.specs.Machine.{pick}
+use Rattle.rules.specs.Numbers.{done, other-memory, no-register, nothing-waits}
+use Rattle.rules.specs.Lists.{Found, lookup}
+use Rattle.rules.specs.Lists.Found.{none, found}
+use Rattle.rules.specs.State.{State, World, with-regs}
+use Rattle.rules.specs.Registers.{Write, with-enabled, bit-of, reset, controlled, writable, write-offset, write-of}
+use Rattle.rules.specs.Steps.{run-for, waits, answered}
+use Rattle.rules.specs.Calls.{lent-another, Wrote, wrote, call-write, Ran, ran, call-run, Told, call-answer}
+use Rattle.rules.specs.declared.Ended.the-variants.{Idle}
+use Rattle.packets.specs.Held.{Every}
+use Rattle.promises.specs.Sound.{SoundState, run-keeps-sound, answer-keeps-sound, made-sound}
+
+-- ---- refused calls
+
+pub refused-run-changes-nothing : (w : World) (n : ℕ) → (call-run w n .answer ≡ done → ⊥) → call-run w n .world ≡ w
+unfolding call-run
+refused-run-changes-nothing w n = by-test (lent-another w)
+  where
+    by-test : (b : Bool) → (pick b (record { answer = other-memory; units = 0; ended = Idle; world = w }) (ran (run-for n w)) .answer ≡ done → ⊥) → pick b (record { answer = other-memory; units = 0; ended = Idle; world = w }) (ran (run-for n w)) .world ≡ w
+    by-test true h = refl
+    by-test false h = absurd (h refl)
+
+-- what an answer comes to, by the two tests
+abbrev told-by : Bool → Bool → World → Bool → Told
+told-by a b w good =
+    pick a (record { answer = other-memory; world = w })
+    (pick b (record { answer = done; world = answered good w }) (record { answer = nothing-waits; world = w }))
+
+told-refused : (a b : Bool) (w : World) (good : Bool) → (told-by a b w good .answer ≡ done → ⊥) → told-by a b w good .world ≡ w
+told-refused true b w good h = refl
+told-refused false true w good h = absurd (h refl)
+told-refused false false w good h = refl
+
+pub refused-answer-changes-nothing : (w : World) (good : Bool) → (call-answer w good .answer ≡ done → ⊥) → call-answer w good .world ≡ w
+unfolding call-answer
+refused-answer-changes-nothing w good = told-refused (lent-another w) (waits (w .state)) w good
+
+pub refused-write-changes-nothing : (s : State) (offset v : ℕ) → (call-write s offset v .answer ≡ done → ⊥) → call-write s offset v .state ≡ s
+unfolding call-write
+refused-write-changes-nothing s offset v = by-found (write-of s offset v)
+  where
+    by-found : (f : Found Write) → (wrote s f .answer ≡ done → ⊥) → wrote s f .state ≡ s
+    by-found none h = refl
+    by-found (found x) h = absurd (h refl)
+
+-- ---- soundness, kept by every call
+
+pub run-call-keeps-sound : (w : World) (n : ℕ) → SoundState (w .state) → SoundState (call-run w n .world .state)
+unfolding call-run
+run-call-keeps-sound w n s = by-test (lent-another w)
+  where
+    by-test : (b : Bool) → SoundState (pick b (record { answer = other-memory; units = 0; ended = Idle; world = w }) (ran (run-for n w)) .world .state)
+    by-test true = s
+    by-test false = run-keeps-sound n w s
+
+pub answer-call-keeps-sound : (w : World) (good : Bool) → SoundState (w .state) → SoundState (call-answer w good .world .state)
+unfolding call-answer
+answer-call-keeps-sound w good s = by-tests (lent-another w) (waits (w .state))
+  where
+    by-tests : (a b : Bool) → SoundState (told-by a b w good .world .state)
+    by-tests true b = s
+    by-tests false true = answer-keeps-sound good w s
+    by-tests false false = s
+
+-- a write keeps it: it changes registers alone, or drops everything
+controlled-sound : (v : ℕ) (s : State) → SoundState s → SoundState (controlled v s)
+unfolding controlled reset
+controlled-sound v s k = by-bit (bit-of 1 v)
+  where
+    by-bit : (b : Bool) → SoundState (pick b (reset (bit-of 0 v) s) (with-regs (with-enabled (bit-of 0 v) (s .regs)) s))
+    by-bit true = record { resources = made-sound 0 .resources; work = made-sound 0 .work }
+    by-bit false = record { resources = k .resources; work = k .work }
+
+abbrev SoundFound : Found Write → Type 0
+SoundFound none = 0 ≤ 0
+SoundFound (found x) = SoundState (x .state)
+
+lookup-sound : (offset : ℕ) (ws : List Write) → Every (λ (x : Write). SoundState (x .state)) ws → SoundFound (lookup write-offset offset ws)
+unfolding lookup Every
+lookup-sound offset [] h = omega arith
+lookup-sound offset (x ∷ xs) h = by-test (eqb (x .offset) offset) (lookup-sound offset xs (h .1))
+  where
+    by-test : (b : Bool) → SoundFound (lookup write-offset offset xs) → SoundFound (pick b (found x) (lookup write-offset offset xs))
+    by-test true k = h .0
+    by-test false k = k
+
+writes-sound : (s : State) (v : ℕ) → SoundState s → Every (λ (x : Write). SoundState (x .state)) (writable s v)
+unfolding Every
+writes-sound s v k =
+    (record { resources = k .resources; work = k .work }, (record { resources = k .resources; work = k .work }, (record { resources = k .resources; work = k .work }, (controlled-sound v s k,
+    (record { resources = k .resources; work = k .work }, (record { resources = k .resources; work = k .work }, (record { resources = k .resources; work = k .work }, (record { resources = k .resources; work = k .work },
+    (record { resources = k .resources; work = k .work }, omega arith)))))))))
+
+wrote-sound : (s : State) (f : Found Write) → SoundState s → SoundFound f → SoundState (wrote s f .state)
+wrote-sound s none k h = k
+wrote-sound s (found x) k h = h
+
+pub write-call-keeps-sound : (s : State) (offset v : ℕ) → SoundState s → SoundState (call-write s offset v .state)
+unfolding call-write write-of
+write-call-keeps-sound s offset v k = wrote-sound s (write-of s offset v) k (lookup-sound offset (writable s v) (writes-sound s v k))
