@@ -1,8 +1,8 @@
 -- Demand 2, the fence: one that is accepted waits for the host, with registers, memory and the device's resources as before the
 -- opening; one that is refused is settled with its error, hands out nothing and keeps every resource. Assumes nothing.
-use mathlib.Core.Path.{_≡_, refl, sym, ap, _∙_}
+use mathlib.Core.Path.{_≡_, refl, ap, _∙_}
 use mathlib.Core.Bool.{true, false}
-use mathlib.Core.List.{List, []}
+use mathlib.Core.List.{List}
 use Prim.Native.Nat.{ℕ}
 use Rattle.machine.specs.Machine.{Out}
 use Rattle.rules.specs.Numbers.{host-failed, no-record}
@@ -12,16 +12,15 @@ use Rattle.rules.specs.Ring.{opening-of}
 use Rattle.rules.specs.Table.{entries-of}
 use Rattle.rules.specs.Packets.{Holdings, at-first}
 use Rattle.rules.specs.State.{World, working}
-use Rattle.rules.specs.State.Work.{resting, waiting}
-use Rattle.rules.specs.Settle.{ended-by, marked, settled, settled-keeping}
+use Rattle.rules.specs.State.Work.{waiting}
+use Rattle.rules.specs.Settle.{ended-by, settled, settled-keeping}
 use Rattle.rules.specs.Steps.{answered}
-use Rattle.rules.specs.Unsliced.{Submission, submission, finished, concluding, submitted-on, submitted}
-use Rattle.rules.specs.Calls.{call-record, handed-out, no-range}
+use Rattle.rules.specs.Unsliced.{Submission, submission, concluding, submitted-on, submitted}
+use Rattle.rules.specs.Calls.{call-record, no-range}
 use Rattle.rules.specs.declared.Entry.{Entry}
 use Rattle.rules.specs.declared.Job.{Job}
 use Rattle.rules.specs.declared.Opened.{Opened}
 use Rattle.rules.specs.declared.Refusal.{Refusal}
-use Rattle.rules.specs.declared.Verdict.{Verdict}
 use Rattle.rules.specs.declared.Verdict.the-variants.{Fine, Broken}
 use Rattle.rules.specs.declared.Opening.the-variants.{Started}
 

@@ -5,3 +5,6 @@ pub mod Slices
 pub mod Sound
 pub mod Fences
 pub mod Refused
+pub mod Memory
+pub mod OnDevice
+pub mod Examples

@@ -1,18 +1,18 @@
 -- Demand 1: a refused call gives its number and changes no state and no byte; every call keeps the device sound. Assumes nothing.
-use mathlib.Core.Path.{_≡_, refl, sym, ap, subst, _∙_}
+use mathlib.Core.Path.{_≡_, refl, _∙_}
 use mathlib.Core.Bool.{Bool, true, false}
 use mathlib.Core.List.{List, [], _∷_}
 use Prim.Native.Nat.{ℕ, _≤_}
 use native.Mathlib.Omega.{arith}
 use lib.Dec.{eqb}
 use Rattle.machine.specs.Machine.{pick}
-use Rattle.rules.specs.Numbers.{done, other-memory, no-register, nothing-waits}
+use Rattle.rules.specs.Numbers.{done, other-memory, nothing-waits}
 use Rattle.rules.specs.Lists.{Found, lookup}
 use Rattle.rules.specs.Lists.Found.{none, found}
 use Rattle.rules.specs.State.{State, World, with-regs}
 use Rattle.rules.specs.Registers.{Write, with-enabled, bit-of, reset, controlled, writable, write-offset, write-of}
 use Rattle.rules.specs.Steps.{run-for, waits, answered}
-use Rattle.rules.specs.Calls.{lent-another, Wrote, wrote, call-write, Ran, ran, call-run, Told, call-answer}
+use Rattle.rules.specs.Calls.{lent-another, wrote, call-write, ran, call-run, Told, call-answer}
 use Rattle.rules.specs.declared.Ended.the-variants.{Idle}
 use Rattle.packets.specs.Held.{Every}
 use Rattle.promises.specs.Sound.{SoundState, run-keeps-sound, answer-keeps-sound, made-sound}
@@ -93,10 +93,31 @@ lookup-sound offset (x ∷ xs) h = by-test (eqb (x .offset) offset) (lookup-soun
 
 writes-sound : (s : State) (v : ℕ) → SoundState s → Every (λ (x : Write). SoundState (x .state)) (writable s v)
 unfolding Every
-writes-sound s v k =
-    (record { resources = k .resources; work = k .work }, (record { resources = k .resources; work = k .work }, (record { resources = k .resources; work = k .work }, (controlled-sound v s k,
-    (record { resources = k .resources; work = k .work }, (record { resources = k .resources; work = k .work }, (record { resources = k .resources; work = k .work }, (record { resources = k .resources; work = k .work },
-    (record { resources = k .resources; work = k .work }, omega arith)))))))))
+writes-sound s v k = (
+  record { resources = k .resources; work = k .work },
+  (
+    record { resources = k .resources; work = k .work },
+    (
+      record { resources = k .resources; work = k .work },
+      (
+        controlled-sound v s k,
+        (
+          record { resources = k .resources; work = k .work },
+          (
+            record { resources = k .resources; work = k .work },
+            (
+              record { resources = k .resources; work = k .work },
+              (
+                record { resources = k .resources; work = k .work },
+                (record { resources = k .resources; work = k .work }, omega arith),
+              ),
+            ),
+          ),
+        ),
+      ),
+    ),
+  ),
+)
 
 wrote-sound : (s : State) (f : Found Write) → SoundState s → SoundFound f → SoundState (wrote s f .state)
 wrote-sound s none k h = k

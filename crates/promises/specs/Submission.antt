@@ -216,3 +216,7 @@ unfolding submitted step open-step go
 whole w rest g =
     whole-at w (opening-of (w .mem) (w .state .regs .ring) (w .state .regs .ringsize)) (both-left (w .state .regs .enabled) _ g) g
     (opening-lies (w .mem) (w .state .regs .ring) (w .state .regs .ringsize)) (rw rest)
+
+-- and a run that goes on from there: a submission's units are the unsliced count, and the rest is spent on what comes next
+pub run-through : (w : World) (n : ℕ) → w .state .work ≡ resting → go w ≡ true → run-for (submitted w .units + n) w ≡ spent (submitted w .units) (run-for n (submitted w .state))
+run-through w n rest g = sliced go step (submitted w .units) n w ∙ ap (λ (o : Out World). spent (o .units) (run-for n (o .state))) (whole w rest g)
