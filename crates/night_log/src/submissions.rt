@@ -1,6 +1,5 @@
 // Examples 9 and 10: whole submissions in a memory of 16,384 bytes, from the opening to the host's wait or a refusal.
 // The ring stands at 0; then come the table and the stream of its first slot, and the range of the table's entry.
-use crate::guest::RING;
 use crate::guest::RING_SIZE;
 use crate::guest::put_create;
 use crate::guest::put_descriptor;
@@ -13,31 +12,22 @@ use crate::guest::table_size;
 use crate::lines::say;
 use crate::lines::say_count;
 use crate::lines::say_example;
-use crate::lines::say_judged;
 use crate::lines::say_named;
-use phases::ending::Ending;
-use phases::entries::read_entries;
-use phases::playing::PacketsPlace;
-use phases::playing::PacketsRun;
-use phases::playing::read_packets;
-use ring::opening::open;
-use rooms::records::record_row;
+use device::Device;
+use device::Ran;
+use registers::offsets;
 use rules::CreateBuffer;
 use rules::Descriptor;
 use rules::DirtyRange;
+use rules::Ended;
 use rules::Entry;
-use rules::Opened;
-use rules::Opening;
-use rules::Record;
-use rules::Stream;
 use rules::numbers::CREATE_BUFFER_SIZE;
 use rules::numbers::DESCRIPTOR_SIZE;
 use rules::numbers::DIRTY_RANGE_SIZE;
+use rules::numbers::DONE;
 use rules::numbers::STREAM_HEADER_SIZE;
-ghost use mathlib.Core.Path.{_≡_};
-ghost use Prim.Native.Nat.{_≤_, _<_};
+ghost use Prim.Native.Nat.{_≤_};
 ghost use lib.ListN.{length};
-ghost use Rattle.rules.specs.Numbers.{most};
 
 const TABLE: usize = 1024;
 
@@ -47,119 +37,50 @@ const ENTRY: usize = 8192;
 
 const STREAM_SIZE: u32 = STREAM_HEADER_SIZE + CREATE_BUFFER_SIZE + DIRTY_RANGE_SIZE;
 
-// More units than either example has steps.
-const ALLOWANCE: u16 = 64;
+// ---- the device
 
-// How the steps after an opening went: the units of all steps, the opening's among them, and the records made.
-struct Outcome {
-    units: u32,
-    ending: Ending,
-    made: usize,
-}
-
-// ---- the steps
-
-fn wide(n: u16) -> u32
-    ensures { λ r. ⌜ (r ≡ n) × (r < 65536) ⌝ }
-{
-    n as u32
-}
-
-// The stream's own part of memory; nothing, if it does not lie there.
-fn stream_part(mem: &[u8], s: Stream) -> &[u8] {
-    let size = mem.len();
-    let start = s.gpa as usize;
-    let long = s.size as usize;
-    if long > size {
-        return &mem[0..0];
-    }
-    if start > size - long {
-        return &mem[0..0];
-    }
-    let end = start + long;
-    &mem[start..end]
-}
-
-// All packets of the stream, over the entries kept.
-fn run_stream(
-    mem: &[u8],
-    s: Stream,
-    kept: &[u64; 256],
-    n: usize,
-    records: &mut [u64; 320],
-) -> PacketsRun
-    requires { ⌜ n ≤ most ⌝ }
-    ensures { λ r. ⌜ r .place .made ≤ most ⌝ }
-{
-    let mut held = [0u64; 640];
-    let first = PacketsPlace {
-        at: STREAM_HEADER_SIZE as usize,
-        live: 0,
-        made: 0,
-        ending: Ending::Going,
-    };
-    let part = stream_part(mem, s);
-    read_packets(
-        part,
-        part.len(),
-        kept,
-        n,
-        &mut held,
-        records,
-        first,
-        ALLOWANCE,
-    )
-}
-
-// All entries of the table, then all packets: the first broken rule ends it.
-fn run_steps(mem: &[u8], o: Opened, records: &mut [u64; 320]) -> Outcome
-    ensures { λ r. ⌜ r .made ≤ most ⌝ }
-{
-    let mut kept = [0u64; 256];
-    let e = read_entries(mem, o.table, &mut kept, 0, ALLOWANCE);
-    let units = 1 + wide(e.units); // the opening's unit is counted here: `open` gives none
-    let read = e.place;
-    let ending = read.ending;
-    match ending {
-        Ending::Done => {
-            let p = run_stream(mem, o.stream, &kept, read.n, records);
-            let played = p.place;
-            let last = played.ending;
-            Outcome {
-                units: units + wide(p.units),
-                ending: last,
-                made: played.made,
-            }
-        }
-        _ => Outcome {
-            units,
-            ending,
-            made: 0,
-        },
-    }
+// A device for this memory, enabled, with its ring named and the doorbell rung.
+fn rung(memory: usize) -> Device {
+    let made = Device::new(memory);
+    let sized = made.write(offsets::RING_SIZE, RING_SIZE);
+    let with_ring = sized.device;
+    let enabled = with_ring.write(offsets::CONTROL, 1);
+    let with_control = enabled.device;
+    let rang = with_control.write(offsets::DOORBELL, 0);
+    rang.device
 }
 
 // ---- lines
 
-// How an opened submission stands, and after how many units.
-fn outcome_line(example: u32, opened: Opened, o: Outcome) {
+// How a run ended, and after how many units.
+fn run_line(example: u32, r: Ran, allowance: u16) {
     say_example(example);
-    say_named(b"table of ", opened.table.count as u64);
-    say_named(b", stream of ", opened.stream.size as u64);
-    say(b" bytes: ");
-    let ending = o.ending;
-    match ending {
-        Ending::Going => say(b"not done"),
-        Ending::Done => say(b"waits"),
-        Ending::Broken(why) => say_judged(why.code),
+    say_named(b"run of ", allowance as u64);
+    let ended = r.ended;
+    match ended {
+        Ended::Waiting => say(b": waits after "),
+        Ended::Idle => say(b": idle after "),
+        Ended::Paused => say(b": paused after "),
     }
-    say(b" after ");
-    say_count(o.units, b" unit");
+    say_count(r.units as u32, b" unit");
     say(b"\n");
 }
 
-// A record that the host gets.
-fn record_line(example: u32, r: Record) {
+// A register that the guest reads.
+fn register_line(example: u32, d: Device, name: &[u8], offset: u32) {
+    let r = d.read(offset);
+    say_example(example);
+    say_named(name, r.value as u64);
+    say(b"\n");
+}
+
+// A record that the host gets, if it is there.
+fn record_line(example: u32, d: Device, i: u32) {
+    let h = d.record(i);
+    if h.answer != DONE {
+        return;
+    }
+    let r = h.range;
     say_example(example);
     say_named(b"record ", r.kind as u64);
     say_named(b" of handle ", r.handle as u64);
@@ -169,30 +90,37 @@ fn record_line(example: u32, r: Record) {
     say(b" bytes\n");
 }
 
-fn record_lines(example: u32, records: &[u64; 320], made: usize)
-    requires { ⌜ made ≤ most ⌝ }
-{
-    let mut i: usize = 0;
-    while i < made {
-        record_line(example, record_row(records, i));
-        i += 1;
-    }
+// The run that comes next.
+fn run_lines(example: u32, d: Device, mem: &mut [u8], allowance: u16) -> Device {
+    let r = d.run(mem, allowance);
+    run_line(example, r, allowance);
+    r.device
+}
+
+// The host's good answer, and the fence after it.
+fn answer_lines(example: u32, d: Device, mem: &mut [u8]) -> Device {
+    let t = d.answer(mem, true);
+    say_example(example);
+    say_named(b"answer good: ", t.answer as u64);
+    say(b"\n");
+    register_line(example, t.device, b"completed ", offsets::COMPLETED_LOW);
+    t.device
+}
+
+// The host's part: the records and the error, its answer, and a run after it.
+fn host_lines(example: u32, d: Device, mem: &mut [u8], allowance: u16) {
+    record_line(example, d, 0);
+    record_line(example, d, 1);
+    record_line(example, d, 2);
+    register_line(example, d, b"error ", offsets::ERROR_CODE);
+    let answered = answer_lines(example, d, mem);
+    run_lines(example, answered, mem, allowance);
 }
 
 // What comes of the submission at the head of the ring.
-fn submission_lines(example: u32, mem: &[u8]) {
-    let mut records = [0u64; 320];
-    match open(mem, RING, RING_SIZE) {
-        Opening::Started(o) => {
-            let outcome = run_steps(mem, o, &mut records);
-            outcome_line(example, o, outcome);
-            record_lines(example, &records, outcome.made);
-        }
-        _ => {
-            say_example(example);
-            say(b"not opened\n");
-        }
-    }
+fn submission_lines(example: u32, mem: &mut [u8], allowance: u16) {
+    let d = run_lines(example, rung(mem.len()), mem, allowance);
+    host_lines(example, d, mem, allowance);
 }
 
 // ---- the examples
@@ -265,7 +193,7 @@ pub fn example_9() {
     let mut mem = [0u8; 16384];
     put_submission(&mut mem, 1);
     put_entry_5(&mut mem, 0);
-    submission_lines(9, &mem);
+    submission_lines(9, &mut mem, 64);
 }
 
 // The second entry is the first again.
@@ -274,5 +202,5 @@ pub fn example_10() {
     put_submission(&mut mem, 2);
     put_entry_5(&mut mem, 0);
     put_entry_5(&mut mem, 1);
-    submission_lines(10, &mem);
+    submission_lines(10, &mut mem, 3);
 }
