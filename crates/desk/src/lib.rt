@@ -1,5 +1,8 @@
-// The exports for a host that is not Rattle: plain numbers and lent bytes in, numbers out.
+// The exports for a host that is not Rattle: plain numbers, lent bytes and lent words in, numbers out.
 // Each only hands its words on, so that what it promises is the promise of the crate behind it.
+pub mod device_calls;
+pub mod said;
+
 ghost use mathlib.Core.Path.{_≡_};
 ghost use Rattle.rules.specs.Shapes.{packed-size};
 ghost use Rattle.rules.specs.Table.{table-error};

@@ -31,7 +31,7 @@ use Rattle.front.specs.declared.scalars.Scalars.{Scalars}
 use Rattle.front.specs.declared.turning.Turn.{Turn}
 use Rattle.front.specs.declared.answering.Told.{Told as ToldFront}
 use Rattle.device.specs.Tame.{least-same, tamed, Tames, roomy-tamed}
-use Rattle.device.specs.Views.{stateIn, worldIn, ranOf, toldOf, Ends, stageWaits}
+use Rattle.device.specs.Views.{stateIn, worldIn, ranOf, toldOf, Ends, stageWaits, newNumbers}
 use Rattle.device.specs.declared.Device.{Device}
 
 -- ---- how a run ends
@@ -145,9 +145,12 @@ pub ruleset telling = (answer-refused, answer-unasked, answer-done, needs)
 
 -- ---- new
 
-pub is-made : (memory : ℕ) (q : Registers) (e r h c : List ℕ) → q ≡ fresh
-    → stateIn (record { scalars = record { memory = memory; regs = q; stage = Resting; counts = record { entries = 0; rooms = 0; held = 0; records = 0 } }; entries = e; rooms = r; held = h; records = c }) ≡ made memory
+pub is-made : (memory : ℕ) (s : Scalars) (e r h c : List ℕ) → s ≡ newNumbers memory → stateIn (record { scalars = s; entries = e; rooms = r; held = h; records = c }) ≡ made memory
 unfolding tamed
-is-made memory q e r h c p = rw (p, ← least-same 0 (omega arith) .0, table-zero resourceOf 10 r)
+is-made memory s e r h c p = rw (p, ← least-same 0 (omega arith) .0, table-zero resourceOf 10 r)
 
-pub ruleset making = (is-made, needs)
+pub new-are : (memory : ℕ) (q : Registers) → q ≡ fresh
+    → _≡_ {A = Scalars} (record { memory = memory; regs = q; stage = Resting; counts = record { entries = 0; rooms = 0; held = 0; records = 0 } }) (newNumbers memory)
+new-are memory q p = rw p
+
+pub ruleset making = (is-made, new-are, needs)

@@ -4,7 +4,7 @@ use mathlib.Core.Bool.{Bool, true, false}
 use mathlib.Core.List.{List, []}
 use Prim.Native.Nat.{ℕ}
 use Rattle.rules.specs.Numbers.{no-record}
-use Rattle.rules.specs.State.{State, World}
+use Rattle.rules.specs.State.{State, World, fresh}
 use Rattle.rules.specs.Calls.{ending, Wrote as WroteBy, Value, no-range, Ran as RanBy, Handed as HandedBy, Told as ToldBy}
 use Rattle.rules.specs.declared.Ended.{Ended}
 use Rattle.rules.specs.declared.Registers.{Registers}
@@ -63,6 +63,9 @@ droppedWith regs s =
       stage = Resting;
       counts = record { entries = s .counts .entries; rooms = 0; held = s .counts .held; records = s .counts .records };
     }
+
+abbrev pub newNumbers : ℕ → Scalars
+newNumbers memory = record { memory = memory; regs = fresh; stage = Resting; counts = record { entries = 0; rooms = 0; held = 0; records = 0 } }
 
 abbrev pub noneHanded : Handed
 noneHanded = record { answer = no-record; range = no-range }

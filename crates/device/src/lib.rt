@@ -22,7 +22,7 @@ use tame::tame;
 ghost use mathlib.Core.Path.{_≡_};
 ghost use Rattle.rules.specs.State.{fresh, made};
 ghost use Rattle.rules.specs.Calls.{call-write, call-read, call-run, call-record, call-answer};
-ghost use Rattle.device.specs.Views.{stateIn, worldIn, wroteOf, valueOf, ranOf, handedOf, toldOf, Ends, stageWaits, withRegisters, droppedWith, noneHanded};
+ghost use Rattle.device.specs.Views.{stateIn, worldIn, wroteOf, valueOf, ranOf, handedOf, toldOf, Ends, stageWaits, withRegisters, droppedWith, newNumbers, noneHanded};
 
 pub struct Device {
     pub scalars: Scalars,
@@ -60,7 +60,7 @@ pub struct Told {
 }
 
 // How a run ends, by what the device then is.
-fn ended_of(s: Scalars) -> Ended
+pub fn ended_of(s: Scalars) -> Ended
     ensures { λ r. ⌜ Ends s r ⌝ }
 {
     let stage = s.stage;
@@ -92,7 +92,7 @@ fn ended_of(s: Scalars) -> Ended
 }
 
 // Whether a submission awaits the host.
-fn awaits(stage: Stage) -> bool
+pub fn awaits(stage: Stage) -> bool
     ensures { λ r. ⌜ r ≡ stageWaits stage ⌝ }
 {
     match stage {
@@ -110,7 +110,7 @@ fn place(x: u32) -> usize
 }
 
 // No record: every value beside the refusal is zero.
-fn none_handed() -> Handed
+pub fn none_handed() -> Handed
     ensures { λ r. ⌜ r ≡ noneHanded ⌝ }
 {
     let range = Record {
@@ -127,7 +127,7 @@ fn none_handed() -> Handed
 }
 
 // The same device with other registers.
-fn with_registers(s: Scalars, regs: Registers) -> Scalars
+pub fn with_registers(s: Scalars, regs: Registers) -> Scalars
     ensures { λ r. ⌜ r ≡ withRegisters regs s ⌝ }
 {
     let stage = s.stage;
@@ -141,7 +141,7 @@ fn with_registers(s: Scalars, regs: Registers) -> Scalars
 }
 
 // A reset: what was in work and every resource is dropped.
-fn dropped(s: Scalars, regs: Registers) -> Scalars
+pub fn dropped(s: Scalars, regs: Registers) -> Scalars
     ensures { λ r. ⌜ r ≡ droppedWith regs s ⌝ }
 {
     let n = s.counts;
@@ -178,24 +178,31 @@ fn zero_registers() -> Registers
     }
 }
 
+// The numbers of a new device, for a memory of so many bytes.
+pub fn new_numbers(memory: usize) -> Scalars
+    ensures { λ r. ⌜ r ≡ newNumbers memory ⌝ }
+{
+    let regs = zero_registers();
+    let counts = Counts {
+        entries: 0,
+        rooms: 0,
+        held: 0,
+        records: 0,
+    };
+    Scalars {
+        memory,
+        regs,
+        stage: Stage::Resting,
+        counts,
+    }
+}
+
 impl Device {
     // A device for a memory of so many bytes, as after a reset, with error and writable registers zero.
     pub fn new(memory: usize) -> Device
         ensures { λ r. ⌜ stateIn r ≡ made memory ⌝ }
     {
-        let regs = zero_registers();
-        let counts = Counts {
-            entries: 0,
-            rooms: 0,
-            held: 0,
-            records: 0,
-        };
-        let scalars = Scalars {
-            memory,
-            regs,
-            stage: Stage::Resting,
-            counts,
-        };
+        let scalars = new_numbers(memory);
         Device {
             scalars,
             entries: [0u64; 256],

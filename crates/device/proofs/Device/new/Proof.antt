@@ -3,11 +3,11 @@ use borrow.Author.Needs.{needs}
 use Rattle.device.proofs.Device.new.Statement.{statement}
 use Rattle.device.proofs.Device.new.Tie as tie
 
-zero-registers-requires : tie.Need-zero-registers-requires
-zero-registers-requires c κs = search needs
+new-numbers-requires : tie.Need-new-numbers-requires
+new-numbers-requires c κs = search needs
 
 returns : tie.Need-returns
 returns c = search making
 
 pub new-spec : {M : Type 1} → statement M
-new-spec = tie.close (tie.spec zero-registers-requires returns)
+new-spec = tie.close (tie.spec new-numbers-requires returns)

@@ -1,0 +1,76 @@
+-- What the exports' code asks. Assumes nothing.
+use mathlib.Core.Path.{_≡_, ap, subst, _∙_}
+use mathlib.Core.Bool.{Bool, true, false}
+use mathlib.Core.List.{List, [], _∷_, _++_}
+use Prim.Native.Nat.{ℕ}
+use native.Mathlib.Omega.{arith}
+use borrow.Author.Needs.{needs}
+use borrow.Author.Tests.{eq-eqb, ne-eqb}
+use lib.ListN.{length, set, drop, drop-of-length-le}
+use lib.Seq.{sets-eq}
+use Rattle.rules.specs.Calls.{ended-number, Value, Ran, Handed as HandedBy}
+use Rattle.rules.specs.declared.Record.{Record}
+use Rattle.device.specs.declared.Read.{Read}
+use Rattle.device.specs.declared.Handed.{Handed}
+use Rattle.lent.specs.Views.{setIn}
+use Rattle.lent.specs.Calls.{Makes, Reads, Runs, Hands, Answers}
+use Rattle.lent.specs.declared.calls.Spent.{Spent}
+use Rattle.desk.specs.Said.{five, recordWords, SaysValue, SaysRun, SaysRecord}
+
+pub unset : (x : ℕ) → x ≡ 0 → false ≡ setIn x
+unset x h = rw (eq-eqb x 0 h)
+
+pub is-set : (x : ℕ) → (x ≡ 0 → ⊥) → true ≡ setIn x
+is-set x h = rw (ne-eqb x 0 h)
+
+pub ruleset flags = (unset, is-set, needs)
+
+-- ---- the five words
+
+five-set : (l : List ℕ) (a b c d e : ℕ) → length l ≡ 5 → set (set (set (set (set l 0 a) 1 b) 2 c) 3 d) 4 e ≡ five a b c d e
+five-set l a b c d e long =
+    let rest : drop 5 l ≡ [] = drop-of-length-le l {i = 5} (omega arith) in
+    sets-eq (five a b c d e) l 0 (omega arith) ∙ rw rest
+
+pub says-two : (l : List ℕ) (a b : ℕ) → length l ≡ 5 → set (set (set (set (set l 0 a) 1 b) 2 0) 3 0) 4 0 ≡ five a b 0 0 0
+says-two l a b long = five-set l a b 0 0 0 long
+
+pub says-record : (l : List ℕ) (x : Record) (kind handle id : ℕ) → length l ≡ 5 → kind ≡ x .kind → handle ≡ x .handle → id ≡ x .id
+    → set (set (set (set (set l 0 kind) 1 handle) 2 id) 3 (x .gpa)) 4 (x .length) ≡ recordWords x
+says-record l x kind handle id long p q t = five-set l kind handle id (x .gpa) (x .length) long ∙ rw (p, q, t)
+
+pub ruleset saying = (says-two, says-record, needs)
+
+-- ---- the calls
+
+pub value-said : (s said : List ℕ) (offset v : ℕ) (x : Read) → Reads s offset x → v ≡ x .value → said ≡ five v 0 0 0 0 → SaysValue s offset (x .answer) said
+value-said s said offset v x k p q =
+    record {
+      answer = λ e r h c. ap (λ (y : Value). y .answer) (k .value e r h c);
+      value = λ e r h c. q ∙ ap (λ (y : ℕ). five y 0 0 0 0) (p ∙ ap (λ (y : Value). y .value) (k .value e r h c));
+    }
+
+pub run-said : (s e r h c m : List ℕ) (allowance units ended : ℕ) (x : Spent) (said s′ e′ h′ c′ m′ : List ℕ) → Runs s e r h c m allowance x s′ e′ h′ c′ m′
+    → units ≡ x .units → ended ≡ ended-number (x .ended) → said ≡ five units ended 0 0 0 → SaysRun s e r h c m allowance (x .answer) said s′ e′ h′ c′ m′
+run-said s e r h c m allowance units ended x said s′ e′ h′ c′ m′ k p q t =
+    record {
+      answer = ap (λ (y : Ran). y .answer) (k .ran);
+      spent = t ∙ (rw (p, q) (ap (λ (y : Ran). five (y .units) (ended-number (y .ended)) 0 0 0) (k .ran)));
+      world = ap (λ (y : Ran). y .world) (k .ran);
+      still = k .still;
+    }
+
+pub record-said : (s c said : List ℕ) (i : ℕ) (x : Handed) → Hands s c i x → said ≡ recordWords (x .range) → SaysRecord s c i (x .answer) said
+record-said s c said i x k q =
+    record {
+      answer = λ e r h. ap (λ (y : HandedBy). y .answer) (k .hands e r h);
+      range = λ e r h. q ∙ ap (λ (y : HandedBy). recordWords (y .range)) (k .hands e r h);
+    }
+
+pub made-for : (memory n : ℕ) (s′ : List ℕ) → n ≡ memory → Makes n s′ → Makes memory s′
+made-for memory n s′ p k = subst (λ (y : ℕ). Makes y s′) p k
+
+pub answer-told : (s r h m : List ℕ) (good a : ℕ) (b : Bool) (s′ r′ m′ : List ℕ) → b ≡ setIn good → Answers s r h m b a s′ r′ m′ → Answers s r h m (setIn good) a s′ r′ m′
+answer-told s r h m good a b s′ r′ m′ p k = subst (λ (y : Bool). Answers s r h m y a s′ r′ m′) p k
+
+pub ruleset telling = (made-for, value-said, run-said, record-said, answer-told, needs)

@@ -1,0 +1,13 @@
+use Rattle.device.specs.Runs.{making}
+use borrow.Author.Needs.{needs}
+use Rattle.device.proofs.new_numbers.Statement.{statement}
+use Rattle.device.proofs.new_numbers.Tie as tie
+
+zero-registers-requires : tie.Need-zero-registers-requires
+zero-registers-requires c κs = search needs
+
+returns : tie.Need-returns
+returns c = search making
+
+pub new-numbers-spec : {M : Type 1} → statement M
+new-numbers-spec = tie.close (tie.spec zero-registers-requires returns)

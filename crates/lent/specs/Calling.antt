@@ -1,0 +1,164 @@
+-- The calls over lent state: what their code asks, from the laws of Device's own methods. Assumes nothing.
+use mathlib.Core.Path.{_≡_, refl, sym, ap, subst, _∙_}
+use mathlib.Core.Bool.{Bool, true, false, not}
+use mathlib.Core.List.{List}
+use Prim.Native.Nat.{ℕ, _≤_, _<_}
+use borrow.Author.Needs.{needs}
+use lib.ListN.{length}
+use Rattle.rules.specs.Numbers.{done, other-memory, no-register, nothing-waits, most}
+use Rattle.rules.specs.State.{State, World, made}
+use Rattle.rules.specs.Calls.{Wrote, Ran, Told}
+use Rattle.rules.specs.Registers.{register}
+use Rattle.rules.specs.declared.Registers.{Registers}
+use Rattle.rules.specs.declared.Record.{Record}
+use Rattle.rules.specs.declared.Ended.{Ended}
+use Rattle.rules.specs.declared.Ended.the-variants.{Idle}
+use Rattle.registers.specs.Map.{shown, Writes as RegisterWrites}
+use Rattle.registers.specs.declared.Shown.{Shown}
+use Rattle.registers.specs.declared.Shown.the-variants.{Value, NoRegister as NoShown}
+use Rattle.registers.specs.declared.Written.{Written}
+use Rattle.registers.specs.declared.Written.the-variants.{Kept, Reset, NoRegister}
+use Rattle.words.specs.Rows.{rowAt}
+use Rattle.rooms.specs.Views.{recordOf}
+use Rattle.front.specs.Views.{worldOf}
+use Rattle.front.specs.Turning.{Advanced}
+use Rattle.front.specs.Answering.{Answers as FrontAnswers}
+use Rattle.front.specs.declared.scalars.Scalars.{Scalars}
+use Rattle.front.specs.declared.turning.Turn.{Turn}
+use Rattle.front.specs.declared.answering.Told.{Told as FrontTold}
+use Rattle.device.specs.Tame.{Tames}
+use Rattle.device.specs.Views.{stateIn, worldIn, Ends, stageWaits, withRegisters, droppedWith, newNumbers, noneHanded}
+use Rattle.device.specs.Reads.{write-none, write-kept, write-reset, read-none, read-value, record-unasked, record-past, record-room, record-there}
+use Rattle.device.specs.Runs.{run-refused, run-done, answer-refused, answer-unasked, answer-done, is-made}
+use Rattle.device.specs.declared.Device.{Device}
+use Rattle.device.specs.declared.Handed.{Handed}
+use Rattle.lent.specs.Views.{registersIn, scalarsIn, deviceIn}
+use Rattle.lent.specs.Calls.{Makes, Writes, Reads, Runs, Hands, Answers}
+
+-- ---- make
+
+pub makes : (memory : ℕ) (x : Scalars) (s′ : List ℕ) → x ≡ newNumbers memory → scalarsIn s′ ≡ x → Makes memory s′
+makes memory x s′ p q = record { new = λ e r h c. is-made memory (scalarsIn s′) e r h c (q ∙ p) }
+
+pub ruleset making = (makes, needs)
+
+-- ---- write
+
+module _ (s : List ℕ) (offset v : ℕ) (x : Scalars) (is : x ≡ scalarsIn s) (w : Written) (writes : RegisterWrites (x .regs) offset v w) where
+  here : RegisterWrites (scalarsIn s .regs) offset v w
+  here = subst (λ (y : Scalars). RegisterWrites (y .regs) offset v w) is writes
+
+  pub writes-none : w ≡ NoRegister → Writes s offset v no-register s
+  writes-none e = record { wrote = λ t r h c. write-none (deviceIn s t r h c) offset v w here e; still = λ n. refl }
+
+  module _ (s′ : List ℕ) (regs : Registers) (next : Scalars) (stored : scalarsIn s′ ≡ next) where
+    pub writes-kept : w ≡ Kept regs → next ≡ withRegisters regs x → Writes s offset v done s′
+    writes-kept e i =
+        record {
+          wrote = λ t r h c. write-kept (deviceIn s t r h c) offset v w here regs (scalarsIn s′) e (stored ∙ (i ∙ ap (λ (y : Scalars). withRegisters regs y) is));
+          still = λ n. absurd (n refl);
+        }
+
+    pub writes-reset : w ≡ Reset regs → next ≡ droppedWith regs x → Writes s offset v done s′
+    writes-reset e i =
+        record {
+          wrote = λ t r h c. write-reset (deviceIn s t r h c) offset v w here regs (scalarsIn s′) e (stored ∙ (i ∙ ap (λ (y : Scalars). droppedWith regs y) is));
+          still = λ n. absurd (n refl);
+        }
+
+pub ruleset writing = (writes-none, writes-kept, writes-reset, needs)
+
+-- ---- read
+
+same-registers : (s : List ℕ) → registersIn s ≡ scalarsIn s .regs
+unfolding scalarsIn
+same-registers s = refl
+
+module _ (s : List ℕ) (offset : ℕ) (q : Registers) (is : q ≡ registersIn s) (x : Shown) (shows : x ≡ shown (register q offset)) where
+  there : x ≡ shown (register (scalarsIn s .regs) offset)
+  there = shows ∙ ap (λ (y : Registers). shown (register y offset)) (is ∙ same-registers s)
+
+  pub reads-none : x ≡ NoShown → Reads s offset (record { answer = no-register; value = 0 })
+  reads-none e = record { value = λ t r h c. read-none (deviceIn s t r h c) offset x there e }
+
+  pub reads-value : (v : ℕ) → x ≡ Value v → Reads s offset (record { answer = done; value = v })
+  reads-value v e = record { value = λ t r h c. read-value (deviceIn s t r h c) offset x there v e }
+
+pub ruleset reading = (reads-none, reads-value, needs)
+
+-- ---- run
+
+module _ (s e r h c m : List ℕ) (allowance : ℕ) (given : Scalars) (is : given ≡ scalarsIn s) where
+  pub runs-refused : (length m ≡ given .memory → ⊥) → Runs s e r h c m allowance (record { answer = other-memory; units = 0; ended = Idle }) s e h c m
+  runs-refused n =
+      record {
+        ran = run-refused (deviceIn s e r h c) m allowance (λ p. n (p ∙ ap (λ (y : Scalars). y .memory) (sym is)));
+        still = λ n. (refl, (refl, (refl, (refl, refl))));
+      }
+
+  pub runs-done : (x : Scalars) (t : Turn) (k : Ended) (s′ e′ h′ c′ m′ : List ℕ) → length m ≡ given .memory → Tames given x
+      → Advanced allowance (worldOf x e r h c m) (worldOf (t .scalars) e′ r h′ c′ m′) (t .scalars .counts) (t .units) → Ends (t .scalars) k → scalarsIn s′ ≡ t .scalars
+      → Runs s e r h c m allowance (record { answer = done; units = t .units; ended = k }) s′ e′ h′ c′ m′
+  runs-done x t k s′ e′ h′ c′ m′ n tame′ adv ends stored =
+      record {
+        ran =
+            ap {B = Ran} (λ (y : Scalars). record { answer = done; units = t .units; ended = k; world = worldIn (record { scalars = y; entries = e′; rooms = r; held = h′; records = c′ }) m′ }) stored
+            ∙ run-done (deviceIn s e r h c) m allowance x t k m′ e′ h′ c′ (n ∙ ap (λ (y : Scalars). y .memory) is) (subst (λ (y : Scalars). Tames y x) is tame′) adv ends;
+        still = λ n. absurd (n refl);
+      }
+
+pub ruleset running = (runs-refused, runs-done, needs)
+
+-- ---- answer
+
+module _ (s r h m : List ℕ) (good : Bool) (given : Scalars) (is : given ≡ scalarsIn s) where
+  pub answers-refused : (length m ≡ given .memory → ⊥) → Answers s r h m good other-memory s r m
+  answers-refused n =
+      record {
+        told = λ e c. answer-refused (deviceIn s e r h c) m good (λ p. n (p ∙ ap (λ (y : Scalars). y .memory) (sym is)));
+        still = λ n. (refl, (refl, refl));
+      }
+
+  module _ (n : length m ≡ given .memory) (b : Bool) (asks : b ≡ stageWaits (given .stage)) where
+    long : length m ≡ scalarsIn s .memory
+    long = n ∙ ap (λ (y : Scalars). y .memory) is
+
+    waits : b ≡ stageWaits (scalarsIn s .stage)
+    waits = asks ∙ ap (λ (y : Scalars). stageWaits (y .stage)) is
+
+    pub answers-unasked : not b ≡ true → Answers s r h m good nothing-waits s r m
+    answers-unasked q =
+        record {
+          told = λ e c. answer-unasked (deviceIn s e r h c) m good long b waits q;
+          still = λ n. (refl, (refl, refl));
+        }
+
+    pub answers-done : (x : Scalars) (t : FrontTold) (s′ r′ m′ : List ℕ) → not b ≡ false → Tames given x → FrontAnswers x m r h good t m′ r′ → scalarsIn s′ ≡ t .scalars
+        → Answers s r h m good done s′ r′ m′
+    answers-done x t s′ r′ m′ q tame′ a stored =
+        record {
+          told =
+              λ e c. ap {B = Told} (λ (y : Scalars). record { answer = done; world = worldIn (record { scalars = y; entries = e; rooms = r′; held = h; records = c }) m′ }) stored
+              ∙ answer-done (deviceIn s e r h c) m good long b waits x t m′ r′ q (subst (λ (y : Scalars). Tames y x) is tame′) a;
+          still = λ n. absurd (n refl);
+        }
+
+pub ruleset telling = (answers-refused, answers-unasked, answers-done, needs)
+
+-- ---- record
+
+module _ (s c : List ℕ) (i k : ℕ) (at : k ≡ i) (given : Scalars) (is : given ≡ scalarsIn s) (x : Scalars) (tame′ : Tames given x) (b : Bool) (asks : b ≡ stageWaits (x .stage)) where
+  tame-here : Tames (scalarsIn s) x
+  tame-here = subst (λ (y : Scalars). Tames y x) is tame′
+
+  pub hands-unasked : (y : Handed) → not b ≡ true → y ≡ noneHanded → Hands s c i y
+  hands-unasked y n e = record { hands = λ t r h. record-unasked (deviceIn s t r h c) i k at x tame-here b asks y n e }
+
+  module _ (n : not b ≡ false) where
+    pub hands-past : (y : Handed) → x .counts .records ≤ k → y ≡ noneHanded → Hands s c i y
+    hands-past y p e = record { hands = λ t r h. record-past (deviceIn s t r h c) i k at x tame-here b asks n y p e }
+
+    pub hands-there : (y : Record) → k < x .counts .records → y ≡ recordOf (rowAt 5 c k) → Hands s c i (record { answer = done; range = y })
+    hands-there y p e = record { hands = λ t r h. record-there (deviceIn s t r h c) i k at x tame-here b asks n y p e }
+
+pub ruleset handing = (hands-unasked, hands-past, hands-there, needs)

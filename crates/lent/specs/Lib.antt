@@ -1,0 +1,4 @@
+pub mod Views
+pub mod Words
+pub mod Calls
+pub mod Calling
