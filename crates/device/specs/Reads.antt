@@ -21,11 +21,11 @@ use Rattle.registers.specs.declared.Written.{Written}
 use Rattle.registers.specs.declared.Written.the-variants.{Kept, Reset, NoRegister}
 use Rattle.words.specs.Rows.{rowAt, table, tab, table-zero}
 use Rattle.rooms.specs.Views.{recordOf, recordsOf, resourceOf}
-use Rattle.front.specs.Views.{workOf}
-use Rattle.front.specs.declared.scalars.Stage.{Stage}
-use Rattle.front.specs.declared.scalars.Stage.the-variants.{Resting, Entries, Packets, Waiting}
-use Rattle.front.specs.declared.scalars.Counts.{Counts}
-use Rattle.front.specs.declared.scalars.Scalars.{Scalars}
+use Rattle.stages.specs.Views.{workOf}
+use Rattle.stages.specs.declared.scalars.Stage.{Stage}
+use Rattle.stages.specs.declared.scalars.Stage.the-variants.{Resting, Entries, Packets, Waiting}
+use Rattle.stages.specs.declared.scalars.Counts.{Counts}
+use Rattle.stages.specs.declared.scalars.Scalars.{Scalars}
 use Rattle.device.specs.Tame.{least-same, tamed, Tames}
 use Rattle.device.specs.Views.{stateIn, wroteOf, valueOf, handedOf, stageWaits, withRegisters, droppedWith, noneHanded}
 use Rattle.device.specs.declared.Device.{Device}

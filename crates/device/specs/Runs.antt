@@ -21,15 +21,15 @@ use Rattle.rules.specs.declared.Ended.{Ended}
 use Rattle.rules.specs.declared.Ended.the-variants.{Idle, Waiting as WaitingEnd, Paused}
 use Rattle.rooms.specs.Views.{resourceOf}
 use Rattle.words.specs.Rows.{table-zero}
-use Rattle.front.specs.Views.{workOf, worldOf}
+use Rattle.stages.specs.Views.{workOf, worldOf}
 use Rattle.front.specs.Turning.{Advanced}
-use Rattle.front.specs.Answering.{Answers}
-use Rattle.front.specs.declared.scalars.Stage.the-variants.{Resting, Entries, Packets, Waiting}
-use Rattle.front.specs.declared.scalars.Stage.{Stage}
-use Rattle.front.specs.declared.scalars.Counts.{Counts}
-use Rattle.front.specs.declared.scalars.Scalars.{Scalars}
+use Rattle.stages.specs.Answering.{Answers}
+use Rattle.stages.specs.declared.scalars.Stage.the-variants.{Resting, Entries, Packets, Waiting}
+use Rattle.stages.specs.declared.scalars.Stage.{Stage}
+use Rattle.stages.specs.declared.scalars.Counts.{Counts}
+use Rattle.stages.specs.declared.scalars.Scalars.{Scalars}
 use Rattle.front.specs.declared.turning.Turn.{Turn}
-use Rattle.front.specs.declared.answering.Told.{Told as ToldFront}
+use Rattle.stages.specs.declared.answering.Told.{Told as ToldFront}
 use Rattle.device.specs.Tame.{least-same, tamed, Tames, roomy-tamed}
 use Rattle.device.specs.Views.{stateIn, worldIn, ranOf, toldOf, Ends, stageWaits, newNumbers}
 use Rattle.device.specs.declared.Device.{Device}

@@ -7,9 +7,9 @@ use borrow.Author.Tests.{lt-ltb, le-ltb}
 use lib.Dec.{ltb}
 use Rattle.machine.specs.Machine.{pick}
 use Rattle.rules.specs.Numbers.{most}
-use Rattle.front.specs.Views.{Roomy}
-use Rattle.front.specs.declared.scalars.Counts.{Counts}
-use Rattle.front.specs.declared.scalars.Scalars.{Scalars}
+use Rattle.stages.specs.Views.{Roomy}
+use Rattle.stages.specs.declared.scalars.Counts.{Counts}
+use Rattle.stages.specs.declared.scalars.Scalars.{Scalars}
 
 unfoldable pub least : ℕ → ℕ
 least n = pick (ltb most n) most n

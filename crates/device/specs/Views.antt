@@ -8,10 +8,10 @@ use Rattle.rules.specs.State.{State, World, fresh}
 use Rattle.rules.specs.Calls.{ending, Wrote as WroteBy, Value, no-range, Ran as RanBy, Handed as HandedBy, Told as ToldBy}
 use Rattle.rules.specs.declared.Ended.{Ended}
 use Rattle.rules.specs.declared.Registers.{Registers}
-use Rattle.front.specs.Views.{worldOf}
-use Rattle.front.specs.declared.scalars.Stage.{Stage}
-use Rattle.front.specs.declared.scalars.Stage.the-variants.{Resting, Entries, Packets, Waiting}
-use Rattle.front.specs.declared.scalars.Scalars.{Scalars}
+use Rattle.stages.specs.Views.{worldOf}
+use Rattle.stages.specs.declared.scalars.Stage.{Stage}
+use Rattle.stages.specs.declared.scalars.Stage.the-variants.{Resting, Entries, Packets, Waiting}
+use Rattle.stages.specs.declared.scalars.Scalars.{Scalars}
 use Rattle.device.specs.Tame.{tamed}
 use Rattle.device.specs.declared.Device.{Device}
 use Rattle.device.specs.declared.Wrote.{Wrote}

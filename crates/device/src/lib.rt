@@ -2,10 +2,6 @@
 // No call asks anything of its caller: whatever stands in the device or in memory, it ends and says what it gives.
 pub mod tame;
 
-use front::answering::answer;
-use front::scalars::Counts;
-use front::scalars::Scalars;
-use front::scalars::Stage;
 use front::turning::advance;
 use registers::Shown;
 use registers::Written;
@@ -18,6 +14,10 @@ use rules::numbers::NO_RECORD;
 use rules::numbers::NO_REGISTER;
 use rules::numbers::NOTHING_WAITS;
 use rules::numbers::OTHER_MEMORY;
+use stages::answering::answer;
+use stages::scalars::Counts;
+use stages::scalars::Scalars;
+use stages::scalars::Stage;
 use tame::tame;
 ghost use mathlib.Core.Path.{_≡_};
 ghost use Rattle.rules.specs.State.{fresh, made};

@@ -1,7 +1,7 @@
 // Counts that the tables have rows for. A device that was made and called has no others.
-use front::scalars::Counts;
-use front::scalars::Scalars;
 use rules::numbers::MOST;
+use stages::scalars::Counts;
+use stages::scalars::Scalars;
 ghost use mathlib.Core.Path.{_≡_};
 ghost use Prim.Native.Nat.{_≤_};
 ghost use Rattle.rules.specs.Numbers.{most};

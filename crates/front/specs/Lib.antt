@@ -1,5 +1,1 @@
-pub mod Views
-pub mod Starting
-pub mod Landing
 pub mod Turning
-pub mod Answering

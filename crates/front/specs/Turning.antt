@@ -38,11 +38,11 @@ use Rattle.phases.specs.declared.ending.Ending.the-variants.{Going, Done, Broke
 use Rattle.phases.specs.declared.entries.EntriesRun.{EntriesRun}
 use Rattle.phases.specs.declared.playing.PacketsPlace.{PacketsPlace}
 use Rattle.phases.specs.declared.playing.PacketsRun.{PacketsRun}
-use Rattle.front.specs.Views.{worldOf, bare, Roomy}
-use Rattle.front.specs.Landing.{laid-on, laid, LandsEntries, played-on, played, LandsPackets, Opens}
-use Rattle.front.specs.declared.scalars.Stage.the-variants.{Resting, Entries, Packets, Waiting}
-use Rattle.front.specs.declared.scalars.Counts.{Counts}
-use Rattle.front.specs.declared.scalars.Scalars.{Scalars}
+use Rattle.stages.specs.Views.{worldOf, bare, Roomy}
+use Rattle.stages.specs.Landing.{laid-on, laid, LandsEntries, played-on, played, LandsPackets, Opens}
+use Rattle.stages.specs.declared.scalars.Stage.the-variants.{Resting, Entries, Packets, Waiting}
+use Rattle.stages.specs.declared.scalars.Counts.{Counts}
+use Rattle.stages.specs.declared.scalars.Scalars.{Scalars}
 use Rattle.front.specs.declared.turning.Turn.{Turn}
 
 -- ---- stream_part

@@ -1,7 +1,3 @@
-// The core of the device, over lent tables: openings, phases, settling, and the host's answer.
+// The core of the device, over lent tables: a run, turn by turn.
 // It works in place; a shell lends it the tables of a Device, or a host's own.
-pub mod answering;
-pub mod landing;
-pub mod scalars;
-pub mod starting;
 pub mod turning;

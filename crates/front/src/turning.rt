@@ -1,10 +1,5 @@
 // A run, turn by turn: an opening is one unit, a phase as many as the allowance and its own length let.
 // So the hot loops are the phases', and the contract is still unit by unit.
-use crate::landing::land_entries;
-use crate::landing::land_packets;
-use crate::landing::open_ring;
-use crate::scalars::Scalars;
-use crate::scalars::Stage;
 use phases::ending::Ending;
 use phases::entries::read_entries;
 use phases::playing::PacketsPlace;
@@ -13,13 +8,18 @@ use phases::playing::read_packets;
 use rules::Job;
 use rules::Opened;
 use rules::Stream;
+use stages::landing::land_entries;
+use stages::landing::land_packets;
+use stages::landing::open_ring;
+use stages::scalars::Scalars;
+use stages::scalars::Stage;
 ghost use mathlib.Core.Path.{_≡_};
 ghost use Prim.Native.Nat.{_≤_, _<_};
 ghost use lib.ListN.{length};
 ghost use Rattle.rules.specs.Stream.{stream-bytes};
 ghost use Rattle.packets.specs.Views.{Room};
 ghost use Rattle.phases.specs.Playing.{PacketsRan};
-ghost use Rattle.front.specs.Views.{Roomy, worldOf};
+ghost use Rattle.stages.specs.Views.{Roomy, worldOf};
 ghost use Rattle.front.specs.Turning.{Due, EntriesTurn, PacketsTurn, TurnOf, stillTurn, Advanced};
 
 pub struct Turn {

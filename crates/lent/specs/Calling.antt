@@ -20,12 +20,12 @@ use Rattle.registers.specs.declared.Written.{Written}
 use Rattle.registers.specs.declared.Written.the-variants.{Kept, Reset, NoRegister}
 use Rattle.words.specs.Rows.{rowAt}
 use Rattle.rooms.specs.Views.{recordOf}
-use Rattle.front.specs.Views.{worldOf}
+use Rattle.stages.specs.Views.{worldOf}
 use Rattle.front.specs.Turning.{Advanced}
-use Rattle.front.specs.Answering.{Answers as FrontAnswers}
-use Rattle.front.specs.declared.scalars.Scalars.{Scalars}
+use Rattle.stages.specs.Answering.{Answers as FrontAnswers}
+use Rattle.stages.specs.declared.scalars.Scalars.{Scalars}
 use Rattle.front.specs.declared.turning.Turn.{Turn}
-use Rattle.front.specs.declared.answering.Told.{Told as FrontTold}
+use Rattle.stages.specs.declared.answering.Told.{Told as FrontTold}
 use Rattle.device.specs.Tame.{Tames}
 use Rattle.device.specs.Views.{stateIn, worldIn, Ends, stageWaits, withRegisters, droppedWith, newNumbers, noneHanded}
 use Rattle.device.specs.Reads.{write-none, write-kept, write-reset, read-none, read-value, record-unasked, record-past, record-room, record-there}

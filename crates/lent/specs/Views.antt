@@ -11,10 +11,10 @@ use Rattle.rules.specs.declared.Registers.{Registers}
 use Rattle.rules.specs.declared.Job.{Job}
 use Rattle.rules.specs.declared.Table.{Table}
 use Rattle.rules.specs.declared.Stream.{Stream}
-use Rattle.front.specs.declared.scalars.Stage.{Stage}
-use Rattle.front.specs.declared.scalars.Stage.the-variants.{Resting, Entries, Packets, Waiting}
-use Rattle.front.specs.declared.scalars.Counts.{Counts}
-use Rattle.front.specs.declared.scalars.Scalars.{Scalars}
+use Rattle.stages.specs.declared.scalars.Stage.{Stage}
+use Rattle.stages.specs.declared.scalars.Stage.the-variants.{Resting, Entries, Packets, Waiting}
+use Rattle.stages.specs.declared.scalars.Counts.{Counts}
+use Rattle.stages.specs.declared.scalars.Scalars.{Scalars}
 use Rattle.device.specs.declared.Device.{Device}
 use Rattle.lent.specs.declared.storing.Flat.{Flat}
 

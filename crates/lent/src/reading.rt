@@ -1,13 +1,13 @@
 // A device's numbers from the words that are lent. Any word has a meaning: a small number is its lower half, a flag is
 // set unless the word is zero.
-use front::scalars::Counts;
-use front::scalars::Scalars;
-use front::scalars::Stage;
 use rules::Job;
 use rules::Opened;
 use rules::Registers;
 use rules::Stream;
 use rules::Table;
+use stages::scalars::Counts;
+use stages::scalars::Scalars;
+use stages::scalars::Stage;
 use words::low32;
 ghost use mathlib.Core.Path.{_≡_};
 ghost use Rattle.lent.specs.Views.{setIn, registersIn, jobIn, tableIn, streamIn, stageIn, countsIn, scalarsIn};

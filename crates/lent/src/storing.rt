@@ -1,6 +1,6 @@
 // A device's numbers into the words that are lent: read again, they are the same numbers.
-use front::scalars::Scalars;
-use front::scalars::Stage;
+use stages::scalars::Scalars;
+use stages::scalars::Stage;
 ghost use mathlib.Core.Path.{_≡_};
 ghost use Prim.Native.Nat.{_<_};
 ghost use Rattle.lent.specs.Views.{flagOf, stageOf, scalarsIn};

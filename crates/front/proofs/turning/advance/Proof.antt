@@ -8,7 +8,7 @@ use lib.ListN.{length}
 use Rattle.machine.specs.Machine.{spent}
 use Rattle.machine.specs.Within.{turning}
 use Rattle.rules.specs.Steps.{run-for}
-use Rattle.front.specs.Views.{worldOf, Roomy}
+use Rattle.stages.specs.Views.{worldOf, Roomy}
 use Rattle.front.specs.Turning.{advancing}
 use Rattle.front.proofs.turning.advance.Statement.{statement}
 use Rattle.front.proofs.turning.advance.Tie as tie

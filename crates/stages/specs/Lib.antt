@@ -1,0 +1,4 @@
+pub mod Views
+pub mod Starting
+pub mod Landing
+pub mod Answering
