@@ -2,7 +2,7 @@
 use mathlib.Core.Path.{_≡_}
 use mathlib.Core.List.{List, [], _∷_}
 use Prim.Native.Nat.{ℕ}
-use Rattle.rules.specs.Calls.{ended-number, Value, Ran, call-read, call-run, call-record}
+use Rattle.rules.specs.Calls.{ended-number, call-read, call-run, call-record}
 use Rattle.rules.specs.declared.Record.{Record}
 use Rattle.device.specs.Views.{worldIn, stateIn}
 use Rattle.lent.specs.Views.{deviceIn}

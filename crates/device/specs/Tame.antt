@@ -1,5 +1,5 @@
 -- Counts that the tables have rows for. Assumes nothing.
-use mathlib.Core.Path.{_≡_, refl, _∙_}
+use mathlib.Core.Path.{_≡_}
 use Prim.Native.Nat.{ℕ, _≤_, _<_}
 use native.Mathlib.Omega.{arith}
 use borrow.Author.Needs.{needs}
@@ -8,7 +8,6 @@ use lib.Dec.{ltb}
 use Rattle.machine.specs.Machine.{pick}
 use Rattle.rules.specs.Numbers.{most}
 use Rattle.stages.specs.Views.{Roomy}
-use Rattle.stages.specs.declared.scalars.Counts.{Counts}
 use Rattle.stages.specs.declared.scalars.Scalars.{Scalars}
 
 unfoldable pub least : ℕ → ℕ

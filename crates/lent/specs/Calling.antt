@@ -5,9 +5,8 @@ use mathlib.Core.List.{List}
 use Prim.Native.Nat.{ℕ, _≤_, _<_}
 use borrow.Author.Needs.{needs}
 use lib.ListN.{length}
-use Rattle.rules.specs.Numbers.{done, other-memory, no-register, nothing-waits, most}
-use Rattle.rules.specs.State.{State, World, made}
-use Rattle.rules.specs.Calls.{Wrote, Ran, Told}
+use Rattle.rules.specs.Numbers.{done, other-memory, no-register, nothing-waits}
+use Rattle.rules.specs.Calls.{Ran, Told}
 use Rattle.rules.specs.Registers.{register}
 use Rattle.rules.specs.declared.Registers.{Registers}
 use Rattle.rules.specs.declared.Record.{Record}
@@ -27,10 +26,9 @@ use Rattle.stages.specs.declared.scalars.Scalars.{Scalars}
 use Rattle.front.specs.declared.turning.Turn.{Turn}
 use Rattle.stages.specs.declared.answering.Told.{Told as FrontTold}
 use Rattle.device.specs.Tame.{Tames}
-use Rattle.device.specs.Views.{stateIn, worldIn, Ends, stageWaits, withRegisters, droppedWith, newNumbers, noneHanded}
-use Rattle.device.specs.Reads.{write-none, write-kept, write-reset, read-none, read-value, record-unasked, record-past, record-room, record-there}
+use Rattle.device.specs.Views.{worldIn, Ends, stageWaits, withRegisters, droppedWith, newNumbers, noneHanded}
+use Rattle.device.specs.Reads.{write-none, write-kept, write-reset, read-none, read-value, record-unasked, record-past, record-there}
 use Rattle.device.specs.Runs.{run-refused, run-done, answer-refused, answer-unasked, answer-done, is-made}
-use Rattle.device.specs.declared.Device.{Device}
 use Rattle.device.specs.declared.Handed.{Handed}
 use Rattle.lent.specs.Views.{registersIn, scalarsIn, deviceIn}
 use Rattle.lent.specs.Calls.{Makes, Writes, Reads, Runs, Hands, Answers}

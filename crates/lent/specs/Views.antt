@@ -1,8 +1,7 @@
 -- Words that a host lends as a device: word 0 the memory's length, 1 to 12 the registers in the order of `Registers`,
 -- 13 the tag of what is in work, 14 to 23 its numbers, 24 to 27 how many rows of each table are live; the rest is free.
-use mathlib.Core.Path.{_≡_}
 use mathlib.Core.Bool.{Bool, true, false}
-use mathlib.Core.List.{List, [], _∷_}
+use mathlib.Core.List.{List}
 use Prim.Native.Nat.{ℕ, _%_}
 use lib.ListN.{getD}
 use lib.Dec.{eqb}

@@ -1,6 +1,6 @@
 -- Demand 2, the fence: one that is accepted waits for the host, with registers, memory and the device's resources as before the
 -- opening; one that is refused is settled with its error, hands out nothing and keeps every resource. Assumes nothing.
-use mathlib.Core.Path.{_≡_, refl, ap, _∙_}
+use mathlib.Core.Path.{_≡_, ap, _∙_}
 use mathlib.Core.Bool.{true, false}
 use mathlib.Core.List.{List}
 use Prim.Native.Nat.{ℕ}

@@ -6,5 +6,6 @@ pub mod Sound
 pub mod Fences
 pub mod Refused
 pub mod Memory
+pub mod Night
 pub mod OnDevice
 pub mod Examples

@@ -1,8 +1,8 @@
 -- What is true of every device that was made and called, whatever bytes stood in memory: its soundness. A new device has it and
 -- every step, run and answer keeps it; Refused.antt says it of every call. Assumes nothing.
-use mathlib.Core.Path.{_≡_, refl, sym, subst, _∙_}
-use mathlib.Core.Bool.{Bool, true, false, _&&_}
-use mathlib.Core.List.{List, [], _∷_}
+use mathlib.Core.Path.{_≡_, refl, sym, subst}
+use mathlib.Core.Bool.{Bool, true, false}
+use mathlib.Core.List.{List, []}
 use Prim.Native.Nat.{ℕ, zero, suc, _+_, _≤_, _<_}
 use native.Mathlib.Omega.{arith}
 use borrow.Author.Tests.{ltb-true}
@@ -12,7 +12,7 @@ use Rattle.machine.specs.Machine.{pick, run-none, run-stop, run-go}
 use Rattle.rules.specs.Numbers.{most, bad-entry, twice-in-table}
 use Rattle.rules.specs.Lists.{Found}
 use Rattle.rules.specs.Lists.Found.{none, found}
-use Rattle.rules.specs.Judging.{refusal, rule, _▹_}
+use Rattle.rules.specs.Judging.{refusal, rule}
 use Rattle.rules.specs.Layouts.{entry}
 use Rattle.rules.specs.Table.{entry-id, matching, is-found, entry-place, entry-rules, keep, in-reach, take-entry}
 use Rattle.rules.specs.Ring.{opening-of}

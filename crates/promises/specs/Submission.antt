@@ -1,18 +1,19 @@
 -- Demand 2, whole: from its opening on, over still memory, a submission's steps end where the unsliced rules end, after their
 -- count of units. Assumes nothing.
-use mathlib.Core.Path.{_≡_, refl, ap, _∙_}
-use mathlib.Core.Bool.{Bool, true, false, not, _&&_}
-use mathlib.Core.List.{List, [], _∷_, _++_}
-use Prim.Native.Nat.{ℕ, suc, _+_, _-_, _*_, _%_, _≤_, _<_}
+use mathlib.Core.Path.{_≡_, refl, ap, subst, _∙_}
+use mathlib.Core.Bool.{Bool, true, false, not}
+use mathlib.Core.List.{List, []}
+use Prim.Native.Nat.{ℕ, zero, suc, _+_, _-_, _*_, _≤_, _<_}
 use native.Mathlib.Omega.{arith}
+use native.Mathlib.Numerals.{one-add}
 use native.Mathlib.Nat.{mul-le-mul-right}
 use borrow.Author.Tests.{le-leb, lt-ltb, ltb-false}
 use lib.Dec.{ltb, eqb}
 use lib.ListN.{length, take, drop, length-drop}
 use lib.Seq.{length-take-le}
-use Rattle.machine.specs.Machine.{pick, Out, spent, sliced}
+use Rattle.machine.specs.Machine.{pick, Out, spent, run-go, sliced}
 use Rattle.rules.specs.Numbers.{most, bad-table, bad-stream, too-many, outside-memory, table-magic, stream-magic}
-use Rattle.rules.specs.Judging.{rule, only, _▹_}
+use Rattle.rules.specs.Judging.{rule, only}
 use Rattle.rules.specs.Layouts.{good-version, ring-header, descriptor, table-header, table-header-size, entry-size, stream-header, stream-header-size}
 use Rattle.rules.specs.Table.{header-rules, in-reach, entries-of, judge-entries}
 use Rattle.rules.specs.Stream.{stream-rules, stream-bytes, packets-of}
@@ -35,7 +36,7 @@ use Rattle.rules.specs.declared.Verdict.the-variants.{Fine, Broken}
 use Rattle.rules.specs.declared.Opening.{Opening}
 use Rattle.rules.specs.declared.Opening.the-variants.{BadRing, NoWork, Refused, Started}
 use Rattle.laws.specs.Fine.{fine-first, fine-later, kept-rule, kept-only, both-left}
-use Rattle.promises.specs.Whole.{unit-more, unit-last, reading, after-table, entries-end, placed, after-stream, packets-end}
+use Rattle.promises.specs.Whole.{midst, Course, course-none, course-join, reading, after-table, entries-end, placed, after-stream, packets-end}
 
 -- ---- what was opened lies within memory
 
@@ -175,6 +176,19 @@ module _ (m : List ℕ) (ring : ℕ) where
 
 -- ---- from the opening on
 
+-- from the opening, the units and the end of o; in the midst after each unit but the last
+pub record Submits (w : World) (o : Out World) : Type 0 where
+  pub ends : run-for (o .units) w ≡ o
+  pub inside : (i : ℕ) → 0 < i → i < o .units → midst (run-for i w .state .state .work) ≡ true
+  pub some : 0 < o .units
+
+submits-more : (n : ℕ) (w w′ v : World) → go w ≡ true → step w ≡ w′ → Course n w′ v → Submits w (record { state = v; units = suc n })
+submits-more n w w′ v g s c = record { ends = run-go go step n w g ∙ rw (s, c .ends, one-add); inside = at; some = omega arith }
+  where
+    at : (i : ℕ) → 0 < i → i < suc n → midst (run-for i w .state .state .work) ≡ true
+    at zero z h = absurd (omega arith)
+    at (suc i) z h = rw (run-go go step i w g, s) (c .inside i (omega arith))
+
 module _ (w : World) (on : w .state .regs .enabled ≡ true) (g : go w ≡ true) (o : Opened) (lies : Lies (w .mem) o) (st : step w ≡ reading w on o []) where
   abbrev all : List Entry
   all = entries-of (w .mem) (o .table)
@@ -186,36 +200,37 @@ module _ (w : World) (on : w .state .regs .enabled ≡ true) (g : go w ≡ true)
   stream-is Fine h = refl
   stream-is (Broken r) h = refl
 
-  by-table : (v : Verdict) (c : ℕ) (p : Reckoned)
-      → run-for c (reading w on o []) ≡ record { state = after-table w on o v all; units = c }
-      → run-for (p .count) (placed w on (o .job) (o .stream) all (lies .stream) stream-header-size first) ≡ record { state = after-stream w on (o .job) (o .stream) all (lies .stream) (p .verdict) (p .held); units = p .count }
-      → run-for (after-entries v c first p .units) w ≡ concluding w (o .job) all (after-entries v c first p)
+  by-table : (v : Verdict) (c : ℕ) (p : Reckoned) → Course c (reading w on o []) (after-table w on o v all)
+      → Course (p .count) (placed w on (o .job) (o .stream) all (lies .stream) stream-header-size first) (after-stream w on (o .job) (o .stream) all (lies .stream) (p .verdict) (p .held))
+      → Submits w (concluding w (o .job) all (after-entries v c first p))
   by-table Fine c p t q =
-      let two : run-for (c + p .count) (reading w on o []) ≡ record { state = after-stream w on (o .job) (o .stream) all (lies .stream) (p .verdict) (p .held); units = c + p .count } =
-      sliced go step c (p .count) (reading w on o []) ∙ (ap (λ (x : Out World). spent (x .units) (run-for (p .count) (x .state))) t ∙ ap (spent c) q) in
-      unit-more (c + p .count) w (reading w on o []) _ g st two
-      ∙ ap (λ (x : World). record { state = x; units = suc (c + p .count) }) (stream-is (p .verdict) (p .held))
-  by-table (Broken r) c p t q = unit-more c w (reading w on o []) _ g st t
+      subst (λ (x : World). Submits w (record { state = x; units = suc (c + p .count) })) (stream-is (p .verdict) (p .held))
+      (submits-more (c + p .count) w (reading w on o []) _ g st (course-join c (p .count) _ _ _ t q))
+  by-table (Broken r) c p t q = submits-more c w (reading w on o []) _ g st t
 
-  pub whole-started : run-for (submission (w .mem) o first .units) w ≡ concluding w (o .job) all (submission (w .mem) o first)
+  whole-started : Submits w (concluding w (o .job) all (submission (w .mem) o first))
   unfolding submission
   whole-started =
       by-table (judge-entries (length (w .mem)) [] all .verdict) (judge-entries (length (w .mem)) [] all .count) (judge-packets all first (packets-of (w .mem) (o .stream)))
       (entries-end w on o (lies .reach) (o .table .count) 0 [] refl (omega arith))
       (packets-end w on (o .job) (o .stream) all (lies .stream) (o .stream .size) stream-header-size first (omega arith))
 
-whole-at : (w : World) (v : Opening) → w .state .regs .enabled ≡ true → go w ≡ true → LiesOn (w .mem) v → step w ≡ after-opening w v → run-for (submitted-on w v .units) w ≡ submitted-on w v
-whole-at w BadRing on g h e = unit-last w _ g e
-whole-at w NoWork on g h e = unit-last w _ g e
-whole-at w (Refused j r) on g h e = unit-last w _ g e
+whole-at : (w : World) (v : Opening) → w .state .regs .enabled ≡ true → go w ≡ true → LiesOn (w .mem) v → step w ≡ after-opening w v → Submits w (submitted-on w v)
+whole-at w BadRing on g h e = submits-more 0 w _ _ g e (course-none _)
+whole-at w NoWork on g h e = submits-more 0 w _ _ g e (course-none _)
+whole-at w (Refused j r) on g h e = submits-more 0 w _ _ g e (course-none _)
 whole-at w (Started o) on g h e = whole-started w on g o h e
 
--- a submission from its opening: the units of the unsliced rules give their result
-pub whole : (w : World) → w .state .work ≡ resting → go w ≡ true → run-for (submitted w .units) w ≡ submitted w
+-- a submission from its opening: the units of the unsliced rules give their result, and it is in the midst until then
+pub submits : (w : World) → w .state .work ≡ resting → go w ≡ true → Submits w (submitted w)
 unfolding submitted step open-step go
-whole w rest g =
+submits w rest g =
     whole-at w (opening-of (w .mem) (w .state .regs .ring) (w .state .regs .ringsize)) (both-left (w .state .regs .enabled) _ g) g
     (opening-lies (w .mem) (w .state .regs .ring) (w .state .regs .ringsize)) (rw rest)
+
+-- the units of the unsliced rules give their result
+pub whole : (w : World) → w .state .work ≡ resting → go w ≡ true → run-for (submitted w .units) w ≡ submitted w
+whole w rest g = submits w rest g .ends
 
 -- and a run that goes on from there: a submission's units are the unsliced count, and the rest is spent on what comes next
 pub run-through : (w : World) (n : ℕ) → w .state .work ≡ resting → go w ≡ true → run-for (submitted w .units + n) w ≡ spent (submitted w .units) (run-for n (submitted w .state))

@@ -1,15 +1,15 @@
 -- Demand 2: the steps of a submission over still memory end where the unsliced rules end, after their count of units. Assumes nothing.
-use mathlib.Core.Path.{_≡_, refl, ap, _∙_}
-use mathlib.Core.Bool.{Bool, true, false, not, _&&_}
+use mathlib.Core.Path.{_≡_, refl, ap, subst, _∙_}
+use mathlib.Core.Bool.{Bool, true, false, not}
 use mathlib.Core.List.{List, [], _∷_, _++_, append-assoc, append-nil}
-use Prim.Native.Nat.{ℕ, zero, suc, _+_, _-_, _*_, _%_, _≤_, _<_}
+use Prim.Native.Nat.{ℕ, zero, suc, _+_, _-_, _%_, _≤_, _<_}
 use native.Mathlib.Omega.{arith}
 use native.Mathlib.Numerals.{one-add}
 use borrow.Author.Tests.{eq-eqb, ne-eqb, lt-ltb, le-ltb, ltb-false, ltb-true}
 use lib.Dec.{ltb, eqb}
 use lib.ListN.{length, take, drop, length-append, length-drop}
 use lib.Seq.{drop-drop}
-use Rattle.machine.specs.Machine.{run-none, run-go}
+use Rattle.machine.specs.Machine.{Out, spent, run-none, run-go, sliced}
 use Rattle.rules.specs.Numbers.{bad-packet}
 use Rattle.rules.specs.Lists.{pushed}
 use Rattle.rules.specs.Layouts.{word, packet-header-size, entry, stream-header-size}
@@ -20,7 +20,7 @@ use Rattle.rules.specs.Packets.{Holdings, at-first, apply, apply-frame, take-pa
 use Rattle.rules.specs.Unsliced.{Reckoned, one-further, judge-packets}
 use Rattle.laws.specs.Fine.{fine-first, fine-later, kept-rule}
 use Rattle.rules.specs.State.{Work, World, working}
-use Rattle.rules.specs.State.Work.{entries, packets, waiting}
+use Rattle.rules.specs.State.Work.{resting, entries, packets, waiting}
 use Rattle.rules.specs.Settle.{settled, settled-keeping}
 use Rattle.rules.specs.Steps.{packets-at, entries-at, after-entry, entry-step, after-packet, next-place, packet-step, step, go, run-for}
 use Rattle.rules.specs.declared.Entry.{Entry}
@@ -32,12 +32,49 @@ use Rattle.rules.specs.declared.Frame.the-variants.{Whole, Misframed}
 use Rattle.rules.specs.declared.Verdict.{Verdict}
 use Rattle.rules.specs.declared.Verdict.the-variants.{Fine, Broken}
 
--- one unit that goes, and then the rest
-pub unit-more : (n : ℕ) (w w′ v : World) → go w ≡ true → step w ≡ w′ → run-for n w′ ≡ record { state = v; units = n } → run-for (suc n) w ≡ record { state = v; units = suc n }
-unit-more n w w′ v g s r = run-go go step n w g ∙ rw (s, r, one-add)
+-- in the midst of a submission: its entries or its packets are being read
+abbrev pub midst : Work → Bool
+midst resting = false
+midst (entries o kept) = true
+midst (packets j s at es h) = true
+midst (waiting j es h) = false
 
-pub unit-last : (w w′ : World) → go w ≡ true → step w ≡ w′ → run-for 1 w ≡ record { state = w′; units = 1 }
-unit-last w w′ g s = unit-more 0 w w′ w′ g s (run-none go step w′)
+-- n units from one world to another, in the midst of a submission before each
+pub record Course (n : ℕ) (w v : World) : Type 0 where
+  pub ends : run-for n w ≡ record { state = v; units = n }
+  pub inside : (i : ℕ) → i < n → midst (run-for i w .state .state .work) ≡ true
+
+pub course-none : (w : World) → Course 0 w w
+course-none w = record { ends = run-none go step w; inside = λ i h. absurd (omega arith) }
+
+-- one unit that goes, and then the rest
+course-more : (n : ℕ) (w w′ v : World) → go w ≡ true → step w ≡ w′ → midst (w .state .work) ≡ true → Course n w′ v → Course (suc n) w v
+course-more n w w′ v g s m c = record { ends = run-go go step n w g ∙ rw (s, c .ends, one-add); inside = at }
+  where
+    at : (i : ℕ) → i < suc n → midst (run-for i w .state .state .work) ≡ true
+    at zero h = rw (run-none go step w) m
+    at (suc i) h = rw (run-go go step i w g, s) (c .inside i (omega arith))
+
+course-last : (w w′ : World) → go w ≡ true → step w ≡ w′ → midst (w .state .work) ≡ true → Course 1 w w′
+course-last w w′ g s m = course-more 0 w w′ w′ g s m (course-none w′)
+
+pub course-join : (a b : ℕ) (w x v : World) → Course a w x → Course b x v → Course (a + b) w v
+course-join a b w x v p q =
+    record {
+      ends = onward b ∙ ap (spent a) (q .ends);
+      inside = λ i h. by-test i h (ltb i a) refl;
+    }
+  where
+    onward : (n : ℕ) → run-for (a + n) w ≡ spent a (run-for n x)
+    onward n = sliced go step a n w ∙ ap (λ (o : Out World). spent (o .units) (run-for n (o .state))) (p .ends)
+
+    by-test : (i : ℕ) → i < a + b → (t : Bool) → ltb i a ≡ t → midst (run-for i w .state .state .work) ≡ true
+    by-test i h true t = p .inside i (ltb-true i a t)
+    by-test i h false t =
+        let past : a ≤ i = ltb-false i a t in
+        let e : i ≡ a + (i - a) = omega arith in
+        ap (λ k. midst (run-for k w .state .state .work)) e
+        ∙ (ap (λ (o : Out World). midst (o .state .state .work)) (onward (i - a)) ∙ q .inside (i - a) (omega arith))
 
 -- ---- the entries
 
@@ -70,6 +107,9 @@ module _ (w : World) (on : w .state .regs .enabled ≡ true) (o : Opened) where
       unfolding go
       go-entry = rw (lt-ltb (length kept) (o .table .count) more, on)
 
+      midst-entry : midst (reading kept .state .work) ≡ true
+      midst-entry = rw (lt-ltb (length kept) (o .table .count) more)
+
       step-entry : step (reading kept) ≡ after-entry w o (keep (word-on kept) kept (next kept) .kept) (keep (word-on kept) kept (next kept) .verdict)
       unfolding step entry-step take-entry
       step-entry =
@@ -77,22 +117,19 @@ module _ (w : World) (on : w .state .regs .enabled ≡ true) (o : Opened) where
           (after-entry-on (entries o kept) (keep (word-on kept) kept (next kept) .kept) (keep (word-on kept) kept (next kept) .verdict))
 
       at-entry : (v : Verdict) (es : List Entry) (j : Judged) → step (reading kept) ≡ after-entry w o (keep v kept (next kept) .kept) (keep v kept (next kept) .verdict)
-          → run-for (j .count) (reading (pushed kept (next kept))) ≡ record { state = after-table (j .verdict) (pushed kept (next kept) ++ es); units = j .count }
-          → run-for (stop-or-go v j .count) (reading kept) ≡ record { state = after-table (stop-or-go v j .verdict) (kept ++ (next kept ∷ es)); units = stop-or-go v j .count }
+          → Course (j .count) (reading (pushed kept (next kept))) (after-table (j .verdict) (pushed kept (next kept) ++ es))
+          → Course (stop-or-go v j .count) (reading kept) (after-table (stop-or-go v j .verdict) (kept ++ (next kept ∷ es)))
       at-entry Fine es j st ih =
-          unit-more (j .count) (reading kept) (reading (pushed kept (next kept))) _ go-entry st
-          (ih ∙ ap (λ (l : List Entry). record { state = after-table (j .verdict) l; units = j .count }) (append-assoc kept (next kept ∷ []) es))
-      at-entry (Broken r) es j st ih = unit-last (reading kept) _ go-entry st
+          course-more (j .count) (reading kept) (reading (pushed kept (next kept))) _ go-entry st midst-entry
+          (subst (λ (l : List Entry). Course (j .count) (reading (pushed kept (next kept))) (after-table (j .verdict) l)) (append-assoc kept (next kept ∷ []) es) ih)
+      at-entry (Broken r) es j st ih = course-last (reading kept) _ go-entry st midst-entry
 
     -- from the entries kept so far, n being left
     pub entries-end : (n i : ℕ) (kept : List Entry) → i ≡ length kept → i + n ≡ o .table .count
-        → run-for (judge-entries (length (w .mem)) kept (entries-from (w .mem) (o .table) i n) .count) (reading kept)
-        ≡ record {
-          state = after-table (judge-entries (length (w .mem)) kept (entries-from (w .mem) (o .table) i n) .verdict) (kept ++ entries-from (w .mem) (o .table) i n);
-          units = judge-entries (length (w .mem)) kept (entries-from (w .mem) (o .table) i n) .count;
-        }
+        → Course (judge-entries (length (w .mem)) kept (entries-from (w .mem) (o .table) i n) .count) (reading kept)
+        (after-table (judge-entries (length (w .mem)) kept (entries-from (w .mem) (o .table) i n) .verdict) (kept ++ entries-from (w .mem) (o .table) i n))
     unfolding judge-entries entries-from
-    entries-end zero i kept e h = rw (le-ltb (length kept) (o .table .count) (omega arith), append-nil) (run-none go step _)
+    entries-end zero i kept e h = rw (le-ltb (length kept) (o .table .count) (omega arith), append-nil) (course-none _)
     entries-end (suc n) i kept e h =
         let len : suc (length kept) ≡ length (pushed kept (next kept)) = simp length-append (omega arith) in
         rw e
@@ -149,6 +186,10 @@ module _ (w : World) (on : w .state .regs .enabled ≡ true) (j : Job) (s : Stre
   after-stream Fine h = working (waiting j es h) w
   after-stream (Broken r) h = settled-keeping j (Broken r) w
 
+  -- from a place in the stream, the units are the reckoning's count and the end is its verdict's
+  abbrev pub Reckons : ℕ → Holdings → Reckoned → Type 0
+  Reckons at h q = Course (q .count) (placed at h) (after-stream (q .verdict) (q .held))
+
   -- what a packet comes to does not look at the work before it
   after-packet-on : (k : Work) (next : ℕ) (h : Holdings) (v : Verdict) → after-packet (working k w) j s next es h v ≡ after-packet w j s next es h v
   unfolding settled
@@ -159,6 +200,9 @@ module _ (w : World) (on : w .state .regs .enabled ≡ true) (j : Job) (s : Stre
     go-packet : go (placed at h) ≡ true
     unfolding go
     go-packet = rw (lt-ltb at (s .size) more, on)
+
+    midst-packet : midst (placed at h .state .work) ≡ true
+    midst-packet = rw (lt-ltb at (s .size) more)
 
     step-packet : step (placed at h) ≡ after-packet w j s (next-place at (drop at bytes)) es (take-packet es h (drop at bytes) .held) (take-packet es h (drop at bytes) .verdict)
     unfolding step packet-step
@@ -171,46 +215,37 @@ module _ (w : World) (on : w .state .regs .enabled ≡ true) (j : Job) (s : Stre
     step-as-frame = step-packet
 
     at-applied : (v : Verdict) (size : ℕ) (held : Holdings) (q : Reckoned) → step (placed at h) ≡ after-packet w j s (at + size) es held v
-        → run-for (q .count) (placed (at + size) held) ≡ record { state = after-stream (q .verdict) (q .held); units = q .count }
-        → run-for (one-further v h q .count) (placed at h) ≡ record { state = after-stream (one-further v h q .verdict) (one-further v h q .held); units = one-further v h q .count }
-    at-applied Fine size held q st ih = unit-more (q .count) (placed at h) (placed (at + size) held) _ go-packet st ih
-    at-applied (Broken r) size held q st ih = unit-last (placed at h) _ go-packet st
+        → Course (q .count) (placed (at + size) held) (after-stream (q .verdict) (q .held))
+        → Course (one-further v h q .count) (placed at h) (after-stream (one-further v h q .verdict) (one-further v h q .held))
+    at-applied Fine size held q st ih = course-more (q .count) (placed at h) (placed (at + size) held) _ go-packet st midst-packet ih
+    at-applied (Broken r) size held q st ih = course-last (placed at h) _ go-packet st midst-packet
 
     at-frame : (k : ℕ) (f : Frame) → Sound (drop at bytes) f
         → step (placed at h) ≡ after-packet w j s (at + size-of f) es (apply-frame es h (drop at bytes) f .held) (apply-frame es h (drop at bytes) f .verdict)
-        → ((n : ℕ) (g : Holdings) → at < n → n ≤ s .size → run-for (judge-packets es g (cut k (drop n bytes)) .count) (placed n g)
-        ≡ record { state = after-stream (judge-packets es g (cut k (drop n bytes)) .verdict) (judge-packets es g (cut k (drop n bytes)) .held); units = judge-packets es g (cut k (drop n bytes)) .count })
-        → run-for (judge-packets es h (before f (drop at bytes) (cut k (drop (at + size-of f) bytes))) .count) (placed at h)
-        ≡ record {
-          state = after-stream (judge-packets es h (before f (drop at bytes) (cut k (drop (at + size-of f) bytes))) .verdict) (judge-packets es h (before f (drop at bytes) (cut k (drop (at + size-of f) bytes))) .held);
-          units = judge-packets es h (before f (drop at bytes) (cut k (drop (at + size-of f) bytes))) .count;
-        }
+        → ((n : ℕ) (g : Holdings) → at < n → n ≤ s .size → Reckons n g (judge-packets es g (cut k (drop n bytes))))
+        → Reckons at h (judge-packets es h (before f (drop at bytes) (cut k (drop (at + size-of f) bytes))))
     unfolding judge-packets
     at-frame k (Whole op size) d st ih =
         let room : length (drop at bytes) ≡ s .size - at = length-drop at bytes ∙ rw len in
         at-applied (apply es h (packet-of op (take size (drop at bytes))) .verdict) size (apply es h (packet-of op (take size (drop at bytes))) .held)
         (judge-packets es (apply es h (packet-of op (take size (drop at bytes))) .held) (cut k (drop (at + size) bytes))) st
         (ih (at + size) (apply es h (packet-of op (take size (drop at bytes))) .held) (omega (arith, d .some)) (omega (arith, d .fits)))
-    at-frame k (Misframed r) d st ih = unit-last (placed at h) _ go-packet st
+    at-frame k (Misframed r) d st ih = course-last (placed at h) _ go-packet st midst-packet
 
-  packets-none : (k at : ℕ) (h : Holdings) → s .size ≤ at → run-for (judge-packets es h (cut k (drop at bytes)) .count) (placed at h)
-      ≡ record { state = after-stream (judge-packets es h (cut k (drop at bytes)) .verdict) (judge-packets es h (cut k (drop at bytes)) .held); units = judge-packets es h (cut k (drop at bytes)) .count }
+  packets-none : (k at : ℕ) (h : Holdings) → s .size ≤ at → Reckons at h (judge-packets es h (cut k (drop at bytes)))
   unfolding judge-packets
   packets-none k at h p =
       let gone : length (drop at bytes) ≡ 0 = length-drop at bytes ∙ omega arith in
-      rw (cut-none k (drop at bytes) gone, le-ltb at (s .size) p) (run-none go step _)
+      rw (cut-none k (drop at bytes) gone, le-ltb at (s .size) p) (course-none _)
 
   -- from a place in the stream, k bounding what is left
-  pub packets-end : (k at : ℕ) (h : Holdings) → s .size - at ≤ k → run-for (judge-packets es h (cut k (drop at bytes)) .count) (placed at h)
-      ≡ record { state = after-stream (judge-packets es h (cut k (drop at bytes)) .verdict) (judge-packets es h (cut k (drop at bytes)) .held); units = judge-packets es h (cut k (drop at bytes)) .count }
+  pub packets-end : (k at : ℕ) (h : Holdings) → s .size - at ≤ k → Reckons at h (judge-packets es h (cut k (drop at bytes)))
   packets-end zero at h f = packets-none zero at h (omega arith)
   packets-end (suc k) at h f = by-test (ltb at (s .size)) refl (λ n g p q. packets-end k n g (omega arith))
     where
       by-test : (t : Bool) → ltb at (s .size) ≡ t
-          → ((n : ℕ) (g : Holdings) → at < n → n ≤ s .size → run-for (judge-packets es g (cut k (drop n bytes)) .count) (placed n g)
-          ≡ record { state = after-stream (judge-packets es g (cut k (drop n bytes)) .verdict) (judge-packets es g (cut k (drop n bytes)) .held); units = judge-packets es g (cut k (drop n bytes)) .count })
-          → run-for (judge-packets es h (cut (suc k) (drop at bytes)) .count) (placed at h)
-          ≡ record { state = after-stream (judge-packets es h (cut (suc k) (drop at bytes)) .verdict) (judge-packets es h (cut (suc k) (drop at bytes)) .held); units = judge-packets es h (cut (suc k) (drop at bytes)) .count }
+          → ((n : ℕ) (g : Holdings) → at < n → n ≤ s .size → Reckons n g (judge-packets es g (cut k (drop n bytes))))
+          → Reckons at h (judge-packets es h (cut (suc k) (drop at bytes)))
       by-test true t ih =
           let more : at < s .size = ltb-true at (s .size) t in
           let some : length (drop at bytes) ≡ 0 → ⊥ = λ z. omega (arith, length-drop at bytes, len) in

@@ -1,5 +1,4 @@
 -- A device's numbers and rows as the rules' state, with the memory beside it.
-use mathlib.Core.Path.{_≡_}
 use mathlib.Core.List.{List}
 use Prim.Native.Nat.{ℕ, _≤_}
 use Rattle.rules.specs.Numbers.{most}

@@ -1,0 +1,69 @@
+# How the Rust side is built and run on this machine. For bash, to be sourced: ./play and .ci/run do.
+#
+#   host_ready           installs what is missing; says what it does, or what is to be done
+#   host_cargo CMD ..    cargo CMD for host/, whatever the caller's folder is
+#
+# libdesk.a is x86-64 code. On x86-64 cargo builds natively. On Arm it builds for x86-64 with Debian's cross linker, and programs
+# and tests run under Debian's qemu-user. Packages are Debian's, and only those that are missing.
+
+host_folder=$(cd "$(dirname "${BASH_SOURCE[0]}")" && pwd)
+
+host_install() { # PACKAGE..
+    local as_root=()
+    if ! command -v apt-get >/dev/null; then
+        echo "host: missing, by Debian's names: $*. There is no apt-get here; install them by hand." >&2
+        return 1
+    fi
+    if [ "$(id -u)" -ne 0 ]; then
+        if ! command -v sudo >/dev/null; then
+            echo "host: missing: $*. Install these Debian packages as root and try again." >&2
+            return 1
+        fi
+        as_root=(sudo)
+    fi
+    echo "host: installing $*" >&2
+    case " $* " in *:amd64\ *)
+        "${as_root[@]}" dpkg --add-architecture amd64 || return 1
+        ;;
+    esac
+    "${as_root[@]}" apt-get update -q >&2 &&
+        "${as_root[@]}" env DEBIAN_FRONTEND=noninteractive apt-get install -q -y --no-install-recommends "$@" >&2
+}
+
+host_ready() {
+    local missing=()
+    case $(uname -m) in
+    x86_64)
+        command -v cargo >/dev/null && command -v rustc >/dev/null || missing+=(cargo rustc)
+        command -v cc >/dev/null || missing+=(gcc libc6-dev)
+        ;;
+    aarch64)
+        # Debian's own, whatever else is on the PATH: compiler, x86-64 standard library, linker and emulator fit one another.
+        [ -x /usr/bin/cargo ] && [ -x /usr/bin/rustc ] || missing+=(cargo rustc)
+        [ -x /usr/bin/x86_64-linux-gnu-gcc ] || missing+=(gcc-x86-64-linux-gnu)
+        [ -x /usr/bin/qemu-x86_64 ] || missing+=(qemu-user)
+        dpkg -s libstd-rust-dev:amd64 >/dev/null 2>&1 || missing+=(libstd-rust-dev:amd64)
+        ;;
+    *)
+        echo "host: libdesk.a is x86-64 code. It is linked on x86-64 and on Arm (aarch64), not on $(uname -m)." >&2
+        return 1
+        ;;
+    esac
+    [ ${#missing[@]} -eq 0 ] || host_install "${missing[@]}"
+}
+
+host_cargo() { # CMD ..
+    local command=$1
+    shift
+    case $(uname -m) in
+    aarch64)
+        PATH=/usr/bin:$PATH \
+            CARGO_TARGET_X86_64_UNKNOWN_LINUX_GNU_LINKER=/usr/bin/x86_64-linux-gnu-gcc \
+            CARGO_TARGET_X86_64_UNKNOWN_LINUX_GNU_RUNNER=/usr/bin/qemu-x86_64 \
+            /usr/bin/cargo "$command" --offline --manifest-path "$host_folder/Cargo.toml" --target x86_64-unknown-linux-gnu "$@"
+        ;;
+    *)
+        cargo "$command" --offline --manifest-path "$host_folder/Cargo.toml" "$@"
+        ;;
+    esac
+}

@@ -1,0 +1,205 @@
+//! The desk: the device's state and its calls.
+
+use crate::errors::Error;
+use crate::fence;
+use crate::packets::{Kept, Record};
+use crate::registers::{Registers, Written};
+use crate::resources::Resources;
+use crate::ring::{self, Ring};
+use crate::submission::{Submission, Ticket};
+
+const DONE: u32 = 0;
+const OTHER_LENGTH: u32 = 1;
+const NO_REGISTER: u32 = 2;
+const NOTHING_WAITING: u32 = 3;
+const NO_RECORD: u32 = 4;
+
+/// How a run ended.
+#[derive(Clone, Copy, Debug, PartialEq, Eq)]
+pub enum Ended {
+    /// Disabled, or the doorbell flag is clear and nothing is in work.
+    Idle,
+    /// A submission awaits the host.
+    Waiting,
+    /// There is more to do.
+    Paused,
+}
+
+/// What a run reports.
+#[derive(Clone, Copy, Debug, PartialEq, Eq)]
+pub struct Ran {
+    /// The call answer.
+    pub answer: u32,
+    /// The units spent.
+    pub units: u16,
+    /// How it ended.
+    pub ended: Ended,
+}
+
+/// A device, made for one memory length.
+#[derive(Clone, Debug, PartialEq)]
+pub struct Desk {
+    memory: usize,
+    registers: Registers,
+    resources: Resources,
+    /// The submission in work.
+    work: Option<Submission>,
+    /// What the submission in work has kept; empty without one.
+    kept: Kept,
+}
+
+impl Desk {
+    /// A new device for a memory of `memory` bytes.
+    pub fn new(memory: usize) -> Desk {
+        Desk {
+            memory,
+            registers: Registers::default(),
+            resources: Resources::new(),
+            work: None,
+            kept: Kept::new(),
+        }
+    }
+
+    /// Writes a register; gives the call answer.
+    pub fn write(&mut self, offset: u32, value: u32) -> u32 {
+        match self.registers.write(offset, value) {
+            Written::Done => DONE,
+            Written::Reset => {
+                self.resources.clear();
+                self.drop_work();
+                DONE
+            }
+            Written::Refused => NO_REGISTER,
+        }
+    }
+
+    /// Reads a register; gives the call answer and the value.
+    pub fn read(&self, offset: u32) -> (u32, u32) {
+        match self.registers.read(offset) {
+            Some(value) => (DONE, value),
+            None => (NO_REGISTER, 0),
+        }
+    }
+
+    /// Runs until the allowance is spent, the device is idle, or a submission
+    /// waits for the host.
+    pub fn run(&mut self, mem: &mut [u8], allowance: u16) -> Ran {
+        if mem.len() != self.memory {
+            return Ran {
+                answer: OTHER_LENGTH,
+                units: 0,
+                ended: Ended::Idle,
+            };
+        }
+        let mut units = 0;
+        while units < allowance && self.ended() == Ended::Paused {
+            self.step(mem);
+            units += 1;
+        }
+        Ran {
+            answer: DONE,
+            units,
+            ended: self.ended(),
+        }
+    }
+
+    /// Record `i` of the waiting submission; gives the call answer and the
+    /// record.
+    pub fn record(&self, i: u32) -> (u32, Record) {
+        if self.is_waiting() {
+            if let Some(record) = self.kept.records.get(i as usize) {
+                return (DONE, *record);
+            }
+        }
+        (NO_RECORD, Record::default())
+    }
+
+    /// Takes the host's answer and settles the waiting submission; gives the
+    /// call answer.
+    pub fn answer(&mut self, mem: &mut [u8], good: bool) -> u32 {
+        if mem.len() != self.memory {
+            return OTHER_LENGTH;
+        }
+        let ticket = match &self.work {
+            Some(submission) if submission.is_waiting(&self.kept) => submission.ticket,
+            _ => return NOTHING_WAITING,
+        };
+        let outcome = if good { Ok(()) } else { Err(Error::Host) };
+        self.settle(mem, ticket, outcome);
+        DONE
+    }
+
+    fn is_waiting(&self) -> bool {
+        match &self.work {
+            Some(submission) => submission.is_waiting(&self.kept),
+            None => false,
+        }
+    }
+
+    /// How a run that stopped now would have ended.
+    fn ended(&self) -> Ended {
+        if self.is_waiting() {
+            Ended::Waiting
+        } else if !self.registers.enabled || (!self.registers.doorbell && self.work.is_none()) {
+            Ended::Idle
+        } else {
+            Ended::Paused
+        }
+    }
+
+    /// Does one unit: an opening, an entry or a packet.
+    fn step(&mut self, mem: &mut [u8]) {
+        match &mut self.work {
+            None => self.open(mem),
+            Some(submission) => {
+                let ticket = submission.ticket;
+                if let Err(error) = submission.step(mem, &mut self.kept) {
+                    self.settle(mem, ticket, Err(error));
+                }
+            }
+        }
+    }
+
+    /// Opens the submission at the ring's head, if the ring is good and has
+    /// one.
+    fn open(&mut self, mem: &mut [u8]) {
+        match Ring::read(mem, self.registers.ring_gpa, self.registers.ring_size) {
+            Err(error) => {
+                self.registers.doorbell = false;
+                self.registers.set_error(error, 0);
+            }
+            Ok(ring) if ring.pending() == 0 => self.registers.doorbell = false,
+            Ok(ring) => self.open_head(mem, &ring),
+        }
+    }
+
+    fn open_head(&mut self, mem: &mut [u8], ring: &Ring) {
+        let descriptor = ring.descriptor(mem);
+        let ticket = Ticket::new(ring, &descriptor);
+        match Submission::open(mem, ring.stride, &descriptor, ticket) {
+            Ok(submission) => {
+                self.kept.resources.copy_from(&self.resources);
+                self.work = Some(submission);
+            }
+            Err(error) => self.settle(mem, ticket, Err(error)),
+        }
+    }
+
+    /// Settles a submission: resources or error, completed fence, then the
+    /// head of the opened ring, then the fence page.
+    fn settle(&mut self, mem: &mut [u8], ticket: Ticket, outcome: Result<(), Error>) {
+        match outcome {
+            Ok(()) => std::mem::swap(&mut self.resources, &mut self.kept.resources),
+            Err(error) => self.registers.set_error(error, ticket.signal_fence),
+        }
+        self.drop_work();
+        self.registers.complete(ticket.signal_fence, ticket.no_irq);
+        ring::write_head(mem, ticket.ring_gpa, ticket.head.wrapping_add(1));
+        fence::write_page(mem, self.registers.fence_gpa, self.registers.completed);
+    }
+
+    fn drop_work(&mut self) {
+        self.work = None;
+        self.kept.clear();
+    }
+}

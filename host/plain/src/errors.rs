@@ -1,0 +1,49 @@
+//! The error codes a submission, or the ring, can end with.
+
+/// What went wrong; [`Error::code`] gives the number of the error register.
+#[derive(Clone, Copy, Debug, PartialEq, Eq)]
+pub(crate) enum Error {
+    /// Bad ring.
+    Ring = 10,
+    /// Bad descriptor.
+    Descriptor = 11,
+    /// Command or table range not within memory.
+    Range = 12,
+    /// Bad table header.
+    Table = 13,
+    /// Bad table entry.
+    Entry = 14,
+    /// Entry id used by an earlier entry.
+    Duplicate = 15,
+    /// Bad stream header.
+    Stream = 16,
+    /// Bad packet header.
+    Packet = 17,
+    /// Handle is zero, live, or not live, where it may not be.
+    Handle = 18,
+    /// No room: entries, resources or records.
+    Full = 19,
+    /// Bad shape.
+    Shape = 20,
+    /// Backing id not in the table.
+    Backing = 21,
+    /// Range beyond the table entry.
+    BeyondEntry = 22,
+    /// Table entry is read-only.
+    ReadOnly = 23,
+    /// Range beyond the resource.
+    BeyondResource = 24,
+    /// Resource is host-backed.
+    HostBacked = 25,
+    /// Copy onto the same handle, or unknown copy flags.
+    Copy = 26,
+    /// The host answered "failed".
+    Host = 27,
+}
+
+impl Error {
+    /// The number of the error register.
+    pub(crate) fn code(self) -> u32 {
+        self as u32
+    }
+}

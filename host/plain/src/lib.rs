@@ -1,0 +1,24 @@
+//! A plain device front: registers, ring, table and packet checks, records
+//! for the host, fences. Written from `01-scope.md` alone; see `NOTES.md` for
+//! the points where that page was read one way out of several.
+
+#![forbid(unsafe_code)]
+#![warn(missing_docs)]
+
+mod bytes;
+mod desk;
+mod errors;
+mod fence;
+mod packets;
+mod registers;
+mod resources;
+mod ring;
+mod shapes;
+mod stream;
+mod submission;
+mod table;
+
+pub use desk::{Desk, Ended, Ran};
+pub use packets::Record;
+pub use shapes::packed_size;
+pub use table::table_error;

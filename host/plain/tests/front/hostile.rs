@@ -1,0 +1,199 @@
+//! Random and hostile input: nothing panics, and slices do not matter.
+
+use crate::scene::*;
+use plain::{packed_size, table_error, Desk, Ended};
+
+/// A small generator, good enough to move bytes about (SplitMix64).
+struct Random(u64);
+
+impl Random {
+    fn next(&mut self) -> u64 {
+        self.0 = self.0.wrapping_add(0x9E37_79B9_7F4A_7C15);
+        let mut z = self.0;
+        z = (z ^ (z >> 30)).wrapping_mul(0xBF58_476D_1CE4_E5B9);
+        z = (z ^ (z >> 27)).wrapping_mul(0x94D0_49BB_1331_11EB);
+        z ^ (z >> 31)
+    }
+
+    fn below(&mut self, limit: u64) -> u64 {
+        self.next() % limit
+    }
+
+    /// Mostly small, sometimes at an edge, sometimes anything.
+    fn number(&mut self) -> u64 {
+        match self.below(8) {
+            0 => self.next(),
+            1 => u64::MAX - self.below(20),
+            2 => u64::from(u32::MAX) - self.below(20),
+            3 => MEMORY as u64 + self.below(40) - 20,
+            4 => 0,
+            _ => self.below(300),
+        }
+    }
+
+    fn packet(&mut self) -> Vec<u8> {
+        let handle = self.below(6) as u32;
+        let id = self.below(5) as u32;
+        match self.below(12) {
+            0..=2 => create_buffer(handle, 1 + self.below(256), id, self.below(64) as u32),
+            3 => create_buffer(handle, self.number(), id, self.number() as u32),
+            4 => {
+                let shape = (
+                    [1, 2, 64, 66, 7][self.below(5) as usize],
+                    self.below(9) as u32,
+                    self.below(9) as u32,
+                    self.below(5) as u32,
+                    self.below(4) as u32,
+                    self.below(200) as u32,
+                );
+                create_texture(handle, shape, id, self.below(64) as u32)
+            }
+            5 => destroy(handle),
+            6..=7 => dirty(handle, self.below(64), self.below(64)),
+            8 => dirty(handle, self.number(), self.number()),
+            9 => copy(
+                (handle, self.below(64)),
+                (self.below(6) as u32, self.below(64)),
+                self.below(64),
+                self.below(2) as u32,
+            ),
+            10 => copy(
+                (handle, self.number()),
+                (self.below(6) as u32, self.number()),
+                self.number(),
+                self.below(3) as u32,
+            ),
+            _ => packet(self.below(300) as u32, 4 * self.below(12) as u32),
+        }
+    }
+
+    fn submission(&mut self, scene: &mut Scene) {
+        let entries: Vec<Entry> = (0..self.below(4))
+            .map(|i| {
+                let id = if self.below(20) == 0 { 1 } else { i as u32 + 1 };
+                (
+                    id,
+                    self.below(2) as u32,
+                    self.below(9000),
+                    200 + self.below(600),
+                )
+            })
+            .collect();
+        let packets: Vec<Vec<u8>> = (0..self.below(8)).map(|_| self.packet()).collect();
+        let fence = self.below(50);
+        scene.submit(&entries, &packets, fence);
+    }
+
+    /// Spoils a few bytes where the front reads.
+    fn spoil(&mut self, mem: &mut [u8]) {
+        let (start, length) = [(RING, 128), (TABLE, 120), (STREAM, 400)][self.below(3) as usize];
+        let at = start + self.below(length / 4) as usize * 4;
+        put32(mem, at, self.number() as u32);
+    }
+}
+
+/// One random change to a scene, from the guest or the host.
+fn disturb(random: &mut Random, scene: &mut Scene) {
+    match random.below(16) {
+        0..=5 => random.submission(scene),
+        6 => random.spoil(&mut scene.mem),
+        7 => scene.write(0x10C, random.below(4) as u32),
+        8 => scene.write(0x308, random.below(4) as u32),
+        9 => scene.write(0x120, random.below(MEMORY as u64) as u32),
+        10 => {
+            let head = scene.head();
+            scene.put_ring(RING, head);
+        }
+        _ => {
+            scene.write(0x10C, 1);
+            let good = random.below(4) != 0;
+            scene.answer(good);
+        }
+    }
+}
+
+#[test]
+fn slices_do_not_matter() {
+    let mut waits = 0;
+    let mut errors = [0; 28];
+    for seed in 0..60 {
+        let mut random = Random(seed);
+        let mut whole = Scene::new();
+        for _ in 0..200 {
+            disturb(&mut random, &mut whole);
+            let mut sliced = whole.clone();
+            let allowance = random.below(40) as u16;
+            let ran = whole.run(allowance);
+            let mut units = 0;
+            while units < allowance {
+                let slice =
+                    sliced.run(1 + random.below(3).min(u64::from(allowance - units - 1)) as u16);
+                units += slice.units;
+                if slice.ended != Ended::Paused {
+                    break;
+                }
+            }
+            assert_eq!((ran.answer, ran.units), (0, units));
+            assert_eq!(ran.ended, sliced.run(0).ended);
+            assert_eq!(whole, sliced);
+            assert_eq!(whole.records(), sliced.records());
+            waits += u32::from(ran.ended == Ended::Waiting);
+            errors[whole.error() as usize] += 1;
+        }
+    }
+    assert!(waits > 500, "waits {}", waits);
+    let seen = errors.iter().filter(|count| **count > 0).count();
+    assert!(seen > 14, "errors {:?}", errors);
+}
+
+#[test]
+fn records_stay_within_memory() {
+    for seed in 100..140 {
+        let mut random = Random(seed);
+        let mut scene = Scene::new();
+        for _ in 0..100 {
+            disturb(&mut random, &mut scene);
+            scene.run(100);
+            for record in scene.records() {
+                assert!(record.length > 0);
+                assert!(record.gpa + record.length <= MEMORY as u64);
+                assert!((1..=3).contains(&record.kind));
+                assert!(record.id != 0 && record.handle != 0);
+            }
+        }
+    }
+}
+
+#[test]
+fn small_and_random_memories() {
+    for length in (0..200).chain([1000, 4096]) {
+        let mut random = Random(length as u64);
+        let mut mem: Vec<u8> = (0..length).map(|_| random.next() as u8).collect();
+        let mut desk = Desk::new(length);
+        for _ in 0..60 {
+            let offset =
+                random.below(0x80) as u32 * 4 + [0, 0x100, 0x200][random.below(3) as usize];
+            desk.write(offset, random.number() as u32);
+            desk.write(0x10C, 1);
+            desk.write(0x200, 0);
+            desk.run(&mut mem, random.next() as u16);
+            desk.answer(&mut mem, true);
+            desk.record(random.next() as u32);
+        }
+    }
+}
+
+#[test]
+fn random_shapes_and_tables() {
+    let mut random = Random(7);
+    for _ in 0..20_000 {
+        let shape: Vec<u32> = (0..6).map(|_| random.number() as u32).collect();
+        packed_size(shape[0], shape[1], shape[2], shape[3], shape[4], shape[5]);
+        let mut bytes = table(&[(1, 0, 0, 8), (2, 0, 8, 8), (3, 0, 8, 8)]);
+        let at = random.below(bytes.len() as u64 / 4) as usize * 4;
+        put32(&mut bytes, at, random.number() as u32);
+        let length = bytes.len() as u64 - random.below(4) * random.below(30);
+        let error = table_error(&bytes[..length as usize], random.number());
+        assert!([0, 13, 14, 15, 19].contains(&error));
+    }
+}

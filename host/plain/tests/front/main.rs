@@ -1,0 +1,14 @@
+//! Tests of the front through its public interface.
+
+mod entries;
+mod hostile;
+mod night_log;
+mod opening;
+mod packets;
+mod registers;
+mod running;
+mod scene;
+mod settling;
+mod shapes;
+mod stream;
+mod table;

@@ -1,0 +1,327 @@
+//! The numbers that the front gives, as enums: why a call was refused, how a run ended, kinds of record, errors.
+use std::error::Error;
+use std::fmt;
+
+/// What becomes of a number that is none of the front's. It is proved to give no other, so a caller could not act on one: it
+/// means that another library than this crate's was linked.
+#[cold]
+fn none_of_ours(what: &str, number: u64) -> ! {
+    unreachable!(
+        "the proved front gives no {} of number {}; was another libdesk.a linked?",
+        what, number
+    )
+}
+
+/// A value that the front gives in a word, and that fits its own width.
+pub(crate) fn narrow<T: TryFrom<u64>>(word: u64) -> T {
+    T::try_from(word).unwrap_or_else(|_| none_of_ours("value", word))
+}
+
+/// Why a call was refused. A refused call has changed no state and no byte of memory.
+#[derive(Clone, Copy, Debug, PartialEq, Eq, Hash)]
+#[repr(u32)]
+pub enum Refused {
+    /// The lent memory has another length than the desk was made for.
+    OtherMemory = 1,
+    /// There is no such register, or it is not readable or not writable.
+    NoRegister = 2,
+    /// The host answered, but no submission waits for it.
+    NothingWaits = 3,
+    /// No submission waits, or it has no record of this index.
+    NoRecord = 4,
+}
+
+impl Refused {
+    /// Every reason, by rising number.
+    pub const ALL: [Refused; 4] = [
+        Refused::OtherMemory,
+        Refused::NoRegister,
+        Refused::NothingWaits,
+        Refused::NoRecord,
+    ];
+
+    /// The call answer of document 01, 1 to 4.
+    pub fn number(self) -> u32 {
+        self as u32
+    }
+
+    /// A call answer: 0 is done.
+    pub(crate) fn from_answer(answer: u32) -> Result<(), Refused> {
+        if answer == 0 {
+            return Ok(());
+        }
+        match Refused::ALL.iter().find(|r| r.number() == answer) {
+            Some(&refused) => Err(refused),
+            None => none_of_ours("call answer", answer.into()),
+        }
+    }
+}
+
+impl fmt::Display for Refused {
+    fn fmt(&self, f: &mut fmt::Formatter<'_>) -> fmt::Result {
+        f.write_str(match self {
+            Refused::OtherMemory => "the memory has another length than the desk was made for",
+            Refused::NoRegister => "no such register, or not readable or writable",
+            Refused::NothingWaits => "no submission waits for the host's answer",
+            Refused::NoRecord => "no such record, or no submission waits",
+        })
+    }
+}
+
+impl Error for Refused {}
+
+/// How a run ended.
+#[derive(Clone, Copy, Debug, PartialEq, Eq, Hash)]
+pub enum Ended {
+    /// Disabled, or nothing to do until the doorbell rings.
+    Idle,
+    /// A submission waits for the host's answer.
+    Waiting,
+    /// The allowance is spent and there is more to do.
+    Paused,
+}
+
+impl Ended {
+    pub(crate) fn from_number(number: u64) -> Ended {
+        match number {
+            0 => Ended::Idle,
+            1 => Ended::Waiting,
+            2 => Ended::Paused,
+            _ => none_of_ours("ending", number),
+        }
+    }
+}
+
+impl fmt::Display for Ended {
+    fn fmt(&self, f: &mut fmt::Formatter<'_>) -> fmt::Result {
+        f.write_str(match self {
+            Ended::Idle => "idle",
+            Ended::Waiting => "waiting",
+            Ended::Paused => "paused",
+        })
+    }
+}
+
+/// What a record asks of the host.
+#[derive(Clone, Copy, Debug, PartialEq, Eq, Hash)]
+#[repr(u32)]
+pub enum RecordKind {
+    /// The range is where a new resource lives in guest memory.
+    Backs = 1,
+    /// The guest changed the range: the host reads it.
+    Reads = 2,
+    /// The host writes the range: a copy's result goes back to guest memory.
+    Writes = 3,
+}
+
+impl RecordKind {
+    /// The kind's number in document 01, 1 to 3.
+    pub fn number(self) -> u32 {
+        self as u32
+    }
+
+    pub(crate) fn from_number(number: u64) -> RecordKind {
+        match number {
+            1 => RecordKind::Backs,
+            2 => RecordKind::Reads,
+            3 => RecordKind::Writes,
+            _ => none_of_ours("record kind", number),
+        }
+    }
+}
+
+impl fmt::Display for RecordKind {
+    fn fmt(&self, f: &mut fmt::Formatter<'_>) -> fmt::Result {
+        f.write_str(match self {
+            RecordKind::Backs => "backs",
+            RecordKind::Reads => "reads",
+            RecordKind::Writes => "writes",
+        })
+    }
+}
+
+/// What the host says of a waiting submission.
+#[derive(Clone, Copy, Debug, PartialEq, Eq, Hash)]
+pub enum HostAnswer {
+    /// All records were carried out: the submission's resources become the device's.
+    Good,
+    /// Something failed: the submission ends with error 27, and the resources before it stay.
+    Failed,
+}
+
+/// Why a submission was refused or failed, as the error register tells the guest.
+#[derive(Clone, Copy, Debug, PartialEq, Eq, Hash)]
+#[repr(u32)]
+pub enum DeviceError {
+    /// The ring's place, header, slots or indices break a rule.
+    BadRing = 10,
+    /// A descriptor's size, or its ranges' addresses and sizes, break a rule.
+    BadDescriptor = 11,
+    /// The stream's or the table's range leaves guest memory.
+    OutsideMemory = 12,
+    /// The table's header breaks a rule.
+    BadTable = 13,
+    /// A table entry has id 0, size 0 or leaves guest memory.
+    BadEntry = 14,
+    /// A table entry has an earlier entry's id.
+    TwiceInTable = 15,
+    /// The stream's header breaks a rule.
+    BadStream = 16,
+    /// A packet's size breaks a rule, or bytes are left over.
+    BadPacket = 17,
+    /// A handle is 0, live when created, or not live (or no buffer) when used.
+    BadHandle = 18,
+    /// More than 64 table entries, resources or records.
+    TooMany = 19,
+    /// No resource has this shape.
+    BadShape = 20,
+    /// The backing id is not in the submission's table.
+    NotInTable = 21,
+    /// The range leaves its table entry.
+    PastEntry = 22,
+    /// The copy would write back to a read-only entry.
+    ReadOnly = 23,
+    /// The range leaves its resource.
+    PastResource = 24,
+    /// The resource has no guest memory behind it.
+    HostBacked = 25,
+    /// The copy names one buffer twice, or has unknown flags.
+    BadCopy = 26,
+    /// The host said that it failed.
+    HostFailed = 27,
+}
+
+impl DeviceError {
+    /// Every error, by rising number.
+    pub const ALL: [DeviceError; 18] = [
+        DeviceError::BadRing,
+        DeviceError::BadDescriptor,
+        DeviceError::OutsideMemory,
+        DeviceError::BadTable,
+        DeviceError::BadEntry,
+        DeviceError::TwiceInTable,
+        DeviceError::BadStream,
+        DeviceError::BadPacket,
+        DeviceError::BadHandle,
+        DeviceError::TooMany,
+        DeviceError::BadShape,
+        DeviceError::NotInTable,
+        DeviceError::PastEntry,
+        DeviceError::ReadOnly,
+        DeviceError::PastResource,
+        DeviceError::HostBacked,
+        DeviceError::BadCopy,
+        DeviceError::HostFailed,
+    ];
+
+    /// The error's number in document 01, 10 to 27.
+    pub fn number(self) -> u32 {
+        self as u32
+    }
+
+    /// The error of this number; `None` for 0, which is no error, and for a number that is none of ours.
+    pub fn from_number(number: u32) -> Option<DeviceError> {
+        DeviceError::ALL
+            .iter()
+            .copied()
+            .find(|e| e.number() == number)
+    }
+
+    /// An error number of the front's own, where 0 is none.
+    pub(crate) fn from_front(number: u32) -> Option<DeviceError> {
+        if number == 0 {
+            return None;
+        }
+        match DeviceError::from_number(number) {
+            Some(error) => Some(error),
+            None => none_of_ours("error", number.into()),
+        }
+    }
+}
+
+impl fmt::Display for DeviceError {
+    fn fmt(&self, f: &mut fmt::Formatter<'_>) -> fmt::Result {
+        f.write_str(match self {
+            DeviceError::BadRing => "the ring breaks a rule",
+            DeviceError::BadDescriptor => "the descriptor breaks a rule",
+            DeviceError::OutsideMemory => "the stream or the table leaves guest memory",
+            DeviceError::BadTable => "the table's header breaks a rule",
+            DeviceError::BadEntry => "a table entry has id 0 or size 0, or it leaves guest memory",
+            DeviceError::TwiceInTable => "two table entries have one id",
+            DeviceError::BadStream => "the stream's header breaks a rule",
+            DeviceError::BadPacket => "a packet's size breaks a rule, or bytes are left over",
+            DeviceError::BadHandle => "a handle is 0, taken, or not a live resource of the kind",
+            DeviceError::TooMany => "more than 64 table entries, resources or records",
+            DeviceError::BadShape => "no resource has this shape",
+            DeviceError::NotInTable => "the backing id is not in the table",
+            DeviceError::PastEntry => "the range leaves its table entry",
+            DeviceError::ReadOnly => "the table entry is read-only",
+            DeviceError::PastResource => "the range leaves its resource",
+            DeviceError::HostBacked => "the resource has no guest memory behind it",
+            DeviceError::BadCopy => "a copy within one buffer, or with unknown flags",
+            DeviceError::HostFailed => "the host failed",
+        })
+    }
+}
+
+impl Error for DeviceError {}
+
+#[cfg(test)]
+mod tests {
+    use super::*;
+    use std::collections::HashSet;
+
+    #[test]
+    fn call_answers_are_1_to_4() {
+        let numbers: Vec<u32> = Refused::ALL.iter().map(|r| r.number()).collect();
+        assert_eq!(numbers, [1, 2, 3, 4]);
+        assert_eq!(Refused::from_answer(0), Ok(()));
+        for refused in Refused::ALL {
+            assert_eq!(Refused::from_answer(refused.number()), Err(refused));
+        }
+    }
+
+    #[test]
+    fn errors_are_10_to_27() {
+        let numbers: Vec<u32> = DeviceError::ALL.iter().map(|e| e.number()).collect();
+        assert_eq!(numbers, (10..=27).collect::<Vec<u32>>());
+        for number in 0..100 {
+            let error = DeviceError::from_number(number);
+            assert_eq!(error.is_some(), (10..=27).contains(&number));
+            assert_eq!(error.map_or(number, DeviceError::number), number);
+        }
+        assert_eq!(DeviceError::from_front(0), None);
+        assert_eq!(DeviceError::from_front(18), Some(DeviceError::BadHandle));
+    }
+
+    #[test]
+    fn every_error_has_words_of_its_own() {
+        let words: HashSet<String> = DeviceError::ALL.iter().map(|e| e.to_string()).collect();
+        assert_eq!(words.len(), DeviceError::ALL.len());
+        let words: HashSet<String> = Refused::ALL.iter().map(|r| r.to_string()).collect();
+        assert_eq!(words.len(), Refused::ALL.len());
+    }
+
+    #[test]
+    fn endings_and_kinds_have_the_numbers_of_the_exports() {
+        assert_eq!(Ended::from_number(0), Ended::Idle);
+        assert_eq!(Ended::from_number(1), Ended::Waiting);
+        assert_eq!(Ended::from_number(2), Ended::Paused);
+        for number in 1..=3 {
+            let kind = RecordKind::from_number(number);
+            assert_eq!(u64::from(kind.number()), number);
+        }
+    }
+
+    #[test]
+    #[should_panic(expected = "no call answer of number 5")]
+    fn another_call_answer_is_another_library() {
+        let _ = Refused::from_answer(5);
+    }
+
+    #[test]
+    #[should_panic(expected = "no ending of number 3")]
+    fn another_ending_is_another_library() {
+        Ended::from_number(3);
+    }
+}

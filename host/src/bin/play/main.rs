@@ -1,0 +1,94 @@
+//! Plays desk scripts through the proved front and prints their transcripts; with no script, a sample night that explains itself.
+#![forbid(unsafe_code)]
+
+mod sample;
+
+use std::ffi::{OsStr, OsString};
+use std::fs::File;
+use std::io::{self, ErrorKind, Read, Write};
+use std::path::Path;
+use std::process::exit;
+use zelezmut::script;
+
+const USAGE: &str = "\
+usage: play [FILE..]
+
+Plays desk scripts through the proved front. For each FILE it prints `script FILE` and the transcript.
+With no FILE it plays a sample night and says what each line means.
+It exits with 1 if a file cannot be read or is no whole script, and with 2 if it is not called like this.
+";
+
+const FAILED: i32 = 1;
+const BAD_USE: i32 = 2;
+
+/// A script's bytes, and one more of a file that is too long to be one.
+fn read_script(name: &OsStr) -> io::Result<Vec<u8>> {
+    let mut bytes = Vec::new();
+    let most = script::LONGEST_SCRIPT as u64 + 1;
+    File::open(name)?.take(most).read_to_end(&mut bytes)?;
+    Ok(bytes)
+}
+
+/// Plays one file; what is wrong with it comes back in words.
+fn play_file(name: &OsStr, out: &mut impl Write) -> io::Result<Option<String>> {
+    let bytes = match read_script(name) {
+        Ok(bytes) => bytes,
+        Err(error) => return Ok(Some(format!("cannot be read: {}", error))),
+    };
+    let script = script::decode(&bytes);
+    writeln!(out, "script {}", Path::new(name).display())?;
+    out.write_all(script::transcript(&script).as_bytes())?;
+    out.flush()?;
+    Ok(script
+        .fault
+        .map(|fault| format!("{} (operations played: {})", fault, script.operations.len())))
+}
+
+/// Plays every file, also after one that went wrong.
+fn play_files(names: &[OsString], out: &mut impl Write) -> io::Result<i32> {
+    let mut status = 0;
+    for name in names {
+        if let Some(wrong) = play_file(name, out)? {
+            eprintln!("play: {}: {}", Path::new(name).display(), wrong);
+            status = FAILED;
+        }
+    }
+    Ok(status)
+}
+
+fn play(words: &[OsString], out: &mut impl Write) -> io::Result<i32> {
+    let option = words
+        .iter()
+        .find(|word| word.to_string_lossy().starts_with('-'));
+    match option.map(|word| word.to_string_lossy()) {
+        Some(word) if word == "-h" || word == "--help" => {
+            out.write_all(USAGE.as_bytes())?;
+            Ok(0)
+        }
+        Some(word) => {
+            eprint!("play: there is no option {}\n\n{}", word, USAGE);
+            Ok(BAD_USE)
+        }
+        None if words.is_empty() => {
+            sample::play(out)?;
+            Ok(0)
+        }
+        None => play_files(words, out),
+    }
+}
+
+fn main() {
+    let words: Vec<OsString> = std::env::args_os().skip(1).collect();
+    let stdout = io::stdout();
+    let mut out = io::BufWriter::new(stdout.lock());
+    let played = play(&words, &mut out).and_then(|status| out.flush().map(|()| status));
+    exit(match played {
+        Ok(status) => status,
+        // Whoever reads us has seen enough.
+        Err(error) if error.kind() == ErrorKind::BrokenPipe => 0,
+        Err(error) => {
+            eprintln!("play: the transcript cannot be written: {}", error);
+            FAILED
+        }
+    });
+}

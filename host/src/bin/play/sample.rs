@@ -1,0 +1,363 @@
+//! The sample night: five submissions of one guest, each line of the transcript with what it means.
+use std::io::{self, Write};
+use zelezmut::guest::{self, Backing, Descriptor, Entry, Packet, Part, Shape};
+use zelezmut::script::{Operation, Player};
+use zelezmut::{registers, HostAnswer};
+
+const MEMORY: u32 = 16_384;
+
+// Where the guest has put its things.
+const RING: u32 = 0;
+const SLOTS: u32 = 4;
+const FENCE_PAGE: u32 = 512;
+const TABLE: u32 = 1024;
+const STREAM: u32 = 2048;
+const PICTURES: Entry = Entry {
+    id: 5,
+    gpa: 8192,
+    size: 4096,
+    read_only: false,
+};
+const RESULTS: Entry = Entry {
+    id: 6,
+    gpa: 12_288,
+    size: 1024,
+    read_only: false,
+};
+
+const TEXTURE: u32 = 1;
+const SOURCE: u32 = 2;
+const RESULT: u32 = 3;
+const NEVER_MADE: u32 = 9;
+
+const WALLPAPER: Shape = Shape {
+    format: 1,
+    width: 32,
+    height: 16,
+    mips: 1,
+    layers: 1,
+    pitch: 128,
+};
+
+/// An operation, and what its line means.
+type Step = (Operation, &'static str);
+
+/// Steps under one heading.
+struct Scene {
+    heading: &'static str,
+    steps: Vec<Step>,
+}
+
+fn poke(address: u32, bytes: &[u8], meaning: &'static str) -> Step {
+    let bytes = bytes.to_vec();
+    (Operation::Poke { address, bytes }, meaning)
+}
+
+fn write(offset: u32, value: u32, meaning: &'static str) -> Step {
+    (Operation::Write { offset, value }, meaning)
+}
+
+fn read(offset: u32, meaning: &'static str) -> Step {
+    (Operation::Read { offset }, meaning)
+}
+
+fn run(allowance: u16, meaning: &'static str) -> Step {
+    (Operation::Run { allowance }, meaning)
+}
+
+fn record(index: u32, meaning: &'static str) -> Step {
+    (Operation::Record { index }, meaning)
+}
+
+fn answer(answer: HostAnswer, meaning: &'static str) -> Step {
+    (Operation::Answer { answer }, meaning)
+}
+
+/// The guest writes submission `fence` into its slot, moves the tail and rings. Fences count from 1, and slots from 0.
+fn submit(fence: u32, packets: &[Packet], meaning: &'static str) -> Vec<Step> {
+    let table = guest::table(&[PICTURES, RESULTS]);
+    let stream = guest::stream(packets);
+    let slot = Descriptor {
+        commands: Part::of(STREAM.into(), &stream),
+        table: Part::of(TABLE.into(), &table),
+        fence: fence.into(),
+        silent: false,
+    };
+    let head = fence - 1;
+    let place = RING + guest::slot_offset(head % SLOTS) as u32;
+    vec![
+        poke(STREAM, &stream, meaning),
+        poke(
+            place,
+            &slot.to_bytes(),
+            "the ring's next slot names stream, table and fence",
+        ),
+        poke(
+            RING,
+            &guest::ring(SLOTS, head, fence),
+            "the ring's tail moves on by one",
+        ),
+        write(registers::DOORBELL, 1, "and the doorbell rings"),
+    ]
+}
+
+fn set_up() -> Scene {
+    let table = guest::table(&[PICTURES, RESULTS]);
+    Scene {
+        heading: "The guest's driver finds the adapter and sets it up.",
+        steps: vec![
+            read(registers::MAGIC, "the bytes AGPU: this is the adapter"),
+            read(registers::VERSION, "version 1.3: 1 times 65536, and 3"),
+            poke(
+                TABLE,
+                &table,
+                "a table of two entries: 5 for pictures, 6 for results",
+            ),
+            write(
+                registers::RING_GPA_LO,
+                RING,
+                "the ring stands at 0 in guest memory",
+            ),
+            write(
+                registers::RING_SIZE,
+                guest::ring_size(SLOTS),
+                "and has four slots",
+            ),
+            write(
+                registers::FENCE_GPA_LO,
+                FENCE_PAGE,
+                "the fence page stands at 512",
+            ),
+            write(
+                registers::IRQ_ENABLE,
+                registers::IRQ_FENCE | registers::IRQ_ERROR,
+                "fences and errors shall interrupt",
+            ),
+            write(registers::CONTROL, registers::CONTROL_ENABLE, "go"),
+            run(100, "nobody has rung: idle, and no unit is spent"),
+        ],
+    }
+}
+
+fn shared_texture() -> Scene {
+    let mut steps = submit(
+        1,
+        &[
+            Packet::CreateTexture {
+                handle: TEXTURE,
+                shape: WALLPAPER,
+                backing: Some(Backing {
+                    id: PICTURES.id,
+                    offset: 256,
+                }),
+            },
+            Packet::DirtyRange {
+                handle: TEXTURE,
+                offset: 0,
+                size: 2048,
+            },
+        ],
+        "a stream: create texture 1 of 32 by 16 in entry 5; it is dirty",
+    );
+    steps.extend([
+        run(2, "two units: the opening, and the table's first entry"),
+        run(
+            100,
+            "three more: an entry, two packets. Now the host's turn",
+        ),
+        record(0, "kind 1: texture 1 lives in entry 5, at 8448, 2048 bytes"),
+        record(1, "kind 2: the guest has painted it, so the host reads it"),
+        record(2, "there is no third record: answer 4"),
+        answer(
+            HostAnswer::Good,
+            "the host has read it. Texture 1 is the device's",
+        ),
+        read(registers::COMPLETED_FENCE_LO, "fence 1 is finished"),
+        read(registers::IRQ_STATUS, "status bit 0: a fence"),
+    ]);
+    Scene {
+        heading: "Submission 1 makes a texture in guest memory, and is run in two slices.",
+        steps,
+    }
+}
+
+fn readback() -> Scene {
+    let mut steps = submit(
+        2,
+        &[
+            Packet::CreateBuffer {
+                handle: SOURCE,
+                size: 1024,
+                backing: None,
+            },
+            Packet::CreateBuffer {
+                handle: RESULT,
+                size: 512,
+                backing: Some(Backing {
+                    id: RESULTS.id,
+                    offset: 0,
+                }),
+            },
+            Packet::Other {
+                opcode: 1537,
+                size: 64,
+            },
+            Packet::CopyBuffer {
+                destination: RESULT,
+                source: SOURCE,
+                destination_offset: 128,
+                source_offset: 0,
+                size: 256,
+                writeback: true,
+            },
+        ],
+        "a stream: buffers 2 and 3, a packet unknown to the front, a copy",
+    );
+    steps.extend([
+        run(100, "seven units: opening, two entries, four packets"),
+        record(
+            0,
+            "kind 1: buffer 3 lives in entry 6. Buffer 2 is the host's",
+        ),
+        record(1, "kind 3: the host writes 256 bytes of buffer 3, at 12416"),
+        poke(
+            12_416,
+            &[0xA5; 256],
+            "it does: here are the bytes that the guest reads back",
+        ),
+        answer(HostAnswer::Good, "good: buffers 2 and 3 are the device's"),
+        read(registers::COMPLETED_FENCE_LO, "fence 2 is finished"),
+    ]);
+    Scene {
+        heading: "Submission 2 reads back: a copy whose result goes to guest memory.",
+        steps,
+    }
+}
+
+fn refused() -> Scene {
+    let mut steps = submit(
+        3,
+        &[
+            Packet::Destroy { handle: TEXTURE },
+            Packet::DirtyRange {
+                handle: NEVER_MADE,
+                offset: 0,
+                size: 16,
+            },
+        ],
+        "a stream: destroy texture 1; handle 9 is dirty",
+    );
+    steps.extend([
+        run(100, "five units to the refusal; a sixth finds no more work"),
+        read(registers::ERROR_CODE, "error 18: handle 9 is not live"),
+        read(registers::ERROR_FENCE_LO, "of the submission with fence 3"),
+        read(
+            registers::COMPLETED_FENCE_LO,
+            "its fence is finished all the same",
+        ),
+        read(
+            registers::IRQ_STATUS,
+            "status bits 0 and 1: a fence, an error",
+        ),
+        write(
+            registers::IRQ_ACK,
+            registers::IRQ_FENCE | registers::IRQ_ERROR,
+            "the guest takes note of both",
+        ),
+    ]);
+    Scene {
+        heading: "Submission 3 is refused: a packet names a resource that is not there.",
+        steps,
+    }
+}
+
+fn failed() -> Scene {
+    let mut steps = submit(
+        4,
+        &[Packet::Destroy { handle: TEXTURE }],
+        "a stream: destroy texture 1, which the refusal has kept alive",
+    );
+    steps.extend([
+        run(100, "four units: opening, two entries, one packet"),
+        record(0, "nothing to read or write: no record, answer 4"),
+        answer(HostAnswer::Failed, "but the host says that it failed"),
+        read(registers::ERROR_CODE, "error 27: the host failed"),
+        read(registers::ERROR_COUNT, "the second error of the night"),
+        read(registers::COMPLETED_FENCE_LO, "fence 4 is finished"),
+    ]);
+    Scene {
+        heading: "Submission 4 is failed by the host.",
+        steps,
+    }
+}
+
+fn last() -> Scene {
+    let mut steps = submit(
+        5,
+        &[Packet::DirtyRange {
+            handle: TEXTURE,
+            offset: 128,
+            size: 256,
+        }],
+        "a stream: two rows of texture 1 are dirty; it lives still",
+    );
+    steps.extend([
+        run(100, "four units"),
+        record(
+            0,
+            "kind 2: 256 bytes at 8576, after the texture's first row",
+        ),
+        answer(HostAnswer::Good, "good"),
+        read(registers::COMPLETED_FENCE_LO, "fence 5 is finished"),
+        run(100, "one unit: the opening finds head and tail equal. Idle"),
+        answer(HostAnswer::Good, "nothing waits any more: answer 3"),
+        (
+            Operation::State,
+            "every readable register, and the hash of guest memory",
+        ),
+    ]);
+    Scene {
+        heading: "Submission 5 shows that neither ending undid the texture.",
+        steps,
+    }
+}
+
+fn night() -> Vec<Scene> {
+    vec![
+        set_up(),
+        shared_texture(),
+        readback(),
+        refused(),
+        failed(),
+        last(),
+    ]
+}
+
+/// A line's room before its meaning; a longer line has its meaning below.
+const LINE: usize = 26;
+
+/// Plays the night and prints it.
+pub fn play(out: &mut impl Write) -> io::Result<()> {
+    writeln!(
+        out,
+        "A sample night: guest memory of {} bytes, played through the proved front.",
+        MEMORY
+    )?;
+    writeln!(
+        out,
+        "After each call's name stands its answer (0: done), then what the call gives."
+    )?;
+    let mut player = Player::new(MEMORY);
+    for scene in night() {
+        writeln!(out, "\n{}", scene.heading)?;
+        for (operation, meaning) in scene.steps {
+            let line = player.play(&operation);
+            if line.len() < LINE {
+                writeln!(out, "  {:LINE$}{}", line, meaning)?;
+            } else {
+                writeln!(out, "  {}\n  {:LINE$}{}", line, "", meaning)?;
+            }
+        }
+    }
+    Ok(())
+}

@@ -1,0 +1,202 @@
+//! The desk: the proved front with its state, as a Rust value with safe methods.
+use crate::answers::{narrow, DeviceError, Ended, HostAnswer, RecordKind, Refused};
+use crate::{front, registers};
+use std::fmt;
+
+/// An adapter's front for one guest memory.
+///
+/// It owns its state, some 15 KB in a box: it moves cheaply and no call allocates. A clone goes its own way from there.
+#[derive(Clone)]
+pub struct Desk {
+    state: Box<front::State>,
+}
+
+/// What a run did.
+#[derive(Clone, Copy, Debug, PartialEq, Eq, Hash)]
+pub struct Ran {
+    /// The units it spent: openings, table entries and packets. Never more than the allowance.
+    pub units: u16,
+    /// How it ended.
+    pub ended: Ended,
+}
+
+/// A checked range of guest memory, for the host to work on.
+#[derive(Clone, Copy, Debug, PartialEq, Eq, Hash)]
+pub struct Record {
+    /// What is asked of the host.
+    pub kind: RecordKind,
+    /// The resource's handle.
+    pub handle: u32,
+    /// The table entry's id.
+    pub id: u32,
+    /// Where the range starts in guest memory; all of it lies within.
+    pub gpa: u64,
+    /// The range's bytes.
+    pub length: u64,
+}
+
+/// What the error registers say.
+#[derive(Clone, Copy, Debug, PartialEq, Eq, Hash)]
+pub struct ErrorReport {
+    /// The last error.
+    pub error: DeviceError,
+    /// The signal fence of the submission that it ended, 0 for a bad ring.
+    pub fence: u64,
+    /// How many errors there were.
+    pub count: u32,
+}
+
+impl Desk {
+    /// A new desk for a guest memory of so many bytes, disabled, with all registers as after power-on.
+    pub fn new(memory: usize) -> Desk {
+        Desk {
+            state: Box::new(front::make(memory as u64)),
+        }
+    }
+
+    /// The guest writes a register.
+    ///
+    /// # Errors
+    /// [`Refused::NoRegister`] if no register that can be written has this offset.
+    pub fn write(&mut self, offset: u32, value: u32) -> Result<(), Refused> {
+        Refused::from_answer(front::write(&mut self.state, offset, value))
+    }
+
+    /// The guest reads a register.
+    ///
+    /// # Errors
+    /// [`Refused::NoRegister`] if no register that can be read has this offset.
+    pub fn read(&self, offset: u32) -> Result<u32, Refused> {
+        let (answer, said) = front::read(&self.state, offset);
+        Refused::from_answer(answer)?;
+        Ok(narrow(said[0]))
+    }
+
+    /// Works until the allowance of units is spent, nothing is left to do, or a submission waits for the host.
+    ///
+    /// A submission that breaks a rule ends within the run: the error registers tell, its fence is finished, and the run goes
+    /// on.
+    ///
+    /// # Errors
+    /// [`Refused::OtherMemory`] if the memory has another length than the desk was made for.
+    pub fn run(&mut self, memory: &mut [u8], allowance: u16) -> Result<Ran, Refused> {
+        let (answer, said) = front::run(&mut self.state, memory, allowance);
+        Refused::from_answer(answer)?;
+        Ok(Ran {
+            units: narrow(said[0]),
+            ended: Ended::from_number(said[1]),
+        })
+    }
+
+    /// The waiting submission's record of this index; they count from 0, in the order of the packets.
+    ///
+    /// # Errors
+    /// [`Refused::NoRecord`] if there is none of this index, or no submission waits.
+    pub fn record(&self, i: u32) -> Result<Record, Refused> {
+        let (answer, said) = front::record(&self.state, i);
+        Refused::from_answer(answer)?;
+        let [kind, handle, id, gpa, length] = said;
+        Ok(Record {
+            kind: RecordKind::from_number(kind),
+            handle: narrow(handle),
+            id: narrow(id),
+            gpa,
+            length,
+        })
+    }
+
+    /// All records of the waiting submission, in the order of its packets; none if no submission waits.
+    pub fn records(&self) -> impl Iterator<Item = Record> + '_ {
+        (0..).map_while(move |i| self.record(i).ok())
+    }
+
+    /// The host's answer to the waiting submission, which settles it: ring head, fence page and fence registers follow.
+    ///
+    /// # Errors
+    /// [`Refused::OtherMemory`] if the memory has another length than the desk was made for, else [`Refused::NothingWaits`].
+    pub fn answer(&mut self, memory: &mut [u8], answer: HostAnswer) -> Result<(), Refused> {
+        let good = answer == HostAnswer::Good;
+        Refused::from_answer(front::answer(&mut self.state, memory, good))
+    }
+
+    /// The completed fence, both halves.
+    pub fn completed_fence(&self) -> u64 {
+        self.long(registers::COMPLETED_FENCE_LO, registers::COMPLETED_FENCE_HI)
+    }
+
+    /// Whether the interrupt line is up: a status bit stands that the guest has enabled.
+    pub fn interrupts(&self) -> bool {
+        self.known(registers::IRQ_STATUS) & self.known(registers::IRQ_ENABLE) != 0
+    }
+
+    /// The last error since the desk was made; a reset keeps it.
+    pub fn last_error(&self) -> Option<ErrorReport> {
+        let error = DeviceError::from_front(self.known(registers::ERROR_CODE))?;
+        Some(ErrorReport {
+            error,
+            fence: self.long(registers::ERROR_FENCE_LO, registers::ERROR_FENCE_HI),
+            count: self.known(registers::ERROR_COUNT),
+        })
+    }
+
+    /// A register that can be read.
+    fn known(&self, offset: u32) -> u32 {
+        self.read(offset)
+            .unwrap_or_else(|refused| unreachable!("register {:x}: {}", offset, refused))
+    }
+
+    fn long(&self, low: u32, high: u32) -> u64 {
+        u64::from(self.known(high)) << 32 | u64::from(self.known(low))
+    }
+}
+
+/// Shows the registers: the rest of the state has no meaning outside the library.
+impl fmt::Debug for Desk {
+    fn fmt(&self, f: &mut fmt::Formatter<'_>) -> fmt::Result {
+        f.write_str("Desk ")?;
+        let mut shown = f.debug_map();
+        for offset in registers::READABLE {
+            shown.entry(&format_args!("{:x}", offset), &self.known(offset));
+        }
+        shown.finish()
+    }
+}
+
+/// The bytes that a texture takes in guest memory, its mips and layers packed; `None` if no texture has this shape.
+///
+/// The shape is judged as a backed texture's, so `pitch` must be enough for a row of mip 0.
+///
+/// ```
+/// // 5 by 3 pixels of 4 bytes, in three mips: 60 + 8 + 4 bytes.
+/// assert_eq!(zelezmut::packed_size(1, 5, 3, 3, 1, 20), Some(72));
+/// assert_eq!(zelezmut::packed_size(1, 5, 3, 3, 1, 19), None);
+/// ```
+pub fn packed_size(
+    format: u32,
+    width: u32,
+    height: u32,
+    mips: u32,
+    layers: u32,
+    pitch: u32,
+) -> Option<u64> {
+    match front::packed_size(format, width, height, mips, layers, pitch) {
+        0 => None,
+        size => Some(size),
+    }
+}
+
+/// The first error of an allocation table, for a guest memory of so many bytes; `None` if it breaks no rule.
+///
+/// The table is judged as a submission's steps judge it: [`DeviceError::BadTable`] and [`DeviceError::TooMany`] of its header,
+/// [`DeviceError::BadEntry`] and [`DeviceError::TwiceInTable`] of its entries in order.
+///
+/// ```
+/// use zelezmut::{guest, DeviceError};
+///
+/// let table = guest::table(&[guest::Entry { id: 5, gpa: 1, size: 4096, read_only: false }]);
+/// assert_eq!(zelezmut::table_error(&table, 4097), None);
+/// assert_eq!(zelezmut::table_error(&table, 4096), Some(DeviceError::BadEntry));
+/// ```
+pub fn table_error(table: &[u8], memory: u64) -> Option<DeviceError> {
+    DeviceError::from_front(front::table_error(table, memory))
+}

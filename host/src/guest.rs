@@ -1,0 +1,325 @@
+//! What a guest's driver writes into its memory: rings, descriptors, tables and streams, as bytes. For tests and samples; a desk
+//! never needs it.
+//!
+//! All of it is well-formed as far as the types can say. To break a rule on purpose, change the bytes.
+
+/// 1.3, the major number in the high 16 bits.
+const VERSION: u32 = 65_539;
+
+const RING_HEADER: usize = 64;
+const DESCRIPTOR: usize = 64;
+const TABLE_HEADER: usize = 24;
+const ENTRY: usize = 32;
+const STREAM_HEADER: usize = 24;
+
+/// Copies bytes into memory.
+///
+/// # Panics
+/// If they do not lie within it.
+pub fn put(memory: &mut [u8], gpa: usize, bytes: &[u8]) {
+    memory[gpa..gpa + bytes.len()].copy_from_slice(bytes);
+}
+
+/// Puts a little-endian field.
+fn field<const N: usize>(bytes: &mut [u8], at: usize, value: [u8; N]) {
+    bytes[at..at + N].copy_from_slice(&value);
+}
+
+fn word(bytes: &mut [u8], at: usize, value: u32) {
+    field(bytes, at, value.to_le_bytes());
+}
+
+fn long(bytes: &mut [u8], at: usize, value: u64) {
+    field(bytes, at, value.to_le_bytes());
+}
+
+/// What the headers of rings, tables and streams begin with.
+fn header(bytes: &mut [u8], magic: [u8; 4], size: u32) {
+    field(bytes, 0, magic);
+    word(bytes, 4, VERSION);
+    word(bytes, 8, size);
+}
+
+/// The bytes of what is lent, as a size field says them.
+fn size_of(bytes: &[u8]) -> u32 {
+    u32::try_from(bytes.len()).expect("a table or stream of less than 4 GiB")
+}
+
+/// The header of a ring whose slots stand close together after it: submissions from `head` to before `tail` are pending.
+pub fn ring(slots: u32, head: u32, tail: u32) -> [u8; RING_HEADER] {
+    let mut bytes = [0; RING_HEADER];
+    header(&mut bytes, *b"ARNG", ring_size(slots));
+    word(&mut bytes, 12, slots);
+    word(&mut bytes, 16, DESCRIPTOR as u32);
+    word(&mut bytes, 24, head);
+    word(&mut bytes, 28, tail);
+    bytes
+}
+
+/// The bytes of a ring of so many slots, with its header.
+pub const fn ring_size(slots: u32) -> u32 {
+    RING_HEADER as u32 + slots * DESCRIPTOR as u32
+}
+
+/// Where a slot stands, in bytes from where the ring starts.
+pub const fn slot_offset(slot: u32) -> usize {
+    ring_size(slot) as usize
+}
+
+/// A part of guest memory. The default, zeros, is none.
+#[derive(Clone, Copy, Debug, Default, PartialEq, Eq)]
+pub struct Part {
+    /// Where it starts.
+    pub gpa: u64,
+    /// Its bytes.
+    pub size: u32,
+}
+
+impl Part {
+    /// The part that these bytes take at an address.
+    pub fn of(gpa: u64, bytes: &[u8]) -> Part {
+        Part {
+            gpa,
+            size: size_of(bytes),
+        }
+    }
+}
+
+/// A submission, as a ring's slot holds it. The default has no stream, no table and fence 0.
+#[derive(Clone, Copy, Debug, Default, PartialEq, Eq)]
+pub struct Descriptor {
+    /// The command stream.
+    pub commands: Part,
+    /// The allocation table.
+    pub table: Part,
+    /// The fence that is finished when the submission settles.
+    pub fence: u64,
+    /// No interrupt for the fence.
+    pub silent: bool,
+}
+
+impl Descriptor {
+    /// The slot's bytes.
+    pub fn to_bytes(&self) -> [u8; DESCRIPTOR] {
+        let mut bytes = [0; DESCRIPTOR];
+        word(&mut bytes, 0, DESCRIPTOR as u32);
+        word(&mut bytes, 4, self.silent.into());
+        long(&mut bytes, 16, self.commands.gpa);
+        word(&mut bytes, 24, self.commands.size);
+        long(&mut bytes, 32, self.table.gpa);
+        word(&mut bytes, 40, self.table.size);
+        long(&mut bytes, 48, self.fence);
+        bytes
+    }
+}
+
+/// A table entry: a part of guest memory that packets name by its id.
+#[derive(Clone, Copy, Debug, PartialEq, Eq)]
+pub struct Entry {
+    /// Not 0, and no other entry's.
+    pub id: u32,
+    /// Where it starts.
+    pub gpa: u64,
+    /// Its bytes.
+    pub size: u64,
+    /// The host may not write there.
+    pub read_only: bool,
+}
+
+/// An allocation table's bytes.
+pub fn table(entries: &[Entry]) -> Vec<u8> {
+    let mut bytes = vec![0; TABLE_HEADER + entries.len() * ENTRY];
+    let size = size_of(&bytes);
+    header(&mut bytes, *b"ALOC", size);
+    word(&mut bytes, 12, (size - TABLE_HEADER as u32) / ENTRY as u32);
+    word(&mut bytes, 16, ENTRY as u32);
+    for (row, entry) in bytes[TABLE_HEADER..].chunks_exact_mut(ENTRY).zip(entries) {
+        word(row, 0, entry.id);
+        word(row, 4, entry.read_only.into());
+        long(row, 8, entry.gpa);
+        long(row, 16, entry.size);
+    }
+    bytes
+}
+
+/// Where a resource lives in guest memory.
+#[derive(Clone, Copy, Debug, PartialEq, Eq)]
+pub struct Backing {
+    /// A table entry's id, not 0.
+    pub id: u32,
+    /// Bytes from where the entry starts.
+    pub offset: u32,
+}
+
+/// A texture's shape.
+#[derive(Clone, Copy, Debug, PartialEq, Eq)]
+pub struct Shape {
+    /// 1, 2 or 3: 4 bytes a pixel. 64: 8 bytes a block of 4 by 4. 65 or 66: 16 bytes a block.
+    pub format: u32,
+    /// Pixels of mip 0.
+    pub width: u32,
+    /// Pixels of mip 0.
+    pub height: u32,
+    /// At least 1, at most the full chain.
+    pub mips: u32,
+    /// At least 1, at most 256.
+    pub layers: u32,
+    /// Bytes of a row of mip 0; it counts only where the texture is backed.
+    pub pitch: u32,
+}
+
+/// A packet of a command stream.
+#[derive(Clone, Copy, Debug, PartialEq, Eq)]
+pub enum Packet {
+    /// Makes a buffer; without backing it lives with the host.
+    CreateBuffer {
+        /// The new resource's handle.
+        handle: u32,
+        /// Its bytes.
+        size: u64,
+        /// Its guest memory.
+        backing: Option<Backing>,
+    },
+    /// Makes a texture; without backing it lives with the host.
+    CreateTexture {
+        /// The new resource's handle.
+        handle: u32,
+        /// Its shape.
+        shape: Shape,
+        /// Its guest memory.
+        backing: Option<Backing>,
+    },
+    /// Ends a resource.
+    Destroy {
+        /// The resource's handle.
+        handle: u32,
+    },
+    /// The guest has changed a range of a backed resource.
+    DirtyRange {
+        /// The resource's handle.
+        handle: u32,
+        /// Bytes from where the resource starts.
+        offset: u64,
+        /// The range's bytes.
+        size: u64,
+    },
+    /// Copies from buffer to buffer.
+    CopyBuffer {
+        /// The buffer copied to.
+        destination: u32,
+        /// The buffer copied from.
+        source: u32,
+        /// Bytes from where the destination starts.
+        destination_offset: u64,
+        /// Bytes from where the source starts.
+        source_offset: u64,
+        /// The bytes copied.
+        size: u64,
+        /// The result goes back to guest memory.
+        writeback: bool,
+    },
+    /// A packet that the front skips, zeros after its header.
+    Other {
+        /// None of the five above.
+        opcode: u32,
+        /// Its bytes with its header: at least 8, a multiple of 4.
+        size: u32,
+    },
+}
+
+impl Packet {
+    /// The packet's row of document 01's table.
+    fn opcode_and_size(&self) -> (u32, u32) {
+        match *self {
+            Packet::CreateBuffer { .. } => (256, 40),
+            Packet::CreateTexture { .. } => (257, 56),
+            Packet::Destroy { .. } => (258, 16),
+            Packet::DirtyRange { .. } => (259, 32),
+            Packet::CopyBuffer { .. } => (261, 48),
+            Packet::Other { opcode, size } => (opcode, size),
+        }
+    }
+
+    /// The packet's bytes.
+    pub fn to_bytes(&self) -> Vec<u8> {
+        let (opcode, size) = self.opcode_and_size();
+        let mut bytes = vec![0; size as usize];
+        word(&mut bytes, 0, opcode);
+        word(&mut bytes, 4, size);
+        self.put_fields(&mut bytes);
+        bytes
+    }
+
+    fn put_fields(&self, bytes: &mut [u8]) {
+        match *self {
+            Packet::CreateBuffer {
+                handle,
+                size,
+                backing,
+            } => {
+                word(bytes, 8, handle);
+                long(bytes, 16, size);
+                put_backing(bytes, 24, backing);
+            }
+            Packet::CreateTexture {
+                handle,
+                shape,
+                backing,
+            } => {
+                word(bytes, 8, handle);
+                word(bytes, 16, shape.format);
+                word(bytes, 20, shape.width);
+                word(bytes, 24, shape.height);
+                word(bytes, 28, shape.mips);
+                word(bytes, 32, shape.layers);
+                word(bytes, 36, shape.pitch);
+                put_backing(bytes, 40, backing);
+            }
+            Packet::Destroy { handle } => word(bytes, 8, handle),
+            Packet::DirtyRange {
+                handle,
+                offset,
+                size,
+            } => {
+                word(bytes, 8, handle);
+                long(bytes, 16, offset);
+                long(bytes, 24, size);
+            }
+            Packet::CopyBuffer {
+                destination,
+                source,
+                destination_offset,
+                source_offset,
+                size,
+                writeback,
+            } => {
+                word(bytes, 8, destination);
+                word(bytes, 12, source);
+                long(bytes, 16, destination_offset);
+                long(bytes, 24, source_offset);
+                long(bytes, 32, size);
+                word(bytes, 40, writeback.into());
+            }
+            Packet::Other { .. } => (),
+        }
+    }
+}
+
+/// Zeros say that the resource lives with the host.
+fn put_backing(bytes: &mut [u8], at: usize, backing: Option<Backing>) {
+    if let Some(Backing { id, offset }) = backing {
+        word(bytes, at, id);
+        word(bytes, at + 4, offset);
+    }
+}
+
+/// A command stream's bytes.
+pub fn stream(packets: &[Packet]) -> Vec<u8> {
+    let mut bytes = vec![0; STREAM_HEADER];
+    for packet in packets {
+        bytes.extend(packet.to_bytes());
+    }
+    let size = size_of(&bytes);
+    header(&mut bytes, *b"ACMD", size);
+    bytes
+}

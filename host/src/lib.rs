@@ -1,0 +1,78 @@
+//! The front of an emulated graphics adapter, for emulators in Rust.
+//!
+//! A [`Desk`] keeps the adapter's registers, takes submissions from a ring in guest memory, checks their tables and packets
+//! one unit at a time, hands the ranges they name to the host as [`Record`]s, and finishes fences. What a resource holds,
+//! shaders and scanout are the host's own business.
+//!
+//! The rules are not in this crate. They are in `libdesk.a`, written in Rattle and proved to do what document 01 says; this
+//! crate lends it state and memory, and gives its numbers names. Its one module with `unsafe` is the C boundary.
+//!
+//! # A submission, from ring to fence
+//!
+//! ```
+//! use zelezmut::guest::{self, Backing, Descriptor, Entry, Packet, Part};
+//! use zelezmut::{registers, Desk, Ended, HostAnswer, Record, RecordKind};
+//!
+//! // What the guest's driver has written: a table of one entry, a stream of two packets, and a ring that names them.
+//! let mut memory = vec![0; 16_384];
+//! let table = guest::table(&[Entry { id: 5, gpa: 8192, size: 4096, read_only: false }]);
+//! let stream = guest::stream(&[
+//!     Packet::CreateBuffer { handle: 1, size: 256, backing: Some(Backing { id: 5, offset: 64 }) },
+//!     Packet::DirtyRange { handle: 1, offset: 16, size: 32 },
+//! ]);
+//! let submission = Descriptor {
+//!     commands: Part::of(2048, &stream),
+//!     table: Part::of(1024, &table),
+//!     fence: 1,
+//!     silent: false,
+//! };
+//! guest::put(&mut memory, 0, &guest::ring(8, 0, 1));
+//! guest::put(&mut memory, guest::slot_offset(0), &submission.to_bytes());
+//! guest::put(&mut memory, 1024, &table);
+//! guest::put(&mut memory, 2048, &stream);
+//!
+//! // Its register writes arrive at the desk.
+//! let mut desk = Desk::new(memory.len());
+//! desk.write(registers::RING_GPA_LO, 0)?;
+//! desk.write(registers::RING_SIZE, guest::ring_size(8))?;
+//! desk.write(registers::CONTROL, registers::CONTROL_ENABLE)?;
+//! desk.write(registers::DOORBELL, 1)?;
+//!
+//! // The opening, one entry and two packets: four units, then the host's turn.
+//! let ran = desk.run(&mut memory, 100)?;
+//! assert_eq!((ran.units, ran.ended), (4, Ended::Waiting));
+//! let records: Vec<Record> = desk.records().collect();
+//! assert_eq!(
+//!     records,
+//!     [
+//!         Record { kind: RecordKind::Backs, handle: 1, id: 5, gpa: 8256, length: 256 },
+//!         Record { kind: RecordKind::Reads, handle: 1, id: 5, gpa: 8272, length: 32 },
+//!     ]
+//! );
+//!
+//! // The host has done what the records ask, and says so: the fence is finished.
+//! desk.answer(&mut memory, HostAnswer::Good)?;
+//! assert_eq!(desk.completed_fence(), 1);
+//! # Ok::<(), zelezmut::Refused>(())
+//! ```
+//!
+//! # What a host has to know
+//!
+//! - Memory is lent to [`Desk::run`] and [`Desk::answer`] as `&mut [u8]`: nobody else, no virtual processor either, may touch
+//!   it during such a call. Between calls the guest may write anywhere; what was checked is kept, not read again.
+//! - A call ends. One unit is one step (an opening, a table entry or a packet), and a run takes no more than its allowance.
+//! - No call panics on what a guest wrote, and none allocates once the desk is made.
+//! - The static library is x86-64 code. `rt staticlib desk` in the project's root builds it, and so does `./play` there; the
+//!   build script says so if it is missing.
+#![deny(unsafe_code)]
+#![warn(missing_docs)]
+
+mod answers;
+mod desk;
+mod front;
+pub mod guest;
+pub mod registers;
+pub mod script;
+
+pub use answers::{DeviceError, Ended, HostAnswer, RecordKind, Refused};
+pub use desk::{packed_size, table_error, Desk, ErrorReport, Ran, Record};

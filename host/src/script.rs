@@ -1,0 +1,480 @@
+//! Desk scripts, version 1: a night at the desk as a file, the same on every front that plays it.
+//!
+//! A script is "DESK", the memory's length, and operations to the end of the file. [`decode`] reads one, [`encode`] writes one,
+//! and [`transcript`] plays one on a [`Desk`](crate::Desk) and gives a line for each operation.
+//!
+//! ```
+//! use zelezmut::script::{self, Operation};
+//! use zelezmut::{registers, HostAnswer};
+//!
+//! let bytes = script::encode(4096, &[
+//!     Operation::Read { offset: registers::VERSION },
+//!     Operation::Run { allowance: 16 },
+//!     Operation::Answer { answer: HostAnswer::Good },
+//! ]);
+//! let lines = script::transcript(&script::decode(&bytes));
+//! assert_eq!(lines, "read 0 65539\nrun 0 0 idle\nanswer 3\n");
+//! ```
+mod player;
+
+pub use player::{transcript, Player};
+
+use crate::HostAnswer;
+use std::error::Error;
+use std::fmt;
+
+const MAGIC: [u8; 4] = *b"DESK";
+
+/// The most bytes that a script has.
+pub const LONGEST_SCRIPT: usize = 1 << 20;
+
+/// The most bytes that a script's memories have.
+pub const LONGEST_MEMORY: u32 = 1 << 16;
+
+const POKE: u8 = 1;
+const WRITE: u8 = 2;
+const READ: u8 = 3;
+const RUN: u8 = 4;
+const RECORD: u8 = 5;
+const ANSWER: u8 = 6;
+const STATE: u8 = 7;
+const RUN_ELSEWHERE: u8 = 8;
+const ANSWER_ELSEWHERE: u8 = 9;
+
+/// One operation of a script.
+#[derive(Clone, Debug, PartialEq, Eq)]
+pub enum Operation {
+    /// The guest writes bytes into its memory; those that fall outside are dropped.
+    Poke {
+        /// Where the first byte goes.
+        address: u32,
+        /// The bytes.
+        bytes: Vec<u8>,
+    },
+    /// The guest writes a register.
+    Write {
+        /// The register's offset.
+        offset: u32,
+        /// What is written.
+        value: u32,
+    },
+    /// The guest reads a register.
+    Read {
+        /// The register's offset.
+        offset: u32,
+    },
+    /// The front runs.
+    Run {
+        /// The most units that it may spend.
+        allowance: u16,
+    },
+    /// The host asks for a record.
+    Record {
+        /// The record's index.
+        index: u32,
+    },
+    /// The host answers.
+    Answer {
+        /// What it says.
+        answer: HostAnswer,
+    },
+    /// All readable registers, and the memory's hash.
+    State,
+    /// The front runs and is lent another memory: zeros, dropped afterwards.
+    RunElsewhere {
+        /// The most units that it may spend.
+        allowance: u16,
+        /// The other memory's bytes.
+        length: u32,
+    },
+    /// The host answers, and the front is lent another memory: zeros, dropped afterwards.
+    AnswerElsewhere {
+        /// What it says.
+        answer: HostAnswer,
+        /// The other memory's bytes.
+        length: u32,
+    },
+}
+
+/// Why a script cannot be played on. It ends the transcript with a line of its own.
+#[derive(Clone, Copy, Debug, PartialEq, Eq, Hash)]
+pub enum Fault {
+    /// It is longer than [`LONGEST_SCRIPT`].
+    LongScript,
+    /// It does not begin with "DESK".
+    NoMagic,
+    /// A memory of so many bytes is asked for, more than [`LONGEST_MEMORY`].
+    LongMemory(u32),
+    /// It ends within its header or within an operation.
+    Truncated,
+    /// No operation has this tag.
+    UnknownTag(u8),
+}
+
+impl Fault {
+    /// The transcript's last line.
+    pub fn line(self) -> String {
+        match self {
+            Fault::LongScript | Fault::NoMagic | Fault::LongMemory(_) => "bad script".to_string(),
+            Fault::Truncated => "truncated".to_string(),
+            Fault::UnknownTag(tag) => format!("unknown tag {}", tag),
+        }
+    }
+}
+
+impl fmt::Display for Fault {
+    fn fmt(&self, f: &mut fmt::Formatter<'_>) -> fmt::Result {
+        match self {
+            Fault::LongScript => write!(
+                f,
+                "longer than the {} bytes of a desk script",
+                LONGEST_SCRIPT
+            ),
+            Fault::NoMagic => write!(f, "no desk script: it does not begin with \"DESK\""),
+            Fault::LongMemory(length) => write!(
+                f,
+                "a memory of {} bytes is asked for, more than {}",
+                length, LONGEST_MEMORY
+            ),
+            Fault::Truncated => write!(f, "the script is cut short"),
+            Fault::UnknownTag(tag) => write!(f, "no operation has tag {}", tag),
+        }
+    }
+}
+
+impl Error for Fault {}
+
+/// A script, as far as it could be read.
+#[derive(Clone, Debug, PartialEq, Eq)]
+pub struct Script {
+    /// The bytes of the memory that the desk is made for.
+    pub memory: u32,
+    /// The operations before the fault, or all.
+    pub operations: Vec<Operation>,
+    /// What stands in the way of the rest.
+    pub fault: Option<Fault>,
+}
+
+/// Reads a script. One that goes wrong half way is played up to there, so what could be read comes back beside the fault.
+pub fn decode(bytes: &[u8]) -> Script {
+    let mut script = Script {
+        memory: 0,
+        operations: Vec::new(),
+        fault: None,
+    };
+    let mut rest = Reader { bytes };
+    script.fault = read_script(&mut rest, &mut script).err();
+    script
+}
+
+fn read_script(rest: &mut Reader<'_>, script: &mut Script) -> Result<(), Fault> {
+    if rest.bytes.len() > LONGEST_SCRIPT {
+        return Err(Fault::LongScript);
+    }
+    let magic = rest.field::<4>()?;
+    let length = rest.u32()?;
+    if magic != MAGIC {
+        return Err(Fault::NoMagic);
+    }
+    script.memory = memory_length(length)?;
+    while let Some((&tag, after)) = rest.bytes.split_first() {
+        rest.bytes = after;
+        script.operations.push(operation(tag, rest)?);
+    }
+    Ok(())
+}
+
+fn memory_length(length: u32) -> Result<u32, Fault> {
+    if length > LONGEST_MEMORY {
+        return Err(Fault::LongMemory(length));
+    }
+    Ok(length)
+}
+
+/// The operation of this tag, whose fields stand at the front of the rest.
+fn operation(tag: u8, rest: &mut Reader<'_>) -> Result<Operation, Fault> {
+    Ok(match tag {
+        POKE => {
+            let address = rest.u32()?;
+            let count = rest.u32()?;
+            let bytes = rest.take(count as usize)?.to_vec();
+            Operation::Poke { address, bytes }
+        }
+        WRITE => Operation::Write {
+            offset: rest.u32()?,
+            value: rest.u32()?,
+        },
+        READ => Operation::Read {
+            offset: rest.u32()?,
+        },
+        RUN => Operation::Run {
+            allowance: rest.u16()?,
+        },
+        RECORD => Operation::Record { index: rest.u32()? },
+        ANSWER => Operation::Answer {
+            answer: rest.answer()?,
+        },
+        STATE => Operation::State,
+        RUN_ELSEWHERE => Operation::RunElsewhere {
+            allowance: rest.u16()?,
+            length: memory_length(rest.u32()?)?,
+        },
+        ANSWER_ELSEWHERE => Operation::AnswerElsewhere {
+            answer: rest.answer()?,
+            length: memory_length(rest.u32()?)?,
+        },
+        _ => return Err(Fault::UnknownTag(tag)),
+    })
+}
+
+/// What is still to be read. A field that is cut short is a fault.
+struct Reader<'a> {
+    bytes: &'a [u8],
+}
+
+impl<'a> Reader<'a> {
+    fn take(&mut self, count: usize) -> Result<&'a [u8], Fault> {
+        if count > self.bytes.len() {
+            return Err(Fault::Truncated);
+        }
+        let (taken, rest) = self.bytes.split_at(count);
+        self.bytes = rest;
+        Ok(taken)
+    }
+
+    fn field<const N: usize>(&mut self) -> Result<[u8; N], Fault> {
+        let mut field = [0; N];
+        field.copy_from_slice(self.take(N)?);
+        Ok(field)
+    }
+
+    fn u16(&mut self) -> Result<u16, Fault> {
+        self.field().map(u16::from_le_bytes)
+    }
+
+    fn u32(&mut self) -> Result<u32, Fault> {
+        self.field().map(u32::from_le_bytes)
+    }
+
+    fn answer(&mut self) -> Result<HostAnswer, Fault> {
+        let [told] = self.field()?;
+        Ok(if told == 1 {
+            HostAnswer::Good
+        } else {
+            HostAnswer::Failed
+        })
+    }
+}
+
+/// Writes a script. What is longer than a script may be is written all the same, and is refused by whoever plays it.
+///
+/// # Panics
+/// If a poke has 4 GiB or more, which no script can say.
+pub fn encode(memory: u32, operations: &[Operation]) -> Vec<u8> {
+    let mut script = MAGIC.to_vec();
+    script.extend(memory.to_le_bytes());
+    for operation in operations {
+        encode_operation(&mut script, operation);
+    }
+    script
+}
+
+fn encode_operation(script: &mut Vec<u8>, operation: &Operation) {
+    match operation {
+        Operation::Poke { address, bytes } => {
+            let count = u32::try_from(bytes.len()).expect("a poke of less than 4 GiB");
+            script.push(POKE);
+            script.extend(address.to_le_bytes());
+            script.extend(count.to_le_bytes());
+            script.extend(bytes);
+        }
+        Operation::Write { offset, value } => {
+            script.push(WRITE);
+            script.extend(offset.to_le_bytes());
+            script.extend(value.to_le_bytes());
+        }
+        Operation::Read { offset } => {
+            script.push(READ);
+            script.extend(offset.to_le_bytes());
+        }
+        Operation::Run { allowance } => {
+            script.push(RUN);
+            script.extend(allowance.to_le_bytes());
+        }
+        Operation::Record { index } => {
+            script.push(RECORD);
+            script.extend(index.to_le_bytes());
+        }
+        Operation::Answer { answer } => script.extend([ANSWER, told(*answer)]),
+        Operation::State => script.push(STATE),
+        Operation::RunElsewhere { allowance, length } => {
+            script.push(RUN_ELSEWHERE);
+            script.extend(allowance.to_le_bytes());
+            script.extend(length.to_le_bytes());
+        }
+        Operation::AnswerElsewhere { answer, length } => {
+            script.extend([ANSWER_ELSEWHERE, told(*answer)]);
+            script.extend(length.to_le_bytes());
+        }
+    }
+}
+
+fn told(answer: HostAnswer) -> u8 {
+    match answer {
+        HostAnswer::Good => 1,
+        HostAnswer::Failed => 0,
+    }
+}
+
+#[cfg(test)]
+mod tests {
+    use super::*;
+
+    /// One of each.
+    fn every_operation() -> Vec<Operation> {
+        vec![
+            Operation::Poke {
+                address: 70_000,
+                bytes: vec![1, 2, 3],
+            },
+            Operation::Write {
+                offset: 0x10C,
+                value: u32::MAX,
+            },
+            Operation::Read { offset: 4 },
+            Operation::Run { allowance: 65_535 },
+            Operation::Record { index: 63 },
+            Operation::Answer {
+                answer: HostAnswer::Good,
+            },
+            Operation::Answer {
+                answer: HostAnswer::Failed,
+            },
+            Operation::State,
+            Operation::RunElsewhere {
+                allowance: 5,
+                length: LONGEST_MEMORY,
+            },
+            Operation::AnswerElsewhere {
+                answer: HostAnswer::Good,
+                length: 0,
+            },
+        ]
+    }
+
+    fn bad(fault: Fault) -> Script {
+        Script {
+            memory: 0,
+            operations: Vec::new(),
+            fault: Some(fault),
+        }
+    }
+
+    #[test]
+    fn what_is_written_is_read_back() {
+        let operations = every_operation();
+        let script = decode(&encode(4096, &operations));
+        assert_eq!(
+            script,
+            Script {
+                memory: 4096,
+                operations,
+                fault: None
+            }
+        );
+    }
+
+    #[test]
+    fn the_bytes_are_the_formats() {
+        let script = encode(0x1234, &[Operation::Run { allowance: 0x0506 }]);
+        assert_eq!(script, b"DESK\x34\x12\x00\x00\x04\x06\x05");
+    }
+
+    #[test]
+    fn a_script_that_is_cut_anywhere_keeps_what_stands_before() {
+        let operations = every_operation();
+        let whole = encode(4096, &operations);
+        let mut ends = vec![8];
+        for operation in &operations {
+            let size = encode(0, std::slice::from_ref(operation)).len() - 8;
+            ends.push(ends[ends.len() - 1] + size);
+        }
+        for cut in 0..whole.len() {
+            let script = decode(&whole[..cut]);
+            let kept = ends.iter().filter(|&&end| end <= cut).count();
+            assert_eq!(script.operations[..], operations[..kept.saturating_sub(1)]);
+            let fault = if ends.contains(&cut) {
+                None
+            } else {
+                Some(Fault::Truncated)
+            };
+            assert_eq!(script.fault, fault, "cut at {}", cut);
+        }
+    }
+
+    #[test]
+    fn a_file_that_is_no_script_is_bad() {
+        assert_eq!(decode(b"DUSK\x00\x00\x00\x00"), bad(Fault::NoMagic));
+        assert_eq!(decode(b"DES"), bad(Fault::Truncated));
+        assert_eq!(decode(b"not a script"), bad(Fault::NoMagic));
+        assert_eq!(Fault::NoMagic.line(), "bad script");
+        assert_eq!(Fault::Truncated.line(), "truncated");
+    }
+
+    #[test]
+    fn memories_have_at_most_64_kib() {
+        assert_eq!(decode(&encode(65_536, &[])).fault, None);
+        assert_eq!(decode(&encode(65_537, &[])), bad(Fault::LongMemory(65_537)));
+        let elsewhere = |length| Operation::RunElsewhere {
+            allowance: 1,
+            length,
+        };
+        let script = decode(&encode(16, &[elsewhere(65_536), elsewhere(65_537)]));
+        assert_eq!(script.operations, [elsewhere(65_536)]);
+        assert_eq!(script.fault, Some(Fault::LongMemory(65_537)));
+        assert_eq!(Fault::LongMemory(65_537).line(), "bad script");
+    }
+
+    #[test]
+    fn a_script_has_at_most_1_mib() {
+        let fill = |length: usize| {
+            let header = encode(
+                16,
+                &[Operation::Poke {
+                    address: 0,
+                    bytes: Vec::new(),
+                }],
+            );
+            let bytes = vec![0; length - header.len()];
+            encode(16, &[Operation::Poke { address: 0, bytes }])
+        };
+        assert_eq!(decode(&fill(LONGEST_SCRIPT)).fault, None);
+        assert_eq!(decode(&fill(LONGEST_SCRIPT + 1)), bad(Fault::LongScript));
+        assert_eq!(Fault::LongScript.line(), "bad script");
+    }
+
+    #[test]
+    fn an_unknown_tag_ends_the_script() {
+        for tag in (0..=255).filter(|tag| !(1..=9).contains(tag)) {
+            let mut bytes = encode(16, &[Operation::State]);
+            bytes.extend([tag, STATE]);
+            let script = decode(&bytes);
+            assert_eq!(script.operations, [Operation::State]);
+            assert_eq!(script.fault, Some(Fault::UnknownTag(tag)));
+        }
+        assert_eq!(Fault::UnknownTag(10).line(), "unknown tag 10");
+    }
+
+    #[test]
+    fn any_answer_byte_but_1_says_failed() {
+        for told in 0..=255 {
+            let script = decode(&[b'D', b'E', b'S', b'K', 0, 0, 0, 0, ANSWER, told]);
+            let answer = if told == 1 {
+                HostAnswer::Good
+            } else {
+                HostAnswer::Failed
+            };
+            assert_eq!(script.operations, [Operation::Answer { answer }]);
+        }
+    }
+}

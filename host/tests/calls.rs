@@ -1,0 +1,123 @@
+//! Calls that are refused, and what they leave; registers by name.
+use zelezmut::guest::{self, Descriptor};
+use zelezmut::{registers, Desk, Ended, HostAnswer, Ran, Refused};
+
+const MEMORY: usize = 4096;
+
+/// A desk with an empty submission in its ring, and its memory.
+fn rung() -> (Desk, Vec<u8>) {
+    let mut memory = vec![0; MEMORY];
+    let slot = Descriptor {
+        fence: 7,
+        ..Descriptor::default()
+    };
+    guest::put(&mut memory, 0, &guest::ring(1, 0, 1));
+    guest::put(&mut memory, guest::slot_offset(0), &slot.to_bytes());
+    let mut desk = Desk::new(MEMORY);
+    desk.write(registers::RING_SIZE, guest::ring_size(1))
+        .unwrap();
+    desk.write(registers::CONTROL, registers::CONTROL_ENABLE)
+        .unwrap();
+    desk.write(registers::DOORBELL, 1).unwrap();
+    (desk, memory)
+}
+
+fn registers_of(desk: &Desk) -> Vec<u32> {
+    registers::READABLE
+        .iter()
+        .map(|&offset| desk.read(offset).unwrap())
+        .collect()
+}
+
+#[test]
+fn memory_of_another_length_is_refused_and_left_alone() {
+    for length in [0, 1, MEMORY - 1, MEMORY + 1, 2 * MEMORY] {
+        let (mut desk, mut memory) = rung();
+        let mut other = vec![0xEE; length];
+        let before = registers_of(&desk);
+        assert_eq!(desk.run(&mut other, 100), Err(Refused::OtherMemory));
+        assert_eq!(registers_of(&desk), before);
+        let ran = desk.run(&mut memory, 100).unwrap();
+        assert_eq!((ran.units, ran.ended), (1, Ended::Waiting));
+        assert_eq!(
+            desk.answer(&mut other, HostAnswer::Good),
+            Err(Refused::OtherMemory)
+        );
+        assert!(other.iter().all(|&byte| byte == 0xEE));
+        assert_eq!(desk.answer(&mut memory, HostAnswer::Good), Ok(()));
+        assert_eq!(desk.completed_fence(), 7);
+    }
+}
+
+#[test]
+fn another_length_is_told_before_nothing_waits() {
+    let mut desk = Desk::new(MEMORY);
+    let good = HostAnswer::Good;
+    assert_eq!(desk.answer(&mut [], good), Err(Refused::OtherMemory));
+    assert_eq!(
+        desk.answer(&mut [0; MEMORY], good),
+        Err(Refused::NothingWaits)
+    );
+    assert_eq!(desk.record(0), Err(Refused::NoRecord));
+    assert_eq!(desk.records().count(), 0);
+}
+
+#[test]
+fn a_desk_without_memory_works_too() {
+    let mut desk = Desk::new(0);
+    desk.write(registers::CONTROL, registers::CONTROL_ENABLE)
+        .unwrap();
+    desk.write(registers::DOORBELL, 1).unwrap();
+    let ended = Ended::Idle;
+    assert_eq!(desk.run(&mut [], 100), Ok(Ran { units: 1, ended }));
+    assert_eq!(desk.read(registers::ERROR_CODE), Ok(10));
+}
+
+#[test]
+fn the_named_registers_are_all_there_are() {
+    let offsets = (0..0x800).chain([0xFFFF_FFFC, u32::MAX]);
+    for offset in offsets {
+        let mut desk = Desk::new(MEMORY);
+        let readable = registers::READABLE.contains(&offset);
+        assert_eq!(desk.read(offset).is_ok(), readable, "read {:x}", offset);
+        let writable = registers::WRITABLE.contains(&offset);
+        let written = desk.write(offset, 0);
+        assert_eq!(written.is_ok(), writable, "write {:x}", offset);
+        if !writable {
+            assert_eq!(written, Err(Refused::NoRegister));
+        }
+    }
+}
+
+#[test]
+fn a_clone_goes_its_own_way() {
+    let (mut desk, mut memory) = rung();
+    desk.run(&mut memory, 100).unwrap();
+    let (mut other, mut copy) = (desk.clone(), memory.clone());
+    other.answer(&mut copy, HostAnswer::Failed).unwrap();
+    desk.answer(&mut memory, HostAnswer::Good).unwrap();
+    assert_eq!(desk.last_error(), None);
+    assert_eq!(other.last_error().map(|e| e.fence), Some(7));
+}
+
+#[test]
+fn a_reset_keeps_the_error_and_the_ring() {
+    let (mut desk, mut memory) = rung();
+    desk.run(&mut memory, 100).unwrap();
+    desk.answer(&mut memory, HostAnswer::Failed).unwrap();
+    desk.write(registers::CONTROL, registers::CONTROL_RESET)
+        .unwrap();
+    assert_eq!(desk.completed_fence(), 0);
+    assert_eq!(desk.read(registers::CONTROL), Ok(0));
+    assert_eq!(desk.read(registers::IRQ_STATUS), Ok(0));
+    assert_eq!(desk.read(registers::RING_SIZE), Ok(guest::ring_size(1)));
+    assert_eq!(desk.last_error().map(|e| e.count), Some(1));
+}
+
+#[test]
+fn a_desk_can_go_to_another_thread() {
+    fn goes<T: Send + Sync>(_: &T) {}
+    let desk = Desk::new(MEMORY);
+    goes(&desk);
+    assert!(format!("{:?}", desk).starts_with("Desk {0: 1431324481, 4: 65539"));
+}

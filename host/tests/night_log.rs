@@ -1,0 +1,210 @@
+//! Examples of document 01 through the Rust crate: the whole submissions 9 and 10, and some of the small ones.
+use zelezmut::guest::{self, Backing, Descriptor, Entry, Packet, Part};
+use zelezmut::{
+    packed_size, registers, table_error, Desk, DeviceError, Ended, ErrorReport, HostAnswer, Ran,
+    Record, RecordKind, Refused,
+};
+
+const MEMORY: usize = 16_384;
+const TABLE: usize = 1024;
+const STREAM: usize = 2048;
+const FENCE_PAGE: usize = 4096;
+
+fn entry(id: u32, gpa: u64, size: u64) -> Entry {
+    Entry {
+        id,
+        gpa,
+        size,
+        read_only: false,
+    }
+}
+
+/// A desk whose guest has put one submission with fence 1 into its ring, and rung.
+fn one_submission(entries: &[Entry], packets: &[Packet]) -> (Desk, Vec<u8>) {
+    let mut memory = vec![0; MEMORY];
+    let table = guest::table(entries);
+    let stream = guest::stream(packets);
+    let slot = Descriptor {
+        commands: Part::of(STREAM as u64, &stream),
+        table: Part::of(TABLE as u64, &table),
+        fence: 1,
+        silent: false,
+    };
+    guest::put(&mut memory, 0, &guest::ring(8, 0, 1));
+    guest::put(&mut memory, guest::slot_offset(0), &slot.to_bytes());
+    guest::put(&mut memory, TABLE, &table);
+    guest::put(&mut memory, STREAM, &stream);
+
+    let mut desk = Desk::new(MEMORY);
+    for (offset, value) in [
+        (registers::RING_SIZE, guest::ring_size(8)),
+        (registers::FENCE_GPA_LO, FENCE_PAGE as u32),
+        (registers::IRQ_ENABLE, registers::IRQ_FENCE),
+        (registers::CONTROL, registers::CONTROL_ENABLE),
+        (registers::DOORBELL, 0),
+    ] {
+        assert_eq!(desk.write(offset, value), Ok(()));
+    }
+    (desk, memory)
+}
+
+fn example_9() -> (Desk, Vec<u8>) {
+    one_submission(
+        &[entry(5, 8192, 4096)],
+        &[
+            Packet::CreateBuffer {
+                handle: 1,
+                size: 256,
+                backing: Some(Backing { id: 5, offset: 64 }),
+            },
+            Packet::DirtyRange {
+                handle: 1,
+                offset: 16,
+                size: 32,
+            },
+        ],
+    )
+}
+
+fn example_10() -> (Desk, Vec<u8>) {
+    one_submission(
+        &[entry(5, 8192, 4096), entry(5, 12_288, 4096)],
+        &[Packet::Destroy { handle: 1 }],
+    )
+}
+
+fn ran(units: u16, ended: Ended) -> Result<Ran, Refused> {
+    Ok(Ran { units, ended })
+}
+
+#[test]
+fn example_9_waits_after_4_units_with_two_records() {
+    let (mut desk, mut memory) = example_9();
+    assert_eq!(desk.run(&mut memory, 100), ran(4, Ended::Waiting));
+    let backs = Record {
+        kind: RecordKind::Backs,
+        handle: 1,
+        id: 5,
+        gpa: 8256,
+        length: 256,
+    };
+    let reads = Record {
+        kind: RecordKind::Reads,
+        handle: 1,
+        id: 5,
+        gpa: 8272,
+        length: 32,
+    };
+    assert_eq!(desk.record(0), Ok(backs));
+    assert_eq!(desk.record(1), Ok(reads));
+    assert_eq!(desk.record(2), Err(Refused::NoRecord));
+    assert_eq!(desk.record(u32::MAX), Err(Refused::NoRecord));
+    assert_eq!(desk.records().collect::<Vec<_>>(), [backs, reads]);
+}
+
+#[test]
+fn example_9_unit_by_unit_is_the_same() {
+    let (mut desk, mut memory) = example_9();
+    for _ in 0..3 {
+        assert_eq!(desk.run(&mut memory, 1), ran(1, Ended::Paused));
+        assert_eq!(desk.records().count(), 0);
+    }
+    assert_eq!(desk.run(&mut memory, 1), ran(1, Ended::Waiting));
+    assert_eq!(desk.run(&mut memory, 1), ran(0, Ended::Waiting));
+    assert_eq!(desk.records().count(), 2);
+}
+
+#[test]
+fn a_good_answer_finishes_the_fence_and_writes_head_and_page() {
+    let (mut desk, mut memory) = example_9();
+    desk.run(&mut memory, 4).unwrap();
+    let mut expected = memory.clone();
+    guest::put(&mut expected, 24, &1u32.to_le_bytes());
+    guest::put(&mut expected, FENCE_PAGE, b"FENC\x03\x00\x01\x00");
+    guest::put(&mut expected, FENCE_PAGE + 8, &1u64.to_le_bytes());
+
+    assert!(!desk.interrupts());
+    assert_eq!(desk.answer(&mut memory, HostAnswer::Good), Ok(()));
+    assert!(memory == expected);
+    assert_eq!(desk.completed_fence(), 1);
+    assert!(desk.interrupts());
+    assert_eq!(desk.last_error(), None);
+    assert_eq!(desk.records().count(), 0);
+    assert_eq!(
+        desk.answer(&mut memory, HostAnswer::Good),
+        Err(Refused::NothingWaits)
+    );
+    assert_eq!(desk.run(&mut memory, 100), ran(1, Ended::Idle));
+}
+
+#[test]
+fn a_failed_answer_is_error_27() {
+    let (mut desk, mut memory) = example_9();
+    desk.run(&mut memory, 4).unwrap();
+    assert_eq!(desk.answer(&mut memory, HostAnswer::Failed), Ok(()));
+    assert_eq!(
+        desk.last_error(),
+        Some(ErrorReport {
+            error: DeviceError::HostFailed,
+            fence: 1,
+            count: 1
+        })
+    );
+    assert_eq!(desk.completed_fence(), 1);
+}
+
+#[test]
+fn example_10_is_refused_with_15_after_3_units() {
+    let (mut desk, mut memory) = example_10();
+    assert_eq!(desk.run(&mut memory, 2), ran(2, Ended::Paused));
+    assert_eq!(desk.last_error(), None);
+    assert_eq!(desk.run(&mut memory, 1), ran(1, Ended::Paused));
+    let error = desk.last_error().unwrap();
+    assert_eq!(error.error, DeviceError::TwiceInTable);
+    assert_eq!((error.fence, error.count), (1, 1));
+    assert_eq!(desk.completed_fence(), 1);
+
+    // A refusal does not stop a run: a fourth unit finds no more work.
+    let (mut desk, mut memory) = example_10();
+    assert_eq!(desk.run(&mut memory, 100), ran(4, Ended::Idle));
+}
+
+#[test]
+fn examples_1_to_4_packed_sizes() {
+    assert_eq!(packed_size(1, 5, 3, 3, 1, 20), Some(72));
+    assert_eq!(packed_size(1, 5, 3, 3, 1, 32), Some(108));
+    assert_eq!(packed_size(1, 5, 3, 3, 2, 20), Some(144));
+    assert_eq!(packed_size(64, 5, 5, 3, 1, 16), Some(48));
+    assert_eq!(packed_size(64, 5, 5, 3, 1, 15), None);
+    assert!(packed_size(1, 16_384, 1, 15, 1, 65_536).is_some());
+    assert_eq!(packed_size(1, 16_384, 1, 16, 1, 65_536), None);
+    assert_eq!(packed_size(1, 1, 1, 2, 1, 4), None);
+}
+
+#[test]
+fn example_8_a_table_that_fits_and_one_that_does_not() {
+    let fits = guest::table(&[entry(1, 0, 4096)]);
+    let past = guest::table(&[entry(1, 1, 4096)]);
+    assert_eq!(table_error(&fits, 4096), None);
+    assert_eq!(table_error(&past, 4096), Some(DeviceError::BadEntry));
+}
+
+#[test]
+fn a_table_of_any_length_is_judged() {
+    let table = guest::table(&[entry(1, 0, 16), entry(1, 0, 16)]);
+    assert_eq!(table_error(&table, 64), Some(DeviceError::TwiceInTable));
+    for cut in 0..table.len() {
+        assert_eq!(
+            table_error(&table[..cut], 64),
+            Some(DeviceError::BadTable),
+            "cut at {}",
+            cut
+        );
+    }
+    let entries: Vec<Entry> = (1..=65).map(|id| entry(id, 0, 1)).collect();
+    assert_eq!(table_error(&guest::table(&entries[..64]), 64), None);
+    assert_eq!(
+        table_error(&guest::table(&entries), 64),
+        Some(DeviceError::TooMany)
+    );
+}
