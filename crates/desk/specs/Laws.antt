@@ -12,7 +12,7 @@ use Rattle.rules.specs.Calls.{ended-number, Value, Ran, Handed as HandedBy}
 use Rattle.rules.specs.declared.Record.{Record}
 use Rattle.device.specs.declared.Read.{Read}
 use Rattle.device.specs.declared.Handed.{Handed}
-use Rattle.lent.specs.Views.{setIn}
+use Rattle.flat.specs.Views.{setIn}
 use Rattle.lent.specs.Calls.{Makes, Reads, Runs, Hands, Answers}
 use Rattle.lent.specs.declared.calls.Spent.{Spent}
 use Rattle.desk.specs.Said.{five, recordWords, SaysValue, SaysRun, SaysRecord}

@@ -5,8 +5,7 @@ use Prim.Native.Nat.{ℕ}
 use Rattle.rules.specs.Calls.{ended-number, call-read, call-run, call-record}
 use Rattle.rules.specs.declared.Record.{Record}
 use Rattle.device.specs.Views.{worldIn, stateIn}
-use Rattle.lent.specs.Views.{deviceIn}
-use Rattle.lent.specs.Calls.{Refused}
+use Rattle.lent.specs.Calls.{deviceIn, Refused}
 
 abbrev pub five : ℕ → ℕ → ℕ → ℕ → ℕ → List ℕ
 five a b c d e = a ∷ b ∷ c ∷ d ∷ e ∷ []

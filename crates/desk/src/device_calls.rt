@@ -4,7 +4,7 @@ use crate::said::number_of;
 use crate::said::say;
 use crate::said::say_record;
 ghost use mathlib.Core.Path.{_≡_};
-ghost use Rattle.lent.specs.Views.{setIn};
+ghost use Rattle.flat.specs.Views.{setIn};
 ghost use Rattle.lent.specs.Calls.{Makes, Writes, Answers};
 ghost use Rattle.desk.specs.Said.{SaysValue, SaysRun, SaysRecord};
 

@@ -28,5 +28,5 @@ pub extern "C" fn zelezmut_packed_size(
 pub extern "C" fn zelezmut_table_error(table: &[u8], memory: u64) -> u32
     ensures { λ r. ⌜ r ≡ table-error (now (table .entry)) memory ⌝ }
 {
-    table::whole::first_error(table, memory)
+    whole_table::whole::first_error(table, memory)
 }

@@ -29,7 +29,7 @@ use Rattle.rules.specs.declared.Verdict.{Verdict}
 use Rattle.rules.specs.declared.Verdict.the-variants.{Fine, Broken as BrokenRule}
 use Rattle.table.specs.Views.{entriesOf}
 use Rattle.rooms.specs.Views.{holdingsOf}
-use Rattle.packets.specs.Views.{Room}
+use Rattle.ranges.specs.Views.{Room}
 use Rattle.phases.specs.Ending.{onward}
 use Rattle.phases.specs.Entries.{Reading, reading-goes, read-on, read-step, EntriesRan, from-row, outOf as entriesOut}
 use Rattle.phases.specs.Playing.{Playing, playing-goes, play-on, play-step, playingOf, PacketsRan, outOf as packetsOut}

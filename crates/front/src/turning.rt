@@ -17,7 +17,7 @@ ghost use mathlib.Core.Path.{_≡_};
 ghost use Prim.Native.Nat.{_≤_, _<_};
 ghost use lib.ListN.{length};
 ghost use Rattle.rules.specs.Stream.{stream-bytes};
-ghost use Rattle.packets.specs.Views.{Room};
+ghost use Rattle.ranges.specs.Views.{Room};
 ghost use Rattle.phases.specs.Playing.{PacketsRan};
 ghost use Rattle.stages.specs.Views.{Roomy, worldOf};
 ghost use Rattle.front.specs.Turning.{Due, EntriesTurn, PacketsTurn, TurnOf, stillTurn, Advanced};

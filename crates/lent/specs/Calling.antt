@@ -30,8 +30,8 @@ use Rattle.device.specs.Views.{worldIn, Ends, stageWaits, withRegisters, droppe
 use Rattle.device.specs.Reads.{write-none, write-kept, write-reset, read-none, read-value, record-unasked, record-past, record-there}
 use Rattle.device.specs.Runs.{run-refused, run-done, answer-refused, answer-unasked, answer-done, is-made}
 use Rattle.device.specs.declared.Handed.{Handed}
-use Rattle.lent.specs.Views.{registersIn, scalarsIn, deviceIn}
-use Rattle.lent.specs.Calls.{Makes, Writes, Reads, Runs, Hands, Answers}
+use Rattle.flat.specs.Views.{registersIn, scalarsIn}
+use Rattle.lent.specs.Calls.{deviceIn, Makes, Writes, Reads, Runs, Hands, Answers}
 
 -- ---- make
 

@@ -8,10 +8,15 @@ use Rattle.rules.specs.Numbers.{done}
 use Rattle.rules.specs.State.{made}
 use Rattle.rules.specs.Calls.{Wrote, Ran, Told, call-write, call-read, call-run, call-record, call-answer}
 use Rattle.device.specs.Views.{worldIn, stateIn, valueOf, handedOf}
+use Rattle.device.specs.declared.Device.{Device}
 use Rattle.device.specs.declared.Read.{Read}
 use Rattle.device.specs.declared.Handed.{Handed}
-use Rattle.lent.specs.Views.{deviceIn}
+use Rattle.flat.specs.Views.{scalarsIn}
 use Rattle.lent.specs.declared.calls.Spent.{Spent}
+
+-- the device that stands in lent words: its numbers, entries, resources, the submission's resources, records
+abbrev pub deviceIn : List ℕ → List ℕ → List ℕ → List ℕ → List ℕ → Device
+deviceIn s e r h c = record { scalars = scalarsIn s; entries = e; rooms = r; held = h; records = c }
 
 abbrev pub Refused : ℕ → Type 0
 Refused a = a ≡ done → ⊥

@@ -1,4 +1,2 @@
-pub mod Views
-pub mod Words
 pub mod Calls
 pub mod Calling

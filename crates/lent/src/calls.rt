@@ -1,7 +1,4 @@
 // The calls over lent state, by the core that Device's methods use. A refused call writes no word.
-use crate::reading::registers_in;
-use crate::reading::scalars_in;
-use crate::storing::store;
 use device::Handed;
 use device::Read;
 use device::awaits;
@@ -11,6 +8,9 @@ use device::new_numbers;
 use device::none_handed;
 use device::tame::tame;
 use device::with_registers;
+use flat::reading::registers_in;
+use flat::reading::scalars_in;
+use flat::storing::store;
 use front::turning::advance;
 use registers::Shown;
 use registers::Written;

@@ -26,7 +26,7 @@ fn entry_line(example: u32, memory: u64, gpa: u64, size: u64) {
     say_named(b", gpa ", gpa);
     say_named(b", size ", size);
     say(b": ");
-    say_judged(table::whole::first_error(&bytes, memory));
+    say_judged(whole_table::whole::first_error(&bytes, memory));
     say(b"\n");
 }
 

@@ -13,10 +13,10 @@ use Rattle.rules.specs.declared.Packet.{Packet}
 use Rattle.rules.specs.declared.Packet.the-variants.{Buffer, Texture, Destroy, Dirty, Copy, Unknown}
 use Rattle.table.specs.Views.{entriesOf}
 use Rattle.rooms.specs.Views.{holdingsOf}
-use Rattle.packets.specs.Views.{Applies, Room}
-use Rattle.packets.specs.Handout.{acceptedWith}
+use Rattle.ranges.specs.Views.{Applies, Room}
+use Rattle.ranges.specs.Handout.{acceptedWith}
 use Rattle.packets.specs.Destroy.{Destroys}
-use Rattle.packets.specs.declared.applied.Applied.{Applied}
+use Rattle.ranges.specs.declared.applied.Applied.{Applied}
 
 module _ (n live made : ℕ) (e l c l′ c′ : List ℕ) (p : Packet) (a : Applied) where
   pub buffer-applied : (b : CreateBuffer) → p ≡ Buffer b → Applies (on-buffer-packet (entriesOf n e) (holdingsOf live l made c) b) a l′ c′

@@ -24,11 +24,11 @@ use Rattle.words.specs.Rows.{rowAt}
 use Rattle.table.specs.Views.{entriesOf}
 use Rattle.rooms.specs.Views.{resourceOf, resourcesOf, holdingsOf}
 use Rattle.rooms.specs.Resources.{resource-found, resource-missing}
-use Rattle.packets.specs.Views.{Applies, Room, refusedWith}
-use Rattle.packets.specs.Handout.{Hands, acceptedWith, judged, resolvedOf, entry-judged, refused-applies, refused-hands}
-use Rattle.packets.specs.declared.applied.Applied.{Applied}
-use Rattle.packets.specs.declared.handout.Resolved.{Resolved}
-use Rattle.packets.specs.declared.handout.Resolved.the-variants.{Missing, Past, Inside}
+use Rattle.ranges.specs.Views.{Applies, Room, refusedWith}
+use Rattle.ranges.specs.Handout.{Hands, acceptedWith, judged, resolvedOf, entry-judged, refused-applies, refused-hands}
+use Rattle.ranges.specs.declared.applied.Applied.{Applied}
+use Rattle.ranges.specs.declared.handout.Resolved.{Resolved}
+use Rattle.ranges.specs.declared.handout.Resolved.the-variants.{Missing, Past, Inside}
 use Rattle.packets.specs.declared.copy.Sought.{Sought}
 use Rattle.packets.specs.declared.copy.Sought.the-variants.{NoBuffer, Live}
 

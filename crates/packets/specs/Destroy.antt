@@ -10,9 +10,9 @@ use Rattle.rules.specs.Packets.{handle-of, on-destroy-packet}
 use Rattle.rules.specs.declared.DestroyResource.{DestroyResource}
 use Rattle.rooms.specs.Views.{resourcesOf, holdingsOf}
 use Rattle.rooms.specs.Resources.{resource-found, resource-missing}
-use Rattle.packets.specs.Views.{Applies, refusedWith}
-use Rattle.packets.specs.Handout.{acceptedWith}
-use Rattle.packets.specs.declared.applied.Applied.{Applied}
+use Rattle.ranges.specs.Views.{Applies, refusedWith}
+use Rattle.ranges.specs.Handout.{acceptedWith}
+use Rattle.ranges.specs.declared.applied.Applied.{Applied}
 
 -- the records are not lent: the answer is the rules' outcome, whatever they are
 pub record Destroys (c : DestroyResource) (live made : ℕ) (before : List ℕ) (a : Applied) (after : List ℕ) : Type 0 where

@@ -18,11 +18,11 @@ use Rattle.words.specs.Rows.{rowAt}
 use Rattle.table.specs.Views.{entriesOf}
 use Rattle.rooms.specs.Views.{resourceOf, resourcesOf, holdingsOf}
 use Rattle.rooms.specs.Resources.{resource-found, resource-missing}
-use Rattle.packets.specs.Views.{Applies, Room, refusedWith}
-use Rattle.packets.specs.Handout.{Hands, judged, resolvedOf, entry-judged, refused-applies}
-use Rattle.packets.specs.declared.applied.Applied.{Applied}
-use Rattle.packets.specs.declared.handout.Resolved.{Resolved}
-use Rattle.packets.specs.declared.handout.Resolved.the-variants.{Missing, Past, Inside}
+use Rattle.ranges.specs.Views.{Applies, Room, refusedWith}
+use Rattle.ranges.specs.Handout.{Hands, judged, resolvedOf, entry-judged, refused-applies}
+use Rattle.ranges.specs.declared.applied.Applied.{Applied}
+use Rattle.ranges.specs.declared.handout.Resolved.{Resolved}
+use Rattle.ranges.specs.declared.handout.Resolved.the-variants.{Missing, Past, Inside}
 
 abbrev Dirties : ℕ → List ℕ → ℕ → List ℕ → ℕ → List ℕ → DirtyRange → Applied → List ℕ → Type 0
 Dirties n entries live rooms made records c a after =

@@ -1,9 +1,5 @@
-pub mod Views
 pub mod Effects
 pub mod Held
-pub mod Bytes
-pub mod Create
-pub mod Handout
 pub mod Destroy
 pub mod Dirty
 pub mod Copy

@@ -1,16 +1,16 @@
 // One packet that was framed and read, whatever it is. One whose opcode we do not know touches nothing.
-use crate::applied::Applied;
 use crate::copy::on_copy;
-use crate::create::on_buffer;
-use crate::create::on_texture;
 use crate::destroy::on_destroy;
 use crate::dirty::on_dirty;
+use creating::create::on_buffer;
+use creating::create::on_texture;
+use ranges::applied::Applied;
 use rules::Packet;
 use rules::Verdict;
 ghost use Rattle.rules.specs.Packets.{apply};
 ghost use Rattle.table.specs.Views.{entriesOf};
 ghost use Rattle.rooms.specs.Views.{holdingsOf};
-ghost use Rattle.packets.specs.Views.{Applies, Room};
+ghost use Rattle.ranges.specs.Views.{Applies, Room};
 
 // What a packet does to the resources and records that a submission holds, by the entries of its table.
 pub fn apply_packet(

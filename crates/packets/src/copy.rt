@@ -1,10 +1,10 @@
 // The copy packet: bytes of one live buffer into another; with writeback the range of the destination is handed to the host.
-use crate::applied::Applied;
-use crate::applied::refuse;
-use crate::handout::Resolved;
-use crate::handout::beyond;
-use crate::handout::hand_out;
-use crate::handout::resolve;
+use ranges::applied::Applied;
+use ranges::applied::refuse;
+use ranges::handout::Resolved;
+use ranges::handout::beyond;
+use ranges::handout::hand_out;
+use ranges::handout::resolve;
 use rooms::resources::find_resource;
 use rooms::resources::resource_row;
 use rules::CopyBuffer;
@@ -26,8 +26,8 @@ ghost use Rattle.rules.specs.Lists.{lookup};
 ghost use Rattle.rules.specs.Packets.{handle-of, on-copy-packet};
 ghost use Rattle.table.specs.Views.{entriesOf};
 ghost use Rattle.rooms.specs.Views.{resourcesOf, holdingsOf};
-ghost use Rattle.packets.specs.Views.{Applies, Room};
-ghost use Rattle.packets.specs.Handout.{Hands};
+ghost use Rattle.ranges.specs.Views.{Applies, Room};
+ghost use Rattle.ranges.specs.Handout.{Hands};
 ghost use Rattle.packets.specs.Copy.{bufferOf, written-back, between};
 
 // The one flag of a copy, which asks for writeback.

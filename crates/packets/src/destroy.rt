@@ -1,7 +1,7 @@
 // The destroy packet: a live resource is gone, and the last of the others takes its room.
 // The records are not lent: the contract holds whatever they are.
-use crate::applied::Applied;
-use crate::applied::refuse;
+use ranges::applied::Applied;
+use ranges::applied::refuse;
 use rooms::resources::find_resource;
 use rooms::resources::remove_resource;
 use rules::DestroyResource;

@@ -1,11 +1,11 @@
 // The dirty packet: a range of a backed resource that the host is to read again.
-use crate::applied::Applied;
-use crate::applied::refuse;
-use crate::bytes::resource_bytes;
-use crate::handout::Resolved;
-use crate::handout::beyond;
-use crate::handout::hand_out;
-use crate::handout::resolve;
+use ranges::applied::Applied;
+use ranges::applied::refuse;
+use ranges::bytes::resource_bytes;
+use ranges::handout::Resolved;
+use ranges::handout::beyond;
+use ranges::handout::hand_out;
+use ranges::handout::resolve;
 use rooms::resources::find_resource;
 use rooms::resources::resource_row;
 use rules::DirtyRange;
@@ -18,7 +18,7 @@ use rules::numbers::READS;
 ghost use Rattle.rules.specs.Packets.{on-dirty-packet};
 ghost use Rattle.table.specs.Views.{entriesOf};
 ghost use Rattle.rooms.specs.Views.{holdingsOf};
-ghost use Rattle.packets.specs.Views.{Applies, Room};
+ghost use Rattle.ranges.specs.Views.{Applies, Room};
 
 // Applies a dirty packet, in place. The entry is this submission's, whatever table the resource was created with.
 pub fn on_dirty(

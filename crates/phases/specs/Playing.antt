@@ -24,8 +24,8 @@ use Rattle.rules.specs.declared.Verdict.the-variants.{Fine, Broken as BrokenRul
 use Rattle.table.specs.Views.{entriesOf}
 use Rattle.rooms.specs.Views.{holdingsOf}
 use Rattle.stream.specs.Framing.{Sound, frame-sound}
-use Rattle.packets.specs.Views.{Applies, Room}
-use Rattle.packets.specs.declared.applied.Applied.{Applied}
+use Rattle.ranges.specs.Views.{Applies, Room}
+use Rattle.ranges.specs.declared.applied.Applied.{Applied}
 use Rattle.phases.specs.Ending.{onward, ending-at}
 use Rattle.phases.specs.declared.ending.Ending.{Ending}
 use Rattle.phases.specs.declared.ending.Ending.the-variants.{Going, Done, Broken}

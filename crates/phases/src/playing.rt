@@ -1,15 +1,15 @@
 // The phase of packets: one a unit, from the stream's own part of the memory lent at that unit.
 use crate::ending::Ending;
 use crate::ending::goes;
-use packets::applied::Applied;
 use packets::apply::apply_packet;
+use ranges::applied::Applied;
 use rules::Frame;
 use rules::Verdict;
 use stream::framing::frame_at;
 use stream::framing::packet_at;
 ghost use mathlib.Core.Path.{_≡_};
 ghost use Prim.Native.Nat.{_+_, _≤_, _^_, _<_};
-ghost use Rattle.packets.specs.Views.{Room};
+ghost use Rattle.ranges.specs.Views.{Room};
 ghost use Rattle.phases.specs.Playing.{placeAfter, PacketStepped, PacketsRan};
 
 // Where the packets stand: the place in the stream, how many resources and records are held.

@@ -22,7 +22,7 @@ use Rattle.rules.specs.declared.Verdict.the-variants.{Broken as BrokenRule}
 use Rattle.rules.specs.declared.Opening.{Opening}
 use Rattle.rules.specs.declared.Opening.the-variants.{BadRing, NoWork, Refused, Started}
 use Rattle.table.specs.Views.{entriesOf}
-use Rattle.packets.specs.Views.{Room}
+use Rattle.ranges.specs.Views.{Room}
 use Rattle.settle.specs.Settling.{Settled}
 use Rattle.phases.specs.Entries.{Reading, readingOf}
 use Rattle.phases.specs.Playing.{Playing, playingOf}

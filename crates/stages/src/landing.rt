@@ -20,7 +20,7 @@ use settle::quieted;
 ghost use mathlib.Core.Path.{_≡_};
 ghost use Prim.Native.Nat.{_≤_};
 ghost use Rattle.rules.specs.Numbers.{most};
-ghost use Rattle.packets.specs.Views.{Room};
+ghost use Rattle.ranges.specs.Views.{Room};
 ghost use Rattle.stages.specs.Views.{Roomy};
 ghost use Rattle.stages.specs.Landing.{Refuses, LandsEntries, LandsPackets, Opens};
 

@@ -5,7 +5,7 @@ use Prim.Native.Nat.{_≤_, _-_}
 use native.Mathlib.Omega.{arith}
 use Rattle.machine.specs.Machine.{spent, runFor, looping}
 use Rattle.table.specs.Views.{entriesOf}
-use Rattle.packets.specs.Views.{Room}
+use Rattle.ranges.specs.Views.{Room}
 use Rattle.phases.specs.Playing.{playing-goes, play-step, playingOf}
 use Rattle.phases.proofs.playing.read_packets.Statement.{statement}
 use Rattle.phases.proofs.playing.read_packets.Tie as tie

@@ -1,0 +1,3 @@
+pub mod Views
+pub mod Bytes
+pub mod Handout
