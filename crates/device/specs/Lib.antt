@@ -1,4 +1,3 @@
-pub mod Tame
 pub mod Views
 pub mod Runs
 pub mod Reads

@@ -26,8 +26,9 @@ use Rattle.stages.specs.declared.scalars.Stage.{Stage}
 use Rattle.stages.specs.declared.scalars.Stage.the-variants.{Resting, Entries, Packets, Waiting}
 use Rattle.stages.specs.declared.scalars.Counts.{Counts}
 use Rattle.stages.specs.declared.scalars.Scalars.{Scalars}
-use Rattle.device.specs.Tame.{least-same, tamed, Tames}
-use Rattle.device.specs.Views.{stateIn, wroteOf, valueOf, handedOf, stageWaits, withRegisters, droppedWith, noneHanded}
+use Rattle.shell.specs.Tame.{least-same, tamed, Tames}
+use Rattle.device.specs.Views.{stateIn, wroteOf, valueOf, handedOf, noneHanded}
+use Rattle.shell.specs.Views.{stageWaits, withRegisters, droppedWith}
 use Rattle.device.specs.declared.Device.{Device}
 use Rattle.device.specs.declared.Handed.{Handed}
 

@@ -1,24 +1,19 @@
 -- The calls run and answer, and a new device: what their code asks. Assumes nothing.
 use mathlib.Core.Path.{_≡_, refl, sym, ap, _∙_}
-use mathlib.Core.Bool.{Bool, true, false, not, _&&_}
+use mathlib.Core.Bool.{Bool, true, false, not}
 use mathlib.Core.List.{List}
 use Prim.Native.Nat.{ℕ}
 use native.Mathlib.Omega.{arith}
 use borrow.Author.Needs.{needs}
 use borrow.Author.Tests.{eq-eqb, ne-eqb, not-true, not-false}
 use lib.ListN.{length}
-use Rattle.machine.specs.Machine.{pick}
 use Rattle.rules.specs.Numbers.{done, other-memory, nothing-waits}
-use Rattle.rules.specs.State.{World, fresh, made}
+use Rattle.rules.specs.State.{World, made}
 use Rattle.rules.specs.State.Work.{entries}
 use Rattle.rules.specs.Steps.{run-for, waits-on, waits, answered}
-use Rattle.rules.specs.Calls.{lent-another, ending, call-run, call-answer, Told as ToldBy}
-use Rattle.rules.specs.declared.Registers.{Registers}
-use Rattle.rules.specs.declared.Job.{Job}
-use Rattle.rules.specs.declared.Stream.{Stream}
-use Rattle.rules.specs.declared.Opened.{Opened}
+use Rattle.rules.specs.Calls.{lent-another, call-run, call-answer, Told as ToldBy}
 use Rattle.rules.specs.declared.Ended.{Ended}
-use Rattle.rules.specs.declared.Ended.the-variants.{Idle, Waiting as WaitingEnd, Paused}
+use Rattle.rules.specs.declared.Ended.the-variants.{Idle}
 use Rattle.rooms.specs.Views.{resourceOf}
 use Rattle.words.specs.Rows.{table-zero}
 use Rattle.stages.specs.Views.{workOf, worldOf}
@@ -30,56 +25,10 @@ use Rattle.stages.specs.declared.scalars.Counts.{Counts}
 use Rattle.stages.specs.declared.scalars.Scalars.{Scalars}
 use Rattle.front.specs.declared.turning.Turn.{Turn}
 use Rattle.stages.specs.declared.answering.Told.{Told as ToldFront}
-use Rattle.device.specs.Tame.{least-same, tamed, Tames, roomy-tamed}
-use Rattle.device.specs.Views.{stateIn, worldIn, ranOf, toldOf, Ends, stageWaits, newNumbers}
+use Rattle.shell.specs.Tame.{least-same, tamed, Tames, roomy-tamed}
+use Rattle.device.specs.Views.{stateIn, worldIn, ranOf, toldOf}
+use Rattle.shell.specs.Views.{Ends, stageWaits, newNumbers}
 use Rattle.device.specs.declared.Device.{Device}
-
--- ---- how a run ends
-
-module _ (s : Scalars) where
-  pub ends-waiting : (j : Job) → s .stage ≡ Waiting j → Ends s WaitingEnd
-  unfolding ending
-  ends-waiting j i = record { ended = λ e r h c m. rw i }
-
-  pub rests-off : s .stage ≡ Resting → not (s .regs .enabled) ≡ true → Ends s Idle
-  unfolding ending
-  rests-off i q = record { ended = λ e r h c m. rw (i, q) }
-
-  pub rests-quiet : s .stage ≡ Resting → not (s .regs .enabled) ≡ false → not (s .regs .rung) ≡ true → Ends s Idle
-  unfolding ending
-  rests-quiet i p q = record { ended = λ e r h c m. rw (i, p, q) }
-
-  pub rests-due : s .stage ≡ Resting → not (s .regs .enabled) ≡ false → not (s .regs .rung) ≡ false → Ends s Paused
-  unfolding ending
-  rests-due i p q = record { ended = λ e r h c m. rw (i, p, q) }
-
-  module _ (o : Opened) (i : s .stage ≡ Entries o) where
-    pub entries-off : not (s .regs .enabled) ≡ true → Ends s Idle
-    unfolding ending
-    entries-off q = record { ended = λ e r h c m. rw (i, q) }
-
-    pub entries-due : not (s .regs .enabled) ≡ false → Ends s Paused
-    unfolding ending
-    entries-due q = record { ended = λ e r h c m. rw (i, q) (by-flag (not (s .regs .rung))) }
-      where
-        by-flag : (b : Bool) → Paused ≡ pick (b && false) Idle Paused
-        by-flag true = refl
-        by-flag false = refl
-
-  module _ (j : Job) (t : Stream) (at : ℕ) (i : s .stage ≡ Packets j t at) where
-    pub packets-off : not (s .regs .enabled) ≡ true → Ends s Idle
-    unfolding ending
-    packets-off q = record { ended = λ e r h c m. rw (i, q) }
-
-    pub packets-due : not (s .regs .enabled) ≡ false → Ends s Paused
-    unfolding ending
-    packets-due q = record { ended = λ e r h c m. rw (i, q) (by-flag (not (s .regs .rung))) }
-      where
-        by-flag : (b : Bool) → Paused ≡ pick (b && false) Idle Paused
-        by-flag true = refl
-        by-flag false = refl
-
-pub ruleset ending-up = (ends-waiting, rests-off, rests-quiet, rests-due, entries-off, entries-due, packets-off, packets-due, needs)
 
 -- ---- run
 
@@ -149,8 +98,4 @@ pub is-made : (memory : ℕ) (s : Scalars) (e r h c : List ℕ) → s ≡ newNum
 unfolding tamed
 is-made memory s e r h c p = rw (p, ← least-same 0 (omega arith) .0, table-zero resourceOf 10 r)
 
-pub new-are : (memory : ℕ) (q : Registers) → q ≡ fresh
-    → _≡_ {A = Scalars} (record { memory = memory; regs = q; stage = Resting; counts = record { entries = 0; rooms = 0; held = 0; records = 0 } }) (newNumbers memory)
-new-are memory q p = rw p
-
-pub ruleset making = (is-made, new-are, needs)
+pub ruleset making = (is-made, needs)

@@ -1,28 +1,28 @@
 // The device as a value: every call takes it and hands it back, with the call's answer and its values.
 // No call asks anything of its caller: whatever stands in the device or in memory, it ends and says what it gives.
-pub mod tame;
-
 use front::turning::advance;
 use registers::Shown;
 use registers::Written;
 use rooms::records::record_row;
 use rules::Ended;
 use rules::Record;
-use rules::Registers;
 use rules::numbers::DONE;
 use rules::numbers::NO_RECORD;
 use rules::numbers::NO_REGISTER;
 use rules::numbers::NOTHING_WAITS;
 use rules::numbers::OTHER_MEMORY;
+use shell::awaits;
+use shell::dropped;
+use shell::ended_of;
+use shell::new_numbers;
+use shell::tame::tame;
+use shell::with_registers;
 use stages::answering::answer;
-use stages::scalars::Counts;
 use stages::scalars::Scalars;
-use stages::scalars::Stage;
-use tame::tame;
 ghost use mathlib.Core.Path.{_≡_};
-ghost use Rattle.rules.specs.State.{fresh, made};
+ghost use Rattle.rules.specs.State.{made};
 ghost use Rattle.rules.specs.Calls.{call-write, call-read, call-run, call-record, call-answer};
-ghost use Rattle.device.specs.Views.{stateIn, worldIn, wroteOf, valueOf, ranOf, handedOf, toldOf, Ends, stageWaits, withRegisters, droppedWith, newNumbers, noneHanded};
+ghost use Rattle.device.specs.Views.{stateIn, worldIn, wroteOf, valueOf, ranOf, handedOf, toldOf, noneHanded};
 
 pub struct Device {
     pub scalars: Scalars,
@@ -59,50 +59,6 @@ pub struct Told {
     pub device: Device,
 }
 
-// How a run ends, by what the device then is.
-pub fn ended_of(s: Scalars) -> Ended
-    ensures { λ r. ⌜ Ends s r ⌝ }
-{
-    let stage = s.stage;
-    let regs = s.regs;
-    match stage {
-        Stage::Waiting(_) => Ended::Waiting,
-        Stage::Resting => {
-            if !regs.enabled {
-                return Ended::Idle;
-            }
-            if !regs.rung {
-                return Ended::Idle;
-            }
-            Ended::Paused
-        }
-        Stage::Entries(_) => {
-            if !regs.enabled {
-                return Ended::Idle;
-            }
-            Ended::Paused
-        }
-        Stage::Packets(_, _, _) => {
-            if !regs.enabled {
-                return Ended::Idle;
-            }
-            Ended::Paused
-        }
-    }
-}
-
-// Whether a submission awaits the host.
-pub fn awaits(stage: Stage) -> bool
-    ensures { λ r. ⌜ r ≡ stageWaits stage ⌝ }
-{
-    match stage {
-        Stage::Waiting(_) => true,
-        Stage::Resting => false,
-        Stage::Entries(_) => false,
-        Stage::Packets(_, _, _) => false,
-    }
-}
-
 fn place(x: u32) -> usize
     ensures { λ r. ⌜ r ≡ x ⌝ }
 {
@@ -123,77 +79,6 @@ pub fn none_handed() -> Handed
     Handed {
         answer: NO_RECORD,
         range,
-    }
-}
-
-// The same device with other registers.
-pub fn with_registers(s: Scalars, regs: Registers) -> Scalars
-    ensures { λ r. ⌜ r ≡ withRegisters regs s ⌝ }
-{
-    let stage = s.stage;
-    let counts = s.counts;
-    Scalars {
-        memory: s.memory,
-        regs,
-        stage,
-        counts,
-    }
-}
-
-// A reset: what was in work and every resource is dropped.
-pub fn dropped(s: Scalars, regs: Registers) -> Scalars
-    ensures { λ r. ⌜ r ≡ droppedWith regs s ⌝ }
-{
-    let n = s.counts;
-    let counts = Counts {
-        entries: n.entries,
-        rooms: 0,
-        held: n.held,
-        records: n.records,
-    };
-    Scalars {
-        memory: s.memory,
-        regs,
-        stage: Stage::Resting,
-        counts,
-    }
-}
-
-fn zero_registers() -> Registers
-    ensures { λ r. ⌜ r ≡ fresh ⌝ }
-{
-    Registers {
-        ring: 0,
-        ringsize: 0,
-        enabled: false,
-        page: 0,
-        completed: 0,
-        fenced: false,
-        failed: false,
-        irqenable: 0,
-        code: 0,
-        fence: 0,
-        errors: 0,
-        rung: false,
-    }
-}
-
-// The numbers of a new device, for a memory of so many bytes.
-pub fn new_numbers(memory: usize) -> Scalars
-    ensures { λ r. ⌜ r ≡ newNumbers memory ⌝ }
-{
-    let regs = zero_registers();
-    let counts = Counts {
-        entries: 0,
-        rooms: 0,
-        held: 0,
-        records: 0,
-    };
-    Scalars {
-        memory,
-        regs,
-        stage: Stage::Resting,
-        counts,
     }
 }
 

@@ -25,8 +25,9 @@ use Rattle.stages.specs.Answering.{Answers as FrontAnswers}
 use Rattle.stages.specs.declared.scalars.Scalars.{Scalars}
 use Rattle.front.specs.declared.turning.Turn.{Turn}
 use Rattle.stages.specs.declared.answering.Told.{Told as FrontTold}
-use Rattle.device.specs.Tame.{Tames}
-use Rattle.device.specs.Views.{worldIn, Ends, stageWaits, withRegisters, droppedWith, newNumbers, noneHanded}
+use Rattle.shell.specs.Tame.{Tames}
+use Rattle.device.specs.Views.{worldIn, noneHanded}
+use Rattle.shell.specs.Views.{Ends, stageWaits, withRegisters, droppedWith, newNumbers}
 use Rattle.device.specs.Reads.{write-none, write-kept, write-reset, read-none, read-value, record-unasked, record-past, record-there}
 use Rattle.device.specs.Runs.{run-refused, run-done, answer-refused, answer-unasked, answer-done, is-made}
 use Rattle.device.specs.declared.Handed.{Handed}

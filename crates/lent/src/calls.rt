@@ -1,13 +1,7 @@
 // The calls over lent state, by the core that Device's methods use. A refused call writes no word.
 use device::Handed;
 use device::Read;
-use device::awaits;
-use device::dropped;
-use device::ended_of;
-use device::new_numbers;
 use device::none_handed;
-use device::tame::tame;
-use device::with_registers;
 use flat::reading::registers_in;
 use flat::reading::scalars_in;
 use flat::storing::store;
@@ -20,6 +14,12 @@ use rules::numbers::DONE;
 use rules::numbers::NO_REGISTER;
 use rules::numbers::NOTHING_WAITS;
 use rules::numbers::OTHER_MEMORY;
+use shell::awaits;
+use shell::dropped;
+use shell::ended_of;
+use shell::new_numbers;
+use shell::tame::tame;
+use shell::with_registers;
 ghost use mathlib.Core.Path.{_≡_};
 ghost use mathlib.Core.List.{List};
 ghost use Prim.Native.Nat.{ℕ};

@@ -1,7 +1,7 @@
-use Rattle.device.specs.Runs.{making}
+use Rattle.shell.specs.Laws.{making}
 use borrow.Author.Needs.{needs}
-use Rattle.device.proofs.new_numbers.Statement.{statement}
-use Rattle.device.proofs.new_numbers.Tie as tie
+use Rattle.shell.proofs.new_numbers.Statement.{statement}
+use Rattle.shell.proofs.new_numbers.Tie as tie
 
 zero-registers-requires : tie.Need-zero-registers-requires
 zero-registers-requires c κs = search needs

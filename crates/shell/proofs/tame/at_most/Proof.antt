@@ -1,6 +1,6 @@
-use Rattle.device.specs.Tame.{bounding}
-use Rattle.device.proofs.tame.at_most.Statement.{statement}
-use Rattle.device.proofs.tame.at_most.Tie as tie
+use Rattle.shell.specs.Tame.{bounding}
+use Rattle.shell.proofs.tame.at_most.Statement.{statement}
+use Rattle.shell.proofs.tame.at_most.Tie as tie
 
 returns : tie.Need-returns
 returns c = search bounding

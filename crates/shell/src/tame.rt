@@ -5,7 +5,7 @@ use stages::scalars::Scalars;
 ghost use mathlib.Core.Path.{_≡_};
 ghost use Prim.Native.Nat.{_≤_};
 ghost use Rattle.rules.specs.Numbers.{most};
-ghost use Rattle.device.specs.Tame.{least, Tames};
+ghost use Rattle.shell.specs.Tame.{least, Tames};
 
 fn at_most(n: usize) -> usize
     ensures { λ r. ⌜ (r ≡ least n) × (r ≤ most) ⌝ }

@@ -1,7 +1,7 @@
-use Rattle.device.specs.Tame.{taming}
+use Rattle.shell.specs.Tame.{taming}
 use borrow.Author.Needs.{needs}
-use Rattle.device.proofs.tame.tame.Statement.{statement}
-use Rattle.device.proofs.tame.tame.Tie as tie
+use Rattle.shell.proofs.tame.tame.Statement.{statement}
+use Rattle.shell.proofs.tame.tame.Tie as tie
 
 at-most-requires : tie.Need-at-most-requires
 at-most-requires c κs = search needs

@@ -1,7 +1,7 @@
-use Rattle.device.specs.Runs.{ending-up}
+use Rattle.shell.specs.Laws.{ending-up}
 use borrow.Author.Needs.{needs}
-use Rattle.device.proofs.ended_of.Statement.{statement}
-use Rattle.device.proofs.ended_of.Tie as tie
+use Rattle.shell.proofs.ended_of.Statement.{statement}
+use Rattle.shell.proofs.ended_of.Tie as tie
 
 enum-told : tie.Need-enum-told
 enum-told c = search needs

@@ -1,0 +1,3 @@
+pub mod Tame
+pub mod Views
+pub mod Laws
