@@ -3,22 +3,12 @@
 use crate::said::number_of;
 use crate::said::say;
 use crate::said::say_record;
+use words::widths::place;
+use words::widths::wide;
 ghost use mathlib.Core.Path.{_≡_};
 ghost use Rattle.flat.specs.Views.{setIn};
 ghost use Rattle.lent.specs.Calls.{Makes, Writes, Answers};
 ghost use Rattle.desk.specs.Said.{SaysValue, SaysRun, SaysRecord};
-
-fn length_of(x: u64) -> usize
-    ensures { λ r. ⌜ r ≡ x ⌝ }
-{
-    x as usize
-}
-
-fn wide(x: u32) -> u64
-    ensures { λ r. ⌜ r ≡ x ⌝ }
-{
-    x as u64
-}
 
 fn count_of(x: u16) -> u64
     ensures { λ r. ⌜ r ≡ x ⌝ }
@@ -37,7 +27,7 @@ fn is_set(x: u32) -> bool
 pub extern "C" fn zelezmut_make(scalars: &mut [u64; 32], memory: u64)
     ensures { λ _. ⌜ Makes memory (now (scalars .exit)) ⌝ }
 {
-    lent::calls::make(scalars, length_of(memory));
+    lent::calls::make(scalars, place(memory));
 }
 
 // Writes a register: the call's answer.

@@ -1,15 +1,10 @@
 // The five words in which a call says its values. What a call does not have is 0.
 use rules::Ended;
 use rules::Record;
+use words::widths::wide;
 ghost use mathlib.Core.Path.{_≡_};
 ghost use Rattle.rules.specs.Calls.{ended-number};
 ghost use Rattle.desk.specs.Said.{five, recordWords};
-
-fn wide(x: u32) -> u64
-    ensures { λ r. ⌜ r ≡ x ⌝ }
-{
-    x as u64
-}
 
 // Idle 0, waiting 1, paused 2.
 pub fn number_of(ended: Ended) -> u64

@@ -19,6 +19,7 @@ use shell::tame::tame;
 use shell::with_registers;
 use stages::answering::answer;
 use stages::scalars::Scalars;
+use words::widths::index;
 ghost use mathlib.Core.Path.{_≡_};
 ghost use Rattle.rules.specs.State.{made};
 ghost use Rattle.rules.specs.Calls.{call-write, call-read, call-run, call-record, call-answer};
@@ -57,12 +58,6 @@ pub struct Handed {
 pub struct Told {
     pub answer: u32,
     pub device: Device,
-}
-
-fn place(x: u32) -> usize
-    ensures { λ r. ⌜ r ≡ x ⌝ }
-{
-    x as usize
 }
 
 // No record: every value beside the refusal is zero.
@@ -167,7 +162,7 @@ impl Device {
         let records = self.records;
         let stage = s.stage;
         let n = s.counts;
-        let at = place(i);
+        let at = index(i);
         if !awaits(stage) {
             return none_handed();
         }

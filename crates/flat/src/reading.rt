@@ -9,6 +9,7 @@ use stages::scalars::Counts;
 use stages::scalars::Scalars;
 use stages::scalars::Stage;
 use words::low32;
+use words::widths::place;
 ghost use mathlib.Core.Path.{_≡_};
 ghost use Rattle.flat.specs.Views.{setIn, registersIn, jobIn, tableIn, streamIn, stageIn, countsIn, scalarsIn};
 
@@ -16,12 +17,6 @@ fn is_set(x: u64) -> bool
     ensures { λ r. ⌜ r ≡ setIn x ⌝ }
 {
     if x == 0 { false } else { true }
-}
-
-fn place(x: u64) -> usize
-    ensures { λ r. ⌜ r ≡ x ⌝ }
-{
-    x as usize
 }
 
 pub fn registers_in(s: &[u64; 32]) -> Registers

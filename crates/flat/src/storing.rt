@@ -1,6 +1,8 @@
 // A device's numbers into the words that are lent: read again, they are the same numbers.
 use stages::scalars::Scalars;
 use stages::scalars::Stage;
+use words::widths::long;
+use words::widths::wide;
 ghost use mathlib.Core.Path.{_≡_};
 ghost use Prim.Native.Nat.{_<_};
 ghost use Rattle.flat.specs.Views.{flagOf, stageOf, scalarsIn};
@@ -24,18 +26,6 @@ fn flag(b: bool) -> u64
     ensures { λ r. ⌜ r ≡ flagOf b ⌝ }
 {
     if b { 1 } else { 0 }
-}
-
-fn wide(x: u32) -> u64
-    ensures { λ r. ⌜ (r ≡ x) × (r < 4294967296) ⌝ }
-{
-    x as u64
-}
-
-fn long(x: usize) -> u64
-    ensures { λ r. ⌜ r ≡ x ⌝ }
-{
-    x as u64
 }
 
 fn flat_of(stage: Stage) -> Flat

@@ -13,6 +13,8 @@ use stages::landing::land_packets;
 use stages::landing::open_ring;
 use stages::scalars::Scalars;
 use stages::scalars::Stage;
+use words::widths::index;
+use words::widths::place;
 ghost use mathlib.Core.Path.{_≡_};
 ghost use Prim.Native.Nat.{_≤_, _<_};
 ghost use lib.ListN.{length};
@@ -27,25 +29,13 @@ pub struct Turn {
     pub units: u16,
 }
 
-fn place(x: u64) -> usize
-    ensures { λ r. ⌜ r ≡ x ⌝ }
-{
-    x as usize
-}
-
-fn size_of(x: u32) -> usize
-    ensures { λ r. ⌜ r ≡ x ⌝ }
-{
-    x as usize
-}
-
 // The stream's own part of the memory lent now.
 fn stream_part(mem: &[u8], s: Stream) -> &[u8]
     ensures { λ r. ⌜ now r ≡ stream-bytes (now (mem .entry)) s ⌝ }
 {
     let end = mem.len();
     let from = place(s.gpa);
-    let size = size_of(s.size);
+    let size = index(s.size);
     if from > end {
         return &mem[end..end];
     }
@@ -73,7 +63,7 @@ fn play(
     let part = stream_part(mem, stream);
     read_packets(
         part,
-        size_of(stream.size),
+        index(stream.size),
         entries,
         n,
         held,

@@ -20,6 +20,7 @@ use shell::ended_of;
 use shell::new_numbers;
 use shell::tame::tame;
 use shell::with_registers;
+use words::widths::index;
 ghost use mathlib.Core.Path.{_≡_};
 ghost use mathlib.Core.List.{List};
 ghost use Prim.Native.Nat.{ℕ};
@@ -30,12 +31,6 @@ pub struct Spent {
     pub answer: u32,
     pub units: u16,
     pub ended: Ended,
-}
-
-fn place(x: u32) -> usize
-    ensures { λ r. ⌜ r ≡ x ⌝ }
-{
-    x as usize
 }
 
 // Makes a device for a memory of so many bytes. Its tables may hold anything.
@@ -123,7 +118,7 @@ pub fn record(s: &[u64; 32], records: &[u64; 320], i: u32) -> Handed
     let x = tame(given);
     let stage = x.stage;
     let n = x.counts;
-    let at = place(i);
+    let at = index(i);
     if !awaits(stage) {
         return none_handed();
     }

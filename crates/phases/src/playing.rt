@@ -7,6 +7,7 @@ use rules::Frame;
 use rules::Verdict;
 use stream::framing::frame_at;
 use stream::framing::packet_at;
+use words::widths::index;
 ghost use mathlib.Core.Path.{_≡_};
 ghost use Prim.Native.Nat.{_+_, _≤_, _^_, _<_};
 ghost use Rattle.ranges.specs.Views.{Room};
@@ -23,12 +24,6 @@ pub struct PacketsPlace {
 pub struct PacketsRun {
     pub place: PacketsPlace,
     pub units: u16,
-}
-
-fn size_of(x: u32) -> usize
-    ensures { λ r. ⌜ r ≡ x ⌝ }
-{
-    x as usize
 }
 
 // The place after a packet of the stream: the next one, the end, or where it was refused.
@@ -86,7 +81,7 @@ fn step_packet(
         Frame::Whole(op, size) => {
             let packet = packet_at(stream, at, op, size);
             let a = apply_packet(entries, n, rooms, p.live, records, p.made, packet);
-            place_after(at, at + size_of(size), end, a)
+            place_after(at, at + index(size), end, a)
         }
     }
 }

@@ -22,7 +22,7 @@ use Rattle.rules.specs.declared.Job.{Job}
 use Rattle.rules.specs.declared.Opened.{Opened}
 use Rattle.rules.specs.declared.Refusal.{Refusal}
 use Rattle.rules.specs.declared.Verdict.the-variants.{Fine, Broken}
-use Rattle.rules.specs.declared.Opening.the-variants.{Started}
+use Rattle.rules.specs.declared.Opening.the-variants.{Refused, Started}
 
 module _ (w : World) (o : Opened) (opened : opening-of (w .mem) (w .state .regs .ring) (w .state .regs .ringsize) ≡ Started o) where
   -- the unsliced rules' word on what was opened
@@ -66,6 +66,22 @@ module _ (w : World) (o : Opened) (opened : opening-of (w .mem) (w .state .regs 
     pub refused-hands-out-nothing : (i : ℕ) → call-record (submitted w .state .state) i ≡ record { answer = no-record; range = no-range }
     unfolding settled call-record nth
     refused-hands-out-nothing i = ap (λ (x : World). call-record (x .state) i) refused-settles
+
+-- ---- a submission that its opening refuses
+
+module _ (w : World) (j : Job) (r : Refusal) (opened : opening-of (w .mem) (w .state .regs .ring) (w .state .regs .ringsize) ≡ Refused j r) where
+  -- settled with that rule, after one unit
+  pub refused-at-opening : submitted w ≡ record { state = settled-keeping j (Broken r) w; units = 1 }
+  unfolding submitted
+  refused-at-opening = ap (submitted-on w) opened
+
+  pub opening-refusal-keeps-resources : submitted w .state .state .resources ≡ w .state .resources
+  unfolding settled
+  opening-refusal-keeps-resources = ap (λ (x : Out World). x .state .state .resources) refused-at-opening
+
+  pub opening-refusal-hands-out-nothing : (i : ℕ) → call-record (submitted w .state .state) i ≡ record { answer = no-record; range = no-range }
+  unfolding settled call-record nth
+  opening-refusal-hands-out-nothing i = ap (λ (x : Out World). call-record (x .state .state) i) refused-at-opening
 
 -- ---- the host's answers, of a device that waits
 

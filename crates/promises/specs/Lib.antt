@@ -4,8 +4,11 @@ pub mod Submission
 pub mod Slices
 pub mod Sound
 pub mod Fences
+pub mod Writes
 pub mod Refused
 pub mod Memory
+pub mod InMemory
+pub mod AnyRegisters
 pub mod Night
 pub mod OnDevice
 pub mod Examples

@@ -1,20 +1,18 @@
 -- Demand 1: a refused call gives its number and changes no state and no byte; every call keeps the device sound. Assumes nothing.
 use mathlib.Core.Path.{_≡_, refl}
 use mathlib.Core.Bool.{Bool, true, false}
-use mathlib.Core.List.{List, [], _∷_}
-use Prim.Native.Nat.{ℕ, _≤_}
-use native.Mathlib.Omega.{arith}
-use lib.Dec.{eqb}
+use Prim.Native.Nat.{ℕ}
 use Rattle.machine.specs.Machine.{pick}
 use Rattle.rules.specs.Numbers.{done, other-memory, nothing-waits}
-use Rattle.rules.specs.Lists.{Found, lookup}
+use Rattle.rules.specs.Lists.{Found}
 use Rattle.rules.specs.Lists.Found.{none, found}
-use Rattle.rules.specs.State.{State, World, with-regs}
-use Rattle.rules.specs.Registers.{Write, with-enabled, bit-of, reset, controlled, writable, write-offset, write-of}
+use Rattle.rules.specs.State.{State, World}
+use Rattle.rules.specs.Registers.{Write, write-of}
 use Rattle.rules.specs.Steps.{run-for, waits, answered}
 use Rattle.rules.specs.Calls.{lent-another, wrote, call-write, ran, call-run, Told, call-answer}
 use Rattle.rules.specs.declared.Ended.the-variants.{Idle}
-use Rattle.packets.specs.Held.{Every}
+use Rattle.promises.specs.Writes.{Written, write-keeps-or-drops}
+use Rattle.promises.specs.Writes.Written.{keeps, drops}
 use Rattle.promises.specs.Sound.{SoundState, run-keeps-sound, answer-keeps-sound, made-sound}
 
 -- ---- refused calls
@@ -70,59 +68,9 @@ answer-call-keeps-sound w good s = by-tests (lent-another w) (waits (w .state))
     by-tests false false = s
 
 -- a write keeps it: it changes registers alone, or drops everything
-controlled-sound : (v : ℕ) (s : State) → SoundState s → SoundState (controlled v s)
-unfolding controlled reset
-controlled-sound v s k = by-bit (bit-of 1 v)
-  where
-    by-bit : (b : Bool) → SoundState (pick b (reset (bit-of 0 v) s) (with-regs (with-enabled (bit-of 0 v) (s .regs)) s))
-    by-bit true = record { resources = made-sound 0 .resources; work = made-sound 0 .work }
-    by-bit false = record { resources = k .resources; work = k .work }
-
-abbrev SoundFound : Found Write → Type 0
-SoundFound none = 0 ≤ 0
-SoundFound (found x) = SoundState (x .state)
-
-lookup-sound : (offset : ℕ) (ws : List Write) → Every (λ (x : Write). SoundState (x .state)) ws → SoundFound (lookup write-offset offset ws)
-unfolding lookup Every
-lookup-sound offset [] h = omega arith
-lookup-sound offset (x ∷ xs) h = by-test (eqb (x .offset) offset) (lookup-sound offset xs (h .1))
-  where
-    by-test : (b : Bool) → SoundFound (lookup write-offset offset xs) → SoundFound (pick b (found x) (lookup write-offset offset xs))
-    by-test true k = h .0
-    by-test false k = k
-
-writes-sound : (s : State) (v : ℕ) → SoundState s → Every (λ (x : Write). SoundState (x .state)) (writable s v)
-unfolding Every
-writes-sound s v k = (
-  record { resources = k .resources; work = k .work },
-  (
-    record { resources = k .resources; work = k .work },
-    (
-      record { resources = k .resources; work = k .work },
-      (
-        controlled-sound v s k,
-        (
-          record { resources = k .resources; work = k .work },
-          (
-            record { resources = k .resources; work = k .work },
-            (
-              record { resources = k .resources; work = k .work },
-              (
-                record { resources = k .resources; work = k .work },
-                (record { resources = k .resources; work = k .work }, omega arith),
-              ),
-            ),
-          ),
-        ),
-      ),
-    ),
-  ),
-)
-
-wrote-sound : (s : State) (f : Found Write) → SoundState s → SoundFound f → SoundState (wrote s f .state)
-wrote-sound s none k h = k
-wrote-sound s (found x) k h = h
+written-sound : (s s′ : State) (offset v : ℕ) → SoundState s → Written s offset v s′ → SoundState s′
+written-sound s s′ offset v k (keeps r) = record { resources = k .resources; work = k .work }
+written-sound s s′ offset v k (drops r h) = record { resources = made-sound 0 .resources; work = made-sound 0 .work }
 
 pub write-call-keeps-sound : (s : State) (offset v : ℕ) → SoundState s → SoundState (call-write s offset v .state)
-unfolding call-write write-of
-write-call-keeps-sound s offset v k = wrote-sound s (write-of s offset v) k (lookup-sound offset (writable s v) (writes-sound s v k))
+write-call-keeps-sound s offset v k = written-sound s (call-write s offset v .state) offset v k (write-keeps-or-drops s offset v)

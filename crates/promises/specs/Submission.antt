@@ -1,6 +1,6 @@
 -- Demand 2, whole: from its opening on, over still memory, a submission's steps end where the unsliced rules end, after their
 -- count of units. Assumes nothing.
-use mathlib.Core.Path.{_≡_, refl, ap, subst, _∙_}
+use mathlib.Core.Path.{_≡_, refl, sym, ap, subst, _∙_}
 use mathlib.Core.Bool.{Bool, true, false, not}
 use mathlib.Core.List.{List, []}
 use Prim.Native.Nat.{ℕ, zero, suc, _+_, _-_, _*_, _≤_, _<_}
@@ -15,7 +15,7 @@ use Rattle.machine.specs.Machine.{pick, Out, spent, run-go, sliced}
 use Rattle.rules.specs.Numbers.{most, bad-table, bad-stream, too-many, outside-memory, table-magic, stream-magic}
 use Rattle.rules.specs.Judging.{rule, only}
 use Rattle.rules.specs.Layouts.{good-version, ring-header, descriptor, table-header, table-header-size, entry-size, stream-header, stream-header-size}
-use Rattle.rules.specs.Table.{header-rules, in-reach, entries-of, judge-entries}
+use Rattle.rules.specs.Table.{Judged, header-rules, in-reach, entries-of, judge-entries}
 use Rattle.rules.specs.Stream.{stream-rules, stream-bytes, packets-of}
 use Rattle.rules.specs.Ring.{present, descriptor-rules, range-rules, submission-rules, opened-of, concluded, job-of, slot-place, submission-opening, good-ring, ring-opening, opening-of}
 use Rattle.rules.specs.Packets.{Holdings, at-first}
@@ -189,12 +189,24 @@ submits-more n w w′ v g s c = record { ends = run-go go step n w g ∙ rw (s, 
     at zero z h = absurd (omega arith)
     at (suc i) z h = rw (run-go go step i w g, s) (c .inside i (omega arith))
 
-module _ (w : World) (on : w .state .regs .enabled ≡ true) (g : go w ≡ true) (o : Opened) (lies : Lies (w .mem) o) (st : step w ≡ reading w on o []) where
-  abbrev all : List Entry
+-- the units after the opening, of entries and then of packets
+abbrev pub later-units : Verdict → ℕ → ℕ → ℕ
+later-units Fine entries packets = entries + packets
+later-units (Broken r) entries packets = entries
+
+module _ (w : World) (on : w .state .regs .enabled ≡ true) (o : Opened) (lies : Lies (w .mem) o) where
+  abbrev pub all : List Entry
   all = entries-of (w .mem) (o .table)
 
-  abbrev first : Holdings
+  abbrev pub first : Holdings
   first = at-first (w .state .resources)
+
+  -- what the table and the packets are judged to be
+  abbrev pub table-judged : Judged
+  table-judged = judge-entries (length (w .mem)) [] all
+
+  abbrev pub packets-judged : Reckoned
+  packets-judged = judge-packets all first (packets-of (w .mem) (o .stream))
 
   stream-is : (v : Verdict) (h : Holdings) → after-stream w on (o .job) (o .stream) all (lies .stream) v h ≡ finished w (o .job) all h v
   stream-is Fine h = refl
@@ -202,24 +214,38 @@ module _ (w : World) (on : w .state .regs .enabled ≡ true) (g : go w ≡ true)
 
   by-table : (v : Verdict) (c : ℕ) (p : Reckoned) → Course c (reading w on o []) (after-table w on o v all)
       → Course (p .count) (placed w on (o .job) (o .stream) all (lies .stream) stream-header-size first) (after-stream w on (o .job) (o .stream) all (lies .stream) (p .verdict) (p .held))
-      → Submits w (concluding w (o .job) all (after-entries v c first p))
+      → Course (later-units v c (p .count)) (reading w on o []) (finished w (o .job) all (after-entries v c first p .held) (after-entries v c first p .verdict))
   by-table Fine c p t q =
-      subst (λ (x : World). Submits w (record { state = x; units = suc (c + p .count) })) (stream-is (p .verdict) (p .held))
-      (submits-more (c + p .count) w (reading w on o []) _ g st (course-join c (p .count) _ _ _ t q))
-  by-table (Broken r) c p t q = submits-more c w (reading w on o []) _ g st t
+      subst (λ (x : World). Course (c + p .count) (reading w on o []) x) (stream-is (p .verdict) (p .held)) (course-join c (p .count) _ _ _ t q)
+  by-table (Broken r) c p t q = t
 
-  whole-started : Submits w (concluding w (o .job) all (submission (w .mem) o first))
+  -- from the first entry on
+  pub course-started : Course (later-units (table-judged .verdict) (table-judged .count) (packets-judged .count)) (reading w on o [])
+      (finished w (o .job) all (submission (w .mem) o first .held) (submission (w .mem) o first .verdict))
   unfolding submission
-  whole-started =
-      by-table (judge-entries (length (w .mem)) [] all .verdict) (judge-entries (length (w .mem)) [] all .count) (judge-packets all first (packets-of (w .mem) (o .stream)))
-      (entries-end w on o (lies .reach) (o .table .count) 0 [] refl (omega arith))
+  course-started =
+      by-table (table-judged .verdict) (table-judged .count) packets-judged (entries-end w on o (lies .reach) (o .table .count) 0 [] refl (omega arith))
       (packets-end w on (o .job) (o .stream) all (lies .stream) (o .stream .size) stream-header-size first (omega arith))
+
+  -- the opening's unit, and those
+  pub submission-units : submission (w .mem) o first .units ≡ suc (later-units (table-judged .verdict) (table-judged .count) (packets-judged .count))
+  unfolding submission
+  submission-units = by-verdict (table-judged .verdict)
+    where
+      by-verdict : (v : Verdict) → after-entries v (table-judged .count) first packets-judged .units ≡ suc (later-units v (table-judged .count) (packets-judged .count))
+      by-verdict Fine = refl
+      by-verdict (Broken r) = refl
+
+  whole-started : go w ≡ true → step w ≡ reading w on o [] → Submits w (concluding w (o .job) all (submission (w .mem) o first))
+  whole-started g st =
+      subst (λ n. Submits w (record { state = finished w (o .job) all (submission (w .mem) o first .held) (submission (w .mem) o first .verdict); units = n })) (sym submission-units)
+      (submits-more _ w (reading w on o []) _ g st course-started)
 
 whole-at : (w : World) (v : Opening) → w .state .regs .enabled ≡ true → go w ≡ true → LiesOn (w .mem) v → step w ≡ after-opening w v → Submits w (submitted-on w v)
 whole-at w BadRing on g h e = submits-more 0 w _ _ g e (course-none _)
 whole-at w NoWork on g h e = submits-more 0 w _ _ g e (course-none _)
 whole-at w (Refused j r) on g h e = submits-more 0 w _ _ g e (course-none _)
-whole-at w (Started o) on g h e = whole-started w on g o h e
+whole-at w (Started o) on g h e = whole-started w on o h g e
 
 -- a submission from its opening: the units of the unsliced rules give their result, and it is in the midst until then
 pub submits : (w : World) → w .state .work ≡ resting → go w ≡ true → Submits w (submitted w)

@@ -12,6 +12,7 @@ use rules::Registers;
 use rules::numbers::DEVICE_MAGIC;
 use rules::numbers::FEATURES;
 use rules::numbers::VERSION;
+use words::widths::wide;
 
 // A number of eight bytes is read and written by halves of four.
 const HALF: u64 = 4294967296;
@@ -30,12 +31,6 @@ pub enum Written {
 }
 
 // ---- halves and bits
-
-fn wide(x: u32) -> u64
-    ensures { λ r. ⌜ r ≡ x ⌝ }
-{
-    x as u64
-}
 
 fn high(x: u64) -> u32
     ensures { λ r. ⌜ r ≡ highOf x ⌝ }

@@ -18,23 +18,13 @@ use rules::Verdict;
 use rules::numbers::RING_HEADER_SIZE;
 use stream::header::Begun;
 use table::header::Headed;
+use words::widths::long;
+use words::widths::place;
 ghost use mathlib.Core.Path.{_≡_};
 ghost use Prim.Native.Nat.{_+_, _≤_, _<_};
 ghost use lib.ListN.{length};
 ghost use Rattle.rules.specs.Ring.{submission-opening, ring-opening, opening-of};
 ghost use Rattle.ring.specs.Opening.{Inside, tableOf, streamOf, RangesInside, rangesOf, SlotInside};
-
-fn place(x: u64) -> usize
-    ensures { λ r. ⌜ r ≡ x ⌝ }
-{
-    x as usize
-}
-
-fn long(x: usize) -> u64
-    ensures { λ r. ⌜ (r ≡ x) × (r < 18446744073709551616) ⌝ }
-{
-    x as u64
-}
 
 // 13 and 19, where a table is present.
 fn open_table(mem: &[u8], gpa: u64, size: u32) -> Headed

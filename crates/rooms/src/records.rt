@@ -1,5 +1,6 @@
 // A record as a row of five words: kind, handle, id, GPA, length.
 use rules::Record;
+use words::widths::wide;
 ghost use mathlib.Core.Path.{_≡_};
 ghost use Prim.Native.Nat.{_+_, _≤_, _<_};
 ghost use Rattle.rules.specs.Numbers.{most};
@@ -9,13 +10,6 @@ ghost use Rattle.rooms.specs.Views.{recordOf, recordsOf};
 
 // The words of a record.
 pub const WORDS: usize = 5;
-
-// A small number in a word, known to be one of four bytes.
-fn wide(x: u32) -> u64
-    ensures { λ r. ⌜ (r ≡ x) × (r < 4294967296) ⌝ }
-{
-    x as u64
-}
 
 // The record of row i.
 pub fn record_row(records: &[u64; 320], i: usize) -> Record

@@ -3,6 +3,7 @@
 use rules::Kind;
 use rules::Resource;
 use rules::Shape;
+use words::widths::wide;
 ghost use mathlib.Core.Path.{_≡_};
 ghost use Prim.Native.Nat.{_+_, _-_, _≤_, _<_};
 ghost use Rattle.rules.specs.Numbers.{most};
@@ -17,13 +18,6 @@ pub const WORDS: usize = 10;
 const BUFFER: u64 = 0;
 
 const TEXTURE: u64 = 1;
-
-// A small number in a word, known to be one of four bytes.
-fn wide(x: u32) -> u64
-    ensures { λ r. ⌜ (r ≡ x) × (r < 4294967296) ⌝ }
-{
-    x as u64
-}
 
 // What the resource of a row is.
 fn kind_at(rooms: &[u64; 640], b: usize) -> Kind

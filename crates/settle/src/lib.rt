@@ -12,6 +12,7 @@ use rules::Registers;
 use rules::Verdict;
 use rules::numbers::PAGE_MAGIC;
 use rules::numbers::VERSION;
+use words::widths::place;
 
 // Where the head stands in a ring's header, and where it ends.
 const HEAD_OFFSET: usize = 24;
@@ -22,13 +23,6 @@ const PAGE_SIZE: usize = 16;
 
 // The count of errors stops here.
 const MOST_ERRORS: u32 = 4294967295;
-
-// An address as an index into memory.
-fn place(gpa: u64) -> usize
-    ensures { λ r. ⌜ r ≡ gpa ⌝ }
-{
-    gpa as usize
-}
 
 // ---- registers
 

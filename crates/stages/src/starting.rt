@@ -7,6 +7,7 @@ use rooms::resources::copy_resources;
 use rules::Job;
 use rules::Opened;
 use rules::Stream;
+use words::widths::index;
 ghost use mathlib.Core.Path.{_≡_};
 ghost use Prim.Native.Nat.{_≤_};
 ghost use Rattle.rules.specs.Numbers.{most};
@@ -15,17 +16,11 @@ ghost use Rattle.stages.specs.Starting.{packetsStage, Begins, Starts};
 
 const FIRST_PACKET: u32 = 24;
 
-fn place(x: u32) -> usize
-    ensures { λ r. ⌜ r ≡ x ⌝ }
-{
-    x as usize
-}
-
 // The next packet, if one is left.
 pub fn packets_stage(job: Job, stream: Stream, at: usize) -> Stage
     ensures { λ r. ⌜ r ≡ packetsStage job stream at ⌝ }
 {
-    if at < place(stream.size) {
+    if at < index(stream.size) {
         return Stage::Packets(job, stream, at);
     }
     Stage::Waiting(job)
@@ -46,7 +41,7 @@ pub fn begin_packets(
     let n = s.counts;
     let live = n.rooms;
     copy_resources(rooms, held, live);
-    let stage = packets_stage(job, stream, place(FIRST_PACKET));
+    let stage = packets_stage(job, stream, index(FIRST_PACKET));
     let regs = s.regs;
     let counts = Counts {
         entries: kept,

@@ -17,14 +17,9 @@ use rules::numbers::CREATE_TEXTURE;
 use rules::numbers::DESTROY;
 use rules::numbers::DIRTY_RANGE;
 use words::u32_at;
+use words::widths::index;
 
 const PACKET_HEADER_SIZE: usize = 8;
-
-fn place(x: u32) -> usize
-    ensures { λ r. ⌜ r ≡ x ⌝ }
-{
-    x as usize
-}
 
 // The size that the table of opcodes gives; 0 for an opcode that we do not know.
 fn known_size(op: u32) -> u32
@@ -55,7 +50,7 @@ fn wrong_size(op: u32, size: u32) -> bool
 fn frame_by(left: usize, op: u32, size: u32) -> Frame
     ensures { λ r. ⌜ r ≡ frame-by left op size ⌝ }
 {
-    let room = place(size);
+    let room = index(size);
     if room < PACKET_HEADER_SIZE {
         return Frame::Misframed(Refusal { code: BAD_PACKET });
     }
@@ -102,5 +97,5 @@ pub fn packet_at(stream: &[u8], at: usize, op: u32, size: u32) -> Packet
     requires { ⌜ frame-of (drop at (now stream)) ≡ Whole op size ⌝ }
     ensures { λ r. ⌜ r ≡ packet-of op (take size (drop at (now (stream .entry)))) ⌝ }
 {
-    packet_from(op, packet_part(stream, at, place(size)))
+    packet_from(op, packet_part(stream, at, index(size)))
 }

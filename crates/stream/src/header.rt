@@ -13,6 +13,8 @@ use rules::Verdict;
 use rules::numbers::BAD_STREAM;
 use rules::numbers::STREAM_MAGIC;
 use words::u32_at;
+use words::widths::long;
+use words::widths::wide;
 
 const STREAM_HEADER_SIZE: u64 = 24;
 
@@ -20,18 +22,6 @@ const STREAM_HEADER_SIZE: u64 = 24;
 pub enum Begun {
     Good(Stream),
     Bad(Refusal),
-}
-
-fn wide(x: u32) -> u64
-    ensures { λ r. ⌜ r ≡ x ⌝ }
-{
-    x as u64
-}
-
-fn place(x: usize) -> u64
-    ensures { λ r. ⌜ r ≡ x ⌝ }
-{
-    x as u64
 }
 
 // The header's fields, each read once.
@@ -78,7 +68,7 @@ pub fn check_header(mem: &[u8], at: usize, cmdsize: u64) -> Begun
         return Begun::Bad(Refusal { code: BAD_STREAM });
     }
     let h = header_at(mem, at);
-    let gpa = place(at);
+    let gpa = long(at);
     let size = h.size;
     match header_verdict(cmdsize, h) {
         Verdict::Fine => Begun::Good(Stream { gpa, size }),

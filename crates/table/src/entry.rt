@@ -9,6 +9,7 @@ use rules::Verdict;
 use rules::numbers::BAD_ENTRY;
 use rules::numbers::MOST;
 use rules::numbers::TWICE_IN_TABLE;
+use words::widths::wide;
 ghost use mathlib.Core.Path.{_≡_};
 ghost use Prim.Native.Nat.{_+_, _-_, _≤_, _<_};
 ghost use lib.ListN.{length};
@@ -100,13 +101,6 @@ pub fn judge_entry(memory: u64, e: Entry, kept: &[u64; 256], n: usize) -> Verdic
         });
     }
     Verdict::Fine
-}
-
-// A field of four bytes as a word of eight, known to be small.
-fn wide(x: u32) -> u64
-    ensures { λ r. ⌜ (r ≡ x) × (r < 4294967296) ⌝ }
-{
-    x as u64
 }
 
 // Keeps an entry after `n` others.

@@ -1,5 +1,8 @@
 // Little-endian words in a slice of bytes, and rows of words in a flat list: what every other
 // crate reads, writes and finds its numbers with.
+pub mod widths;
+
+use widths::wide;
 ghost use mathlib.Core.Path.{_≡_};
 ghost use Prim.Native.Nat.{_+_, _*_, _/_, _%_, _≤_, _<_};
 ghost use lib.ListN.{length, take};
@@ -12,13 +15,6 @@ fn wide32(b: u8) -> u32
     ensures { λ r. ⌜ (r ≡ b) × (r < 256) ⌝ }
 {
     b as u32
-}
-
-// The same of a word of four bytes.
-fn wide64(w: u32) -> u64
-    ensures { λ r. ⌜ (r ≡ w) × (r < 4294967296) ⌝ }
-{
-    w as u64
 }
 
 // The lowest byte of a word.
@@ -51,7 +47,7 @@ pub fn u64_at(mem: &[u8], at: usize) -> u64
     requires { ⌜ at + 8 ≤ length (now mem) ⌝ }
     ensures { λ r. ⌜ r ≡ field 8 (now (mem .entry)) at ⌝ }
 {
-    wide64(u32_at(mem, at)) | (wide64(u32_at(mem, at + 4)) << 32)
+    wide(u32_at(mem, at)) | (wide(u32_at(mem, at + 4)) << 32)
 }
 
 // Writes a word of four bytes to the front of `part`: one store.

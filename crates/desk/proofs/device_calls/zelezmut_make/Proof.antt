@@ -3,8 +3,8 @@ use borrow.Author.Needs.{needs}
 use Rattle.desk.proofs.device_calls.zelezmut_make.Statement.{statement}
 use Rattle.desk.proofs.device_calls.zelezmut_make.Tie as tie
 
-length-of-requires : tie.Need-length-of-requires
-length-of-requires c κs = search needs
+place-requires : tie.Need-place-requires
+place-requires c κs = search needs
 
 make-requires : tie.Need-make-requires
 make-requires c κs = search needs
@@ -13,4 +13,4 @@ returns : tie.Need-returns
 returns c = search telling
 
 pub zelezmut-make-spec : {M : Type 1} → statement M
-zelezmut-make-spec = tie.close (tie.spec length-of-requires make-requires returns)
+zelezmut-make-spec = tie.close (tie.spec place-requires make-requires returns)

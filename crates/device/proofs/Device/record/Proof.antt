@@ -6,8 +6,8 @@ use Rattle.device.proofs.Device.record.Tie as tie
 tame-requires : tie.Need-tame-requires
 tame-requires c κs = search needs
 
-place-requires : tie.Need-place-requires
-place-requires c κs = search needs
+index-requires : tie.Need-index-requires
+index-requires c κs = search needs
 
 awaits-requires : tie.Need-awaits-requires
 awaits-requires c κs = search needs
@@ -35,7 +35,7 @@ record-spec =
     tie.close
     (tie.spec
     tame-requires
-    place-requires
+    index-requires
     awaits-requires
     none-handed-requires
     returns

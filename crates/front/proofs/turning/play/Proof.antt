@@ -6,8 +6,8 @@ use Rattle.front.proofs.turning.play.Tie as tie
 stream-part-requires : tie.Need-stream-part-requires
 stream-part-requires c κs = search needs
 
-size-of-requires : tie.Need-size-of-requires
-size-of-requires c κs = search needs
+index-requires : tie.Need-index-requires
+index-requires c κs = search needs
 
 read-packets-requires : tie.Need-read-packets-requires
 read-packets-requires c κs = search needs
@@ -17,4 +17,4 @@ returns c = search playing
 
 pub play-spec : {M : Type 1} → statement M
 play-spec =
-    tie.close (tie.spec stream-part-requires size-of-requires read-packets-requires returns)
+    tie.close (tie.spec stream-part-requires index-requires read-packets-requires returns)

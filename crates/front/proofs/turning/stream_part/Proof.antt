@@ -6,8 +6,8 @@ use Rattle.front.proofs.turning.stream_part.Tie as tie
 place-requires : tie.Need-place-requires
 place-requires c κs = search needs
 
-size-of-requires : tie.Need-size-of-requires
-size-of-requires c κs = search needs
+index-requires : tie.Need-index-requires
+index-requires c κs = search needs
 
 sub-result : tie.Need-sub-result
 sub-result c = search needs
@@ -50,7 +50,7 @@ stream-part-spec =
     tie.close
     (tie.spec
     place-requires
-    size-of-requires
+    index-requires
     sub-result
     part-result-start
     part-result-end

@@ -9,8 +9,8 @@ scalars-in-requires c κs = search needs
 tame-requires : tie.Need-tame-requires
 tame-requires c κs = search needs
 
-place-requires : tie.Need-place-requires
-place-requires c κs = search needs
+index-requires : tie.Need-index-requires
+index-requires c κs = search needs
 
 awaits-requires : tie.Need-awaits-requires
 awaits-requires c κs = search needs
@@ -39,7 +39,7 @@ record-spec =
     (tie.spec
     scalars-in-requires
     tame-requires
-    place-requires
+    index-requires
     awaits-requires
     none-handed-requires
     returns

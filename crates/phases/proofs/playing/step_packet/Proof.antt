@@ -18,8 +18,8 @@ packet-at-requires c κs = search stepping-packet
 apply-packet-requires : tie.Need-apply-packet-requires
 apply-packet-requires c κs = search needs
 
-size-of-requires : tie.Need-size-of-requires
-size-of-requires c κs = search needs
+index-requires : tie.Need-index-requires
+index-requires c κs = search needs
 
 add-place-after : tie.Need-add-place-after
 add-place-after c = search stepping-packet
@@ -42,7 +42,7 @@ step-packet-spec =
     enum-known-op
     packet-at-requires
     apply-packet-requires
-    size-of-requires
+    index-requires
     add-place-after
     place-after-requires
     returns

@@ -6,8 +6,8 @@ use Rattle.stages.proofs.starting.begin_packets.Tie as tie
 copy-resources-requires : tie.Need-copy-resources-requires
 copy-resources-requires c κs = search needs
 
-place-requires : tie.Need-place-requires
-place-requires c κs = search needs
+index-requires : tie.Need-index-requires
+index-requires c κs = search needs
 
 packets-stage-requires : tie.Need-packets-stage-requires
 packets-stage-requires c κs = search needs
@@ -17,4 +17,4 @@ returns c = search beginning
 
 pub begin-packets-spec : {M : Type 1} → statement M
 begin-packets-spec =
-    tie.close (tie.spec copy-resources-requires place-requires packets-stage-requires returns)
+    tie.close (tie.spec copy-resources-requires index-requires packets-stage-requires returns)

@@ -1,0 +1,245 @@
+//! What the desks of a run reached. A comparison that meets no rule says nothing, so tests hold these counts to a least number.
+
+use crate::event::{Event, EVENTS};
+use crate::front::{Ended, Front};
+use crate::generator::{Drawn, Target};
+use crate::numbers::error::{HOST_FAILED, RING};
+use crate::player::{Said, Seat};
+use crate::twists::{Aim, Outcome};
+use std::collections::{BTreeMap, BTreeSet};
+use std::fmt;
+use zelezmut::registers::{ERROR_CODE, ERROR_COUNT, IRQ_STATUS};
+
+/// Something that every run of many desks meets.
+#[derive(Clone, Copy, Debug, PartialEq, Eq, PartialOrd, Ord)]
+pub enum Met {
+    /// An error, where the error registers showed it.
+    Error(u32),
+    /// A call, and its answer.
+    Answer(&'static str, u32),
+    /// How a run ended.
+    Ended(&'static str),
+    /// A record of this kind, of a submission that came to wait.
+    Record(u32),
+    /// The IRQ status after an operation.
+    Status(u32),
+    Event(Event),
+}
+
+/// The call answers that there are.
+const ANSWERS: [(&str, u32); 11] = [
+    ("write", 0),
+    ("write", 2),
+    ("read", 0),
+    ("read", 2),
+    ("run", 0),
+    ("run", 1),
+    ("record", 0),
+    ("record", 4),
+    ("answer", 0),
+    ("answer", 1),
+    ("answer", 3),
+];
+
+const IDLE: &str = "idle";
+const WAITING: &str = "waiting";
+const PAUSED: &str = "paused";
+
+impl Met {
+    /// All that there is to meet.
+    fn all() -> impl Iterator<Item = Met> {
+        let errors = (RING..=HOST_FAILED).map(Met::Error);
+        let answers = ANSWERS
+            .iter()
+            .map(|&(call, answer)| Met::Answer(call, answer));
+        let endings = [IDLE, WAITING, PAUSED].map(Met::Ended);
+        let records = (1..=3).map(Met::Record);
+        let statuses = (0..=3).map(Met::Status);
+        let events = EVENTS.iter().copied().map(Met::Event);
+        errors
+            .chain(answers)
+            .chain(endings)
+            .chain(records)
+            .chain(statuses)
+            .chain(events)
+    }
+
+    fn group(self) -> &'static str {
+        match self {
+            Met::Error(_) => "error",
+            Met::Answer(..) => "answer",
+            Met::Ended(_) => "ending",
+            Met::Record(_) => "record",
+            Met::Status(_) => "status",
+            Met::Event(_) => "event",
+        }
+    }
+
+    fn name(self) -> String {
+        match self {
+            Met::Error(number) | Met::Record(number) | Met::Status(number) => number.to_string(),
+            Met::Answer(call, answer) => format!("{} {}", call, answer),
+            Met::Ended(ended) => ended.to_string(),
+            Met::Event(event) => format!("{:?}", event),
+        }
+    }
+}
+
+/// How often a rule was aimed at, and how often the desk then came to what the aim says.
+#[derive(Clone, Copy, Debug, Default)]
+pub struct Aimed {
+    pub times: u64,
+    pub met: u64,
+}
+
+#[derive(Clone, Debug, Default)]
+pub struct Coverage {
+    pub desks: u64,
+    pub operations: u64,
+    pub units: u64,
+    pub met: BTreeMap<Met, u64>,
+    pub aims: BTreeMap<Aim, Aimed>,
+    /// The most records that a submission had.
+    pub most_records: u32,
+}
+
+/// What is told of one desk while it is played.
+pub struct Watch {
+    head_at: usize,
+    error_count: u32,
+    errors: BTreeSet<u32>,
+    /// The ring's heads at which a submission waited.
+    waited: BTreeSet<u32>,
+}
+
+impl Watch {
+    pub fn new(drawn: &Drawn) -> Watch {
+        Watch {
+            head_at: drawn.head_at as usize,
+            error_count: 0,
+            errors: BTreeSet::new(),
+            waited: BTreeSet::new(),
+        }
+    }
+
+    fn head(&self, memory: &[u8]) -> Option<u32> {
+        let bytes = memory.get(self.head_at..self.head_at + 4)?;
+        Some(u32::from_le_bytes(bytes.try_into().ok()?))
+    }
+}
+
+impl Coverage {
+    fn count(&mut self, met: Met) {
+        *self.met.entry(met).or_insert(0) += 1;
+    }
+
+    /// Counts what an operation came to.
+    pub fn operation<F: Front>(&mut self, watch: &mut Watch, said: &Said, seat: &Seat<F>) {
+        self.operations += 1;
+        match said {
+            Said::Nothing => {}
+            Said::Wrote(answer) => self.count(Met::Answer("write", *answer)),
+            Said::Read(answer, _) => self.count(Met::Answer("read", *answer)),
+            Said::Recorded(answer, _) => self.count(Met::Answer("record", *answer)),
+            Said::Answered(answer) | Said::AnsweredElsewhere(answer, _) => {
+                self.count(Met::Answer("answer", *answer));
+            }
+            Said::Ran(ran) | Said::RanElsewhere(ran, _) => {
+                self.count(Met::Answer("run", ran.answer));
+                self.units += u64::from(ran.units);
+                if ran.answer == 0 {
+                    self.count(Met::Ended(match ran.ended {
+                        Ended::Idle => IDLE,
+                        Ended::Waiting => WAITING,
+                        Ended::Paused => PAUSED,
+                    }));
+                }
+                if ran.ended == Ended::Waiting && ran.units > 0 {
+                    watch.waited.extend(watch.head(&seat.memory));
+                    self.records(seat);
+                }
+            }
+        }
+        self.errors(watch, seat);
+    }
+
+    fn records<F: Front>(&mut self, seat: &Seat<F>) {
+        let mut records = 0;
+        while let (0, record) = seat.front.record(records) {
+            self.count(Met::Record(record.kind));
+            records += 1;
+        }
+        self.most_records = self.most_records.max(records);
+    }
+
+    /// Of several errors in one operation only the last can be seen.
+    fn errors<F: Front>(&mut self, watch: &mut Watch, seat: &Seat<F>) {
+        let (_, errors) = seat.front.read(ERROR_COUNT);
+        if errors != watch.error_count {
+            watch.error_count = errors;
+            let (_, error) = seat.front.read(ERROR_CODE);
+            watch.errors.insert(error);
+            self.count(Met::Error(error));
+        }
+        let (_, status) = seat.front.read(IRQ_STATUS);
+        self.count(Met::Status(status));
+    }
+
+    /// Counts a desk that was played to its end.
+    pub fn desk(&mut self, drawn: &Drawn, watch: &Watch) {
+        self.desks += 1;
+        for event in &drawn.events {
+            self.count(Met::Event(*event));
+        }
+        for Target { aim, head } in &drawn.targets {
+            let aimed = self.aims.entry(*aim).or_default();
+            aimed.times += 1;
+            aimed.met += u64::from(match aim.outcome {
+                Outcome::Kept => watch.waited.contains(head),
+                Outcome::Broken(error) => watch.errors.contains(&error),
+            });
+        }
+    }
+
+    /// What was met fewer times than asked for, of all that there is.
+    pub fn rarely_met(&self, least: u64) -> Vec<String> {
+        Met::all()
+            .map(|met| (met, self.met.get(&met).copied().unwrap_or(0)))
+            .filter(|&(_, times)| times < least)
+            .map(|(met, times)| format!("{} {}: {}", met.group(), met.name(), times))
+            .collect()
+    }
+
+    /// The rules that were aimed at and met, on one side or the other, fewer times than asked for.
+    pub fn rarely_hit(&self, least: u64) -> Vec<String> {
+        self.aims
+            .iter()
+            .filter(|(_, aimed)| aimed.met < least)
+            .map(|(aim, aimed)| format!("{}: {} of {}", aim, aimed.met, aimed.times))
+            .collect()
+    }
+}
+
+impl fmt::Display for Coverage {
+    fn fmt(&self, f: &mut fmt::Formatter<'_>) -> fmt::Result {
+        write!(
+            f,
+            "{} desks, {} operations, {} units",
+            self.desks, self.operations, self.units
+        )?;
+        let mut group = "";
+        for (met, times) in &self.met {
+            if met.group() != group {
+                group = met.group();
+                write!(f, "\n{:<8}", group)?;
+            }
+            write!(f, "{}: {}  ", met.name(), times)?;
+        }
+        write!(f, "\nrules aimed at, on which side: times (times met)")?;
+        for (aim, aimed) in &self.aims {
+            let Aimed { times, met } = aimed;
+            write!(f, "\n  {:<58} {:>6} ({})", aim.to_string(), times, met)?;
+        }
+        Ok(())
+    }
+}

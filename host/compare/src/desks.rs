@@ -1,0 +1,58 @@
+//! Many desks, one after the other: seeds in a row, each played through both fronts or sliced.
+
+use crate::coverage::{Coverage, Watch};
+use crate::front::Front;
+use crate::generator::draw;
+use crate::player::play;
+use crate::random::Random;
+use crate::report::{examine, Failure, Pairing};
+use crate::slicing::play_sliced;
+use std::ops::Range;
+
+/// Plays the desks of these seeds through both fronts. `progress` is told after each how many are done.
+pub fn compare<L: Front, R: Front>(
+    seeds: Range<u64>,
+    mut progress: impl FnMut(u64),
+) -> Result<Coverage, Box<Failure>> {
+    let mut coverage = Coverage::default();
+    for seed in seeds.clone() {
+        let drawn = draw(seed);
+        let mut watch = Watch::new(&drawn);
+        let pairing = Pairing {
+            left: L::NAME,
+            right: R::NAME,
+            flag: "",
+        };
+        examine(&drawn, pairing, |operations| {
+            play::<L, R>(drawn.memory, operations, |said, seat| {
+                coverage.operation(&mut watch, said, seat)
+            })
+        })?;
+        coverage.desk(&drawn, &watch);
+        progress(seed - seeds.start + 1);
+    }
+    Ok(coverage)
+}
+
+/// Plays the desks of these seeds whole on one front and sliced on the other, and gives the number of runs made.
+pub fn compare_sliced<W: Front, S: Front>(
+    seeds: Range<u64>,
+    mut progress: impl FnMut(u64),
+) -> Result<u64, Box<Failure>> {
+    let mut runs = 0;
+    for seed in seeds.clone() {
+        let drawn = draw(seed);
+        let pairing = Pairing {
+            left: W::NAME,
+            right: S::NAME,
+            flag: " --sliced",
+        };
+        examine(&drawn, pairing, |operations| {
+            let mut random = Random::new(!seed);
+            runs += play_sliced::<W, S>(&mut random, drawn.memory, operations)?;
+            Ok(())
+        })?;
+        progress(seed - seeds.start + 1);
+    }
+    Ok(runs)
+}

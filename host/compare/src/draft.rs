@@ -1,0 +1,165 @@
+//! A submission being written: its table's entries, its packets, and what the guest believes of its resources meanwhile.
+//! Packets put in here are believed to pass; one that is to be refused is put in last, and the belief thrown away.
+
+use crate::image::Entry;
+use crate::numbers::{READ_ONLY, WRITEBACK};
+use crate::packet::{self, Backing, Copying};
+use crate::random::Random;
+use crate::shape::Shape;
+
+#[derive(Clone, Copy, Debug)]
+pub struct Resource {
+    pub handle: u32,
+    pub texture: bool,
+    /// Of a backed one; a host-backed texture's are never asked for and stand as 0.
+    pub bytes: u64,
+    pub backing: Backing,
+}
+
+impl Resource {
+    pub fn backed(&self) -> bool {
+        self.backing.id != 0
+    }
+}
+
+pub struct Draft<'a> {
+    pub random: &'a mut Random,
+    /// The memory's length.
+    pub memory: u64,
+    /// How many bytes of packets have room.
+    pub room: usize,
+    pub live: Vec<Resource>,
+    pub entries: Vec<Entry>,
+    pub records: usize,
+    pub packets: Vec<Vec<u8>>,
+    /// The packets' bytes.
+    pub used: usize,
+    /// No packet may follow: the last one's meaning hangs on being the last.
+    pub closed: bool,
+}
+
+impl Draft<'_> {
+    pub fn entry(&self, id: u32) -> Option<Entry> {
+        self.entries.iter().copied().find(|entry| entry.id == id)
+    }
+
+    pub fn is_live(&self, handle: u32) -> bool {
+        self.live.iter().any(|resource| resource.handle == handle)
+    }
+
+    /// A handle that no live resource has; small ones come again after they were destroyed.
+    pub fn fresh_handle(&mut self) -> u32 {
+        loop {
+            let handle = match self.random.within(0..=9) {
+                0 => self.random.word(),
+                1 => u32::MAX - self.random.within(0..=70) as u32,
+                _ => self.random.within(1..=90) as u32,
+            };
+            if handle != 0 && !self.is_live(handle) {
+                return handle;
+            }
+        }
+    }
+
+    /// An id that the table has not.
+    pub fn foreign_id(&mut self) -> u32 {
+        loop {
+            let id = if self.random.coin() {
+                self.random.within(1..=99) as u32
+            } else {
+                self.random.word()
+            };
+            if id != 0 && self.entry(id).is_none() {
+                return id;
+            }
+        }
+    }
+
+    /// How many bytes of a backed resource, from its start, this table's entry covers; none if there is no entry, or if it
+    /// ends before the resource starts.
+    pub fn covered(&self, resource: &Resource) -> Option<u64> {
+        let room = self
+            .entry(resource.backing.id)?
+            .size
+            .checked_sub(resource.backing.offset.into())?;
+        Some(room.min(resource.bytes))
+    }
+
+    pub fn find(&mut self, fits: impl Fn(&Self, &Resource) -> bool) -> Option<Resource> {
+        let fitting: Vec<Resource> = self
+            .live
+            .iter()
+            .copied()
+            .filter(|resource| fits(self, resource))
+            .collect();
+        if fitting.is_empty() {
+            return None;
+        }
+        Some(self.random.pick(&fitting))
+    }
+
+    pub fn has_room(&self, bytes: usize) -> bool {
+        !self.closed && self.used + bytes <= self.room
+    }
+
+    /// Puts a packet in as it is, whatever it means.
+    pub fn push(&mut self, packet: Vec<u8>) {
+        self.used += packet.len();
+        self.packets.push(packet);
+    }
+
+    pub fn create_buffer(&mut self, handle: u32, size: u64, backing: Backing) {
+        let packet = packet::create_buffer(self.random, handle, size, backing);
+        self.push(packet);
+        self.created(Resource {
+            handle,
+            texture: false,
+            bytes: size,
+            backing,
+        });
+    }
+
+    pub fn create_texture(&mut self, handle: u32, shape: Shape, backing: Backing) {
+        let packet = packet::create_texture(self.random, handle, shape, backing);
+        self.push(packet);
+        let bytes = if backing.id == 0 { 0 } else { shape.packed() };
+        self.created(Resource {
+            handle,
+            texture: true,
+            bytes,
+            backing,
+        });
+    }
+
+    fn created(&mut self, mut resource: Resource) {
+        if resource.backed() {
+            self.records += 1;
+        } else {
+            resource.backing.offset = 0;
+        }
+        self.live.push(resource);
+    }
+
+    pub fn destroy(&mut self, handle: u32) {
+        let packet = packet::destroy(self.random, handle);
+        self.push(packet);
+        self.live.retain(|resource| resource.handle != handle);
+    }
+
+    pub fn dirty(&mut self, handle: u32, offset: u64, size: u64) {
+        let packet = packet::dirty(self.random, handle, offset, size);
+        self.push(packet);
+        self.records += usize::from(size > 0);
+    }
+
+    pub fn copy(&mut self, copying: Copying) {
+        let packet = packet::copy(self.random, copying);
+        self.push(packet);
+        self.records += usize::from(copying.flags & WRITEBACK != 0 && copying.size > 0);
+    }
+
+    pub fn writable(&self, resource: &Resource) -> bool {
+        self.entry(resource.backing.id)
+            .map_or(false, |entry| entry.flags & READ_ONLY == 0)
+    }
+}

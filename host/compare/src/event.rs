@@ -1,0 +1,59 @@
+//! What happens in a desk beside the rules that it is about, for the count of what was reached.
+
+#[derive(Clone, Copy, Debug, PartialEq, Eq, PartialOrd, Ord)]
+pub enum Event {
+    NoFencePage,
+    FencePageAtTheEnd,
+    FencePageOutside,
+    FencePageOverRing,
+    FenceMoved,
+    RingAtTheEnd,
+    RingTooLong,
+    RingMoved,
+    LongestRing,
+    HeadWraps,
+    NoWork,
+    FullTable,
+    /// Table or stream lie over something else.
+    Overlap,
+    /// A packet may have several faults at once.
+    SeveralFaults,
+    KeptOverwritten,
+    KeptChanged,
+    AheadOverwritten,
+    NoiseAnywhere,
+    OtherMemoryOfThisLength,
+    Reset,
+    ResetInTheMiddle,
+    Disabled,
+    AnsweredWhileDisabled,
+    /// Anything at all, one thing after the other.
+    Raving,
+}
+
+pub const EVENTS: [Event; 24] = [
+    Event::NoFencePage,
+    Event::FencePageAtTheEnd,
+    Event::FencePageOutside,
+    Event::FencePageOverRing,
+    Event::FenceMoved,
+    Event::RingAtTheEnd,
+    Event::RingTooLong,
+    Event::RingMoved,
+    Event::LongestRing,
+    Event::HeadWraps,
+    Event::NoWork,
+    Event::FullTable,
+    Event::Overlap,
+    Event::SeveralFaults,
+    Event::KeptOverwritten,
+    Event::KeptChanged,
+    Event::AheadOverwritten,
+    Event::NoiseAnywhere,
+    Event::OtherMemoryOfThisLength,
+    Event::Reset,
+    Event::ResetInTheMiddle,
+    Event::Disabled,
+    Event::AnsweredWhileDisabled,
+    Event::Raving,
+];

@@ -1,0 +1,157 @@
+//! One face for both fronts: document 01's calls with their answers as numbers.
+
+use crate::shape::Shape;
+pub use plain::{Ended, Ran, Record};
+use zelezmut::HostAnswer;
+
+pub trait Front {
+    /// What messages call it.
+    const NAME: &'static str;
+
+    fn made_for(memory: usize) -> Self;
+    fn write(&mut self, offset: u32, value: u32) -> u32;
+    /// The call's answer and the register's value.
+    fn read(&self, offset: u32) -> (u32, u32);
+    fn run(&mut self, memory: &mut [u8], allowance: u16) -> Ran;
+    /// The call's answer and the record.
+    fn record(&self, i: u32) -> (u32, Record);
+    fn answer(&mut self, memory: &mut [u8], good: bool) -> u32;
+
+    /// 0 is a bad shape.
+    fn packed_size(shape: Shape) -> u64;
+    /// 0 is no error.
+    fn table_error(table: &[u8], memory: u64) -> u32;
+}
+
+impl Front for plain::Desk {
+    const NAME: &'static str = "plain";
+
+    fn made_for(memory: usize) -> plain::Desk {
+        plain::Desk::new(memory)
+    }
+
+    fn write(&mut self, offset: u32, value: u32) -> u32 {
+        plain::Desk::write(self, offset, value)
+    }
+
+    fn read(&self, offset: u32) -> (u32, u32) {
+        plain::Desk::read(self, offset)
+    }
+
+    fn run(&mut self, memory: &mut [u8], allowance: u16) -> Ran {
+        plain::Desk::run(self, memory, allowance)
+    }
+
+    fn record(&self, i: u32) -> (u32, Record) {
+        plain::Desk::record(self, i)
+    }
+
+    fn answer(&mut self, memory: &mut [u8], good: bool) -> u32 {
+        plain::Desk::answer(self, memory, good)
+    }
+
+    fn packed_size(shape: Shape) -> u64 {
+        plain::packed_size(
+            shape.format,
+            shape.width,
+            shape.height,
+            shape.mips,
+            shape.layers,
+            shape.pitch,
+        )
+    }
+
+    fn table_error(table: &[u8], memory: u64) -> u32 {
+        plain::table_error(table, memory)
+    }
+}
+
+impl Front for zelezmut::Desk {
+    const NAME: &'static str = "zelezmut";
+
+    fn made_for(memory: usize) -> zelezmut::Desk {
+        zelezmut::Desk::new(memory)
+    }
+
+    fn write(&mut self, offset: u32, value: u32) -> u32 {
+        match zelezmut::Desk::write(self, offset, value) {
+            Ok(()) => 0,
+            Err(refused) => refused.number(),
+        }
+    }
+
+    fn read(&self, offset: u32) -> (u32, u32) {
+        match zelezmut::Desk::read(self, offset) {
+            Ok(value) => (0, value),
+            Err(refused) => (refused.number(), 0),
+        }
+    }
+
+    fn run(&mut self, memory: &mut [u8], allowance: u16) -> Ran {
+        match zelezmut::Desk::run(self, memory, allowance) {
+            Ok(ran) => Ran {
+                answer: 0,
+                units: ran.units,
+                ended: ended(ran.ended),
+            },
+            Err(refused) => Ran {
+                answer: refused.number(),
+                units: 0,
+                ended: Ended::Idle,
+            },
+        }
+    }
+
+    fn record(&self, i: u32) -> (u32, Record) {
+        match zelezmut::Desk::record(self, i) {
+            Ok(record) => (0, record_in_numbers(record)),
+            Err(refused) => (refused.number(), Record::default()),
+        }
+    }
+
+    fn answer(&mut self, memory: &mut [u8], good: bool) -> u32 {
+        let answer = if good {
+            HostAnswer::Good
+        } else {
+            HostAnswer::Failed
+        };
+        match zelezmut::Desk::answer(self, memory, answer) {
+            Ok(()) => 0,
+            Err(refused) => refused.number(),
+        }
+    }
+
+    fn packed_size(shape: Shape) -> u64 {
+        let Shape {
+            format,
+            width,
+            height,
+            mips,
+            layers,
+            pitch,
+        } = shape;
+        zelezmut::packed_size(format, width, height, mips, layers, pitch).unwrap_or(0)
+    }
+
+    fn table_error(table: &[u8], memory: u64) -> u32 {
+        zelezmut::table_error(table, memory).map_or(0, |error| error.number())
+    }
+}
+
+fn ended(ended: zelezmut::Ended) -> Ended {
+    match ended {
+        zelezmut::Ended::Idle => Ended::Idle,
+        zelezmut::Ended::Waiting => Ended::Waiting,
+        zelezmut::Ended::Paused => Ended::Paused,
+    }
+}
+
+fn record_in_numbers(record: zelezmut::Record) -> Record {
+    Record {
+        kind: record.kind.number(),
+        handle: record.handle,
+        id: record.id,
+        gpa: record.gpa,
+        length: record.length,
+    }
+}

@@ -1,0 +1,37 @@
+//! Holds the proved front, [`zelezmut::Desk`], against a plain program of the same rules, [`plain::Desk`].
+//!
+//! - Random desks ([`generator`]) are played through both ([`player`]): every answer, value, register, record and byte is equal.
+//! - One desk's runs cut into random slices come to the same ([`slicing`]).
+//! - Both small exports give the same on random and boundary shapes and tables ([`exports`]).
+//! - What the desks reach is counted ([`coverage`]), so that the generator cannot become empty.
+//! - [`mod@bench`] builds the inputs of the benchmark.
+
+#![forbid(unsafe_code)]
+
+mod author;
+pub mod bench;
+pub mod cases;
+pub mod chart;
+mod contents;
+pub mod coverage;
+pub mod desks;
+mod draft;
+pub mod event;
+pub mod exports;
+mod floor;
+pub mod front;
+pub mod generator;
+mod good_packets;
+mod image;
+mod meddling;
+mod numbers;
+mod packet;
+pub mod player;
+pub mod random;
+pub mod report;
+mod schedule;
+pub mod shape;
+pub mod slicing;
+mod submission;
+pub mod twists;
+mod world;

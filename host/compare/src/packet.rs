@@ -1,0 +1,84 @@
+//! The packets of document 01 as bytes.
+
+use crate::image::{blank, put32, put64};
+use crate::numbers::{COPY_BUFFER, CREATE_BUFFER, CREATE_TEXTURE, DESTROY, DIRTY_RANGE};
+use crate::random::Random;
+use crate::shape::Shape;
+
+/// Where a resource's bytes lie: an entry of a table, from an offset on. Id 0 is the host's own memory.
+#[derive(Clone, Copy, Debug, Default, PartialEq, Eq)]
+pub struct Backing {
+    pub id: u32,
+    pub offset: u32,
+}
+
+#[derive(Clone, Copy, Debug)]
+pub struct Copying {
+    pub to: u32,
+    pub from: u32,
+    pub to_offset: u64,
+    pub from_offset: u64,
+    pub size: u64,
+    pub flags: u32,
+}
+
+/// A packet of this opcode and size with no field put in; a size below 8 still has its header.
+pub fn any(random: &mut Random, opcode: u32, size: u32) -> Vec<u8> {
+    let mut bytes = blank(random, size.max(8) as usize);
+    put32(&mut bytes, 0, opcode);
+    put32(&mut bytes, 4, size);
+    bytes
+}
+
+pub fn create_buffer(random: &mut Random, handle: u32, size: u64, backing: Backing) -> Vec<u8> {
+    let mut bytes = any(random, CREATE_BUFFER, 40);
+    put32(&mut bytes, 8, handle);
+    put64(&mut bytes, 16, size);
+    put32(&mut bytes, 24, backing.id);
+    put32(&mut bytes, 28, backing.offset);
+    bytes
+}
+
+pub fn create_texture(random: &mut Random, handle: u32, shape: Shape, backing: Backing) -> Vec<u8> {
+    let mut bytes = any(random, CREATE_TEXTURE, 56);
+    let fields = [
+        (8, handle),
+        (16, shape.format),
+        (20, shape.width),
+        (24, shape.height),
+        (28, shape.mips),
+        (32, shape.layers),
+        (36, shape.pitch),
+        (40, backing.id),
+        (44, backing.offset),
+    ];
+    for (at, value) in fields {
+        put32(&mut bytes, at, value);
+    }
+    bytes
+}
+
+pub fn destroy(random: &mut Random, handle: u32) -> Vec<u8> {
+    let mut bytes = any(random, DESTROY, 16);
+    put32(&mut bytes, 8, handle);
+    bytes
+}
+
+pub fn dirty(random: &mut Random, handle: u32, offset: u64, size: u64) -> Vec<u8> {
+    let mut bytes = any(random, DIRTY_RANGE, 32);
+    put32(&mut bytes, 8, handle);
+    put64(&mut bytes, 16, offset);
+    put64(&mut bytes, 24, size);
+    bytes
+}
+
+pub fn copy(random: &mut Random, copying: Copying) -> Vec<u8> {
+    let mut bytes = any(random, COPY_BUFFER, 48);
+    put32(&mut bytes, 8, copying.to);
+    put32(&mut bytes, 12, copying.from);
+    put64(&mut bytes, 16, copying.to_offset);
+    put64(&mut bytes, 24, copying.from_offset);
+    put64(&mut bytes, 32, copying.size);
+    put32(&mut bytes, 40, copying.flags);
+    bytes
+}

@@ -1,0 +1,172 @@
+//! Plays a desk through two fronts at once. After every operation all that can be seen of them must be equal: what the call said,
+//! every readable register, every record, and every byte of memory.
+
+use crate::front::{Front, Ran, Record};
+use std::fmt;
+use zelezmut::registers::READABLE;
+use zelezmut::script::Operation;
+use zelezmut::HostAnswer;
+
+/// What an operation said, call answers included.
+#[derive(Clone, Debug, PartialEq, Eq)]
+pub enum Said {
+    Nothing,
+    Wrote(u32),
+    Read(u32, u32),
+    Ran(Ran),
+    Recorded(u32, Record),
+    Answered(u32),
+    /// Beside the answer, what became of the other memory.
+    RanElsewhere(Ran, Vec<u8>),
+    AnsweredElsewhere(u32, Vec<u8>),
+}
+
+/// Where two fronts part.
+#[derive(Clone, Debug)]
+pub struct Difference {
+    /// The operation after which they do.
+    pub at: usize,
+    /// Of the first front, of the second, and what they are of.
+    pub left: String,
+    pub right: String,
+    pub of: String,
+}
+
+impl Difference {
+    pub fn between(of: String, left: impl fmt::Debug, right: impl fmt::Debug) -> Difference {
+        Difference {
+            at: 0,
+            left: format!("{:?}", left),
+            right: format!("{:?}", right),
+            of,
+        }
+    }
+
+    /// The same after this operation.
+    pub fn at(self, at: usize) -> Difference {
+        Difference { at, ..self }
+    }
+}
+
+/// A front with the memory that it is lent.
+pub struct Seat<F> {
+    pub front: F,
+    pub memory: Vec<u8>,
+}
+
+impl<F: Front> Seat<F> {
+    pub fn new(memory: u32) -> Seat<F> {
+        let memory = vec![0; memory as usize];
+        Seat {
+            front: F::made_for(memory.len()),
+            memory,
+        }
+    }
+
+    pub fn play(&mut self, operation: &Operation) -> Said {
+        match operation {
+            Operation::Poke { address, bytes } => {
+                let from = (*address as usize).min(self.memory.len());
+                let to = from.saturating_add(bytes.len()).min(self.memory.len());
+                self.memory[from..to].copy_from_slice(&bytes[..to - from]);
+                Said::Nothing
+            }
+            Operation::Write { offset, value } => Said::Wrote(self.front.write(*offset, *value)),
+            Operation::Read { offset } => {
+                let (answer, value) = self.front.read(*offset);
+                Said::Read(answer, value)
+            }
+            Operation::Run { allowance } => Said::Ran(self.front.run(&mut self.memory, *allowance)),
+            Operation::Record { index } => {
+                let (answer, record) = self.front.record(*index);
+                Said::Recorded(answer, record)
+            }
+            Operation::Answer { answer } => Said::Answered(
+                self.front
+                    .answer(&mut self.memory, *answer == HostAnswer::Good),
+            ),
+            Operation::State => Said::Nothing,
+            Operation::RunElsewhere { allowance, length } => {
+                let mut other = vec![0; *length as usize];
+                let ran = self.front.run(&mut other, *allowance);
+                Said::RanElsewhere(ran, other)
+            }
+            Operation::AnswerElsewhere { answer, length } => {
+                let mut other = vec![0; *length as usize];
+                let answered = self.front.answer(&mut other, *answer == HostAnswer::Good);
+                Said::AnsweredElsewhere(answered, other)
+            }
+        }
+    }
+}
+
+/// Plays one operation on both and compares all that can be seen.
+pub fn step<L: Front, R: Front>(
+    left: &mut Seat<L>,
+    right: &mut Seat<R>,
+    operation: &Operation,
+) -> Result<Said, Difference> {
+    let (said, other) = (left.play(operation), right.play(operation));
+    if said != other {
+        return Err(Difference::between(
+            "what the call said".to_string(),
+            said,
+            other,
+        ));
+    }
+    equal(left, right)?;
+    Ok(said)
+}
+
+/// Registers, records and memory.
+pub fn equal<L: Front, R: Front>(left: &Seat<L>, right: &Seat<R>) -> Result<(), Difference> {
+    for offset in READABLE {
+        let (one, other) = (left.front.read(offset), right.front.read(offset));
+        if one != other {
+            return Err(Difference::between(
+                format!("register {:03x}", offset),
+                one,
+                other,
+            ));
+        }
+    }
+    for i in 0.. {
+        let (one, other) = (left.front.record(i), right.front.record(i));
+        if one != other {
+            return Err(Difference::between(format!("record {}", i), one, other));
+        }
+        if one.0 != 0 {
+            break;
+        }
+    }
+    if left.memory != right.memory {
+        let at = left
+            .memory
+            .iter()
+            .zip(&right.memory)
+            .take_while(|(one, other)| one == other)
+            .count();
+        return Err(Difference::between(
+            format!("byte {}", at),
+            left.memory[at],
+            right.memory[at],
+        ));
+    }
+    Ok(())
+}
+
+/// Plays operations on both, telling the watcher of each that came out equal.
+pub fn play<L: Front, R: Front>(
+    memory: u32,
+    operations: &[Operation],
+    mut watch: impl FnMut(&Said, &Seat<L>),
+) -> Result<(), Difference> {
+    let (mut left, mut right) = (Seat::<L>::new(memory), Seat::<R>::new(memory));
+    for (at, operation) in operations.iter().enumerate() {
+        match step(&mut left, &mut right, operation) {
+            Ok(said) => watch(&said, &left),
+            Err(difference) => return Err(difference.at(at)),
+        }
+    }
+    Ok(())
+}

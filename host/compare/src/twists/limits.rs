@@ -1,0 +1,170 @@
+//! Twists at the limits of 64 resources and 64 records: 19, and what comes before it.
+
+use super::{broken, judged, kept, Aim, PacketTwist};
+use crate::draft::{Draft, Resource};
+use crate::numbers::error::{BACKING, HANDLE, LIMIT, NO_ENTRY, READ_ONLY, RESOURCE_RANGE, SHAPE};
+use crate::numbers::{MOST_RECORDS, MOST_RESOURCES, WRITEBACK};
+use crate::packet::{Backing, Copying};
+
+pub const TWISTS: &[PacketTwist] = &[
+    resources,
+    resources_and_faults,
+    room_used_again,
+    created_records,
+    dirty_records,
+    dirty_past_the_end_and_records,
+    copy_records,
+    records_without_records,
+];
+
+/// The limit, or one below it, and whether one more still fits.
+fn about(draft: &mut Draft, limit: usize) -> (usize, bool) {
+    let fits = draft.random.coin();
+    (if fits { limit - 1 } else { limit }, fits)
+}
+
+/// Creates host-backed buffers until so many resources live.
+fn fill_resources(draft: &mut Draft, most: usize) -> Option<()> {
+    let missing = most.checked_sub(draft.live.len())?;
+    if !draft.has_room((missing + 2) * 40) {
+        return None;
+    }
+    for _ in 0..missing {
+        draft.host_buffer()?;
+    }
+    Some(())
+}
+
+/// Touches a byte of a backed buffer until there are so many records.
+fn fill_records(draft: &mut Draft, most: usize) -> Option<Resource> {
+    let missing = most.checked_sub(draft.records + 2)?;
+    if !draft.has_room(missing * 32 + 5 * 48) || draft.live.len() + 3 > MOST_RESOURCES {
+        return None;
+    }
+    let resource = draft.backed_buffer()?;
+    while draft.records < most {
+        draft.dirty(resource.handle, 0, 1);
+    }
+    Some(resource)
+}
+
+/// As many resources or records as there may be, where there is room for them.
+pub fn fill_up(draft: &mut Draft) {
+    if draft.random.coin() {
+        fill_records(draft, MOST_RECORDS);
+    } else {
+        fill_resources(draft, MOST_RESOURCES);
+    }
+}
+
+fn resources(draft: &mut Draft) -> Option<Aim> {
+    let (live, fits) = about(draft, MOST_RESOURCES);
+    fill_resources(draft, live)?;
+    let handle = draft.fresh_handle();
+    let backing = draft.backing_for(16).filter(|_| draft.random.coin());
+    draft.create_buffer(handle, 16, backing.unwrap_or_default());
+    judged("create: 64 resources", fits, LIMIT)
+}
+
+/// 18, 20, 21 and 22 come before the limit.
+fn resources_and_faults(draft: &mut Draft) -> Option<Aim> {
+    fill_resources(draft, MOST_RESOURCES)?;
+    let handle = draft.fresh_handle();
+    let host = Backing::default();
+    match (draft.random.within(0..=3), draft.backing_for(1)) {
+        (0, _) => {
+            draft.create_buffer(0, 1, host);
+            broken("create: 18 before the 64 resources", HANDLE)
+        }
+        (1, backing) => {
+            draft.create_buffer(handle, 0, backing.unwrap_or(host));
+            broken("create: 20 before the 64 resources", SHAPE)
+        }
+        (2, Some(backing)) => {
+            draft.create_buffer(handle, u64::MAX, backing);
+            broken("create: 22 before the 64 resources", BACKING)
+        }
+        _ => {
+            let id = draft.foreign_id();
+            draft.create_buffer(handle, 1, Backing { id, offset: 0 });
+            broken("create: 21 before the 64 resources", NO_ENTRY)
+        }
+    }
+}
+
+fn room_used_again(draft: &mut Draft) -> Option<Aim> {
+    fill_resources(draft, MOST_RESOURCES)?;
+    let gone = draft.find(|_, _| true)?;
+    draft.destroy(gone.handle);
+    draft.any_texture()?;
+    kept("destroy: room used again")
+}
+
+fn created_records(draft: &mut Draft) -> Option<Aim> {
+    let (records, fits) = about(draft, MOST_RECORDS);
+    let resource = fill_records(draft, records)?;
+    let handle = draft.fresh_handle();
+    if draft.random.percent(30) {
+        draft.create_buffer(handle, 0, resource.backing);
+        return broken("create: 20 before the 64 records", SHAPE);
+    }
+    draft.create_buffer(handle, 1, resource.backing);
+    judged("create: 64 records", fits, LIMIT)
+}
+
+fn dirty_records(draft: &mut Draft) -> Option<Aim> {
+    let (records, fits) = about(draft, MOST_RECORDS);
+    let resource = fill_records(draft, records)?;
+    draft.dirty(resource.handle, 0, 1);
+    judged("dirty: 64 records", fits, LIMIT)
+}
+
+fn dirty_past_the_end_and_records(draft: &mut Draft) -> Option<Aim> {
+    let resource = fill_records(draft, MOST_RECORDS)?;
+    draft.dirty(resource.handle, resource.bytes, 1);
+    broken("dirty: 24 before the 64 records", RESOURCE_RANGE)
+}
+
+fn copy_records(draft: &mut Draft) -> Option<Aim> {
+    let from = draft.host_buffer()?;
+    let (records, fits) = about(draft, MOST_RECORDS);
+    let to = fill_records(draft, records)?;
+    draft.copy(Copying {
+        to: to.handle,
+        from: from.handle,
+        to_offset: 0,
+        from_offset: 0,
+        size: 1,
+        flags: WRITEBACK,
+    });
+    if !draft.writable(&to) {
+        return broken("copy: 23 before the 64 records", READ_ONLY);
+    }
+    judged("copy: 64 records", fits, LIMIT)
+}
+
+/// What makes no record is not held to their limit.
+fn records_without_records(draft: &mut Draft) -> Option<Aim> {
+    let from = draft.host_buffer()?;
+    let to = fill_records(draft, MOST_RECORDS)?;
+    let copying = Copying {
+        to: to.handle,
+        from: from.handle,
+        to_offset: 0,
+        from_offset: 0,
+        size: 0,
+        flags: 0,
+    };
+    match draft.random.within(0..=3) {
+        0 => draft.dirty(to.handle, 1, 0),
+        1 if draft.writable(&to) => draft.copy(Copying {
+            flags: WRITEBACK,
+            ..copying
+        }),
+        2 => draft.copy(Copying { size: 1, ..copying }),
+        _ => {
+            draft.host_buffer()?;
+        }
+    }
+    kept("64 records and none more")
+}
