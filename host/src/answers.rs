@@ -2,8 +2,8 @@
 use std::error::Error;
 use std::fmt;
 
-/// What becomes of a number that is none of the front's. It is proved to give no other, so a caller could not act on one: it
-/// means that another library than this crate's was linked.
+/// What becomes of a number that is none of the front's. By the rule book it gives no other, so a caller could not act on one:
+/// it means that another library than this crate's was linked.
 #[cold]
 fn none_of_ours(what: &str, number: u64) -> ! {
     unreachable!(

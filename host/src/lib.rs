@@ -4,8 +4,9 @@
 //! one unit at a time, hands the ranges they name to the host as [`Record`]s, and finishes fences. What a resource holds,
 //! shaders and scanout are the host's own business.
 //!
-//! The rules are not in this crate. They are in `libdesk.a`, written in Rattle and proved to do what document 01 says; this
-//! crate lends it state and memory, and gives its numbers names. Its one module with `unsafe` is the C boundary.
+//! The rules are not in this crate. They are in `libdesk.a`, written in Rattle and proved to meet the rule book, which states
+//! document 01 as definitions; this crate lends it state and memory, and gives its numbers names. Its one module with `unsafe`
+//! is the C boundary.
 //!
 //! # A submission, from ring to fence
 //!

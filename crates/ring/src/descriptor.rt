@@ -1,12 +1,12 @@
 // A submission's descriptor: read once, and judged by 11 and 12.
 // A range is present when its size is not 0.
-use crate::header::wide;
 use rules::Descriptor;
 use rules::Refusal;
 use rules::Verdict;
 use rules::numbers::BAD_DESCRIPTOR;
 use rules::numbers::DESCRIPTOR_SIZE;
 use rules::numbers::OUTSIDE_MEMORY;
+use words::widths::wide;
 ghost use mathlib.Core.Path.{_≡_};
 ghost use Prim.Native.Nat.{_+_, _≤_, _<_};
 ghost use lib.ListN.{length};

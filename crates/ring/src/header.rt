@@ -6,6 +6,7 @@ use rules::numbers::GOOD_MAJOR;
 use rules::numbers::MINORS;
 use rules::numbers::RING_HEADER_SIZE;
 use rules::numbers::RING_MAGIC;
+use words::widths::wide;
 ghost use mathlib.Core.Path.{_≡_};
 ghost use Prim.Native.Nat.{_+_, _*_, _%_, _≤_, _<_};
 ghost use lib.ListN.{length};
@@ -15,13 +16,6 @@ ghost use Rattle.rules.specs.Ring.{power-of-two, pending, good-header, slot};
 
 // The most slots that a ring may have.
 const MOST_SLOTS: u32 = 1024;
-
-// A number of four bytes among longer ones.
-pub fn wide(x: u32) -> u64
-    ensures { λ r. ⌜ (r ≡ x) × (r < 4294967296) ⌝ }
-{
-    x as u64
-}
 
 // Reads each field of a ring's header once.
 pub fn header_at(mem: &[u8], at: usize) -> RingHeader
