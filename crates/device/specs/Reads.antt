@@ -19,7 +19,7 @@ use Rattle.registers.specs.declared.Shown.{Shown}
 use Rattle.registers.specs.declared.Shown.the-variants.{Value, NoRegister as NoShown}
 use Rattle.registers.specs.declared.Written.{Written}
 use Rattle.registers.specs.declared.Written.the-variants.{Kept, Reset, NoRegister}
-use Rattle.words.specs.Rows.{rowAt, table, tab, table-zero}
+use Rattle.rows.specs.Rows.{rowAt, table, tab, table-zero}
 use Rattle.rooms.specs.Views.{recordOf, recordsOf, resourceOf}
 use Rattle.stages.specs.Views.{workOf}
 use Rattle.stages.specs.declared.scalars.Stage.{Stage}

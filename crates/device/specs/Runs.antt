@@ -15,16 +15,16 @@ use Rattle.rules.specs.Calls.{lent-another, call-run, call-answer, Told as Told
 use Rattle.rules.specs.declared.Ended.{Ended}
 use Rattle.rules.specs.declared.Ended.the-variants.{Idle}
 use Rattle.rooms.specs.Views.{resourceOf}
-use Rattle.words.specs.Rows.{table-zero}
+use Rattle.rows.specs.Rows.{table-zero}
 use Rattle.stages.specs.Views.{workOf, worldOf}
 use Rattle.front.specs.Turning.{Advanced}
-use Rattle.stages.specs.Answering.{Answers}
+use Rattle.outcomes.specs.Answering.{Answers}
 use Rattle.stages.specs.declared.scalars.Stage.the-variants.{Resting, Entries, Packets, Waiting}
 use Rattle.stages.specs.declared.scalars.Stage.{Stage}
 use Rattle.stages.specs.declared.scalars.Counts.{Counts}
 use Rattle.stages.specs.declared.scalars.Scalars.{Scalars}
 use Rattle.front.specs.declared.turning.Turn.{Turn}
-use Rattle.stages.specs.declared.answering.Told.{Told as ToldFront}
+use Rattle.outcomes.specs.declared.answering.Told.{Told as ToldFront}
 use Rattle.shell.specs.Tame.{least-same, tamed, Tames, roomy-tamed}
 use Rattle.device.specs.Views.{stateIn, worldIn, ranOf, toldOf}
 use Rattle.shell.specs.Views.{Ends, stageWaits, newNumbers}

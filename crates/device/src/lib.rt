@@ -1,6 +1,7 @@
 // The device as a value: every call takes it and hands it back, with the call's answer and its values.
 // No call asks anything of its caller: whatever stands in the device or in memory, it ends and says what it gives.
 use front::turning::advance;
+use outcomes::answering::answer;
 use registers::Shown;
 use registers::Written;
 use rooms::records::record_row;
@@ -17,7 +18,6 @@ use shell::ended_of;
 use shell::new_numbers;
 use shell::tame::tame;
 use shell::with_registers;
-use stages::answering::answer;
 use stages::scalars::Scalars;
 use words::widths::index;
 ghost use mathlib.Core.Path.{_≡_};

@@ -39,7 +39,7 @@ use Rattle.phases.specs.declared.entries.EntriesRun.{EntriesRun}
 use Rattle.phases.specs.declared.playing.PacketsPlace.{PacketsPlace}
 use Rattle.phases.specs.declared.playing.PacketsRun.{PacketsRun}
 use Rattle.stages.specs.Views.{worldOf, bare, Roomy}
-use Rattle.stages.specs.Landing.{laid-on, laid, LandsEntries, played-on, played, LandsPackets, Opens}
+use Rattle.outcomes.specs.Landing.{laid-on, laid, LandsEntries, played-on, played, LandsPackets, Opens}
 use Rattle.stages.specs.declared.scalars.Stage.the-variants.{Resting, Entries, Packets, Waiting}
 use Rattle.stages.specs.declared.scalars.Counts.{Counts}
 use Rattle.stages.specs.declared.scalars.Scalars.{Scalars}

@@ -1,5 +1,8 @@
 // A run, turn by turn: an opening is one unit, a phase as many as the allowance and its own length let.
 // So the hot loops are the phases', and the contract is still unit by unit.
+use outcomes::landing::land_entries;
+use outcomes::landing::land_packets;
+use outcomes::landing::open_ring;
 use phases::ending::Ending;
 use phases::entries::read_entries;
 use phases::playing::PacketsPlace;
@@ -8,9 +11,6 @@ use phases::playing::read_packets;
 use rules::Job;
 use rules::Opened;
 use rules::Stream;
-use stages::landing::land_entries;
-use stages::landing::land_packets;
-use stages::landing::open_ring;
 use stages::scalars::Scalars;
 use stages::scalars::Stage;
 use words::widths::index;

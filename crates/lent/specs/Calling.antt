@@ -17,14 +17,14 @@ use Rattle.registers.specs.declared.Shown.{Shown}
 use Rattle.registers.specs.declared.Shown.the-variants.{Value, NoRegister as NoShown}
 use Rattle.registers.specs.declared.Written.{Written}
 use Rattle.registers.specs.declared.Written.the-variants.{Kept, Reset, NoRegister}
-use Rattle.words.specs.Rows.{rowAt}
+use Rattle.rows.specs.Rows.{rowAt}
 use Rattle.rooms.specs.Views.{recordOf}
 use Rattle.stages.specs.Views.{worldOf}
 use Rattle.front.specs.Turning.{Advanced}
-use Rattle.stages.specs.Answering.{Answers as FrontAnswers}
+use Rattle.outcomes.specs.Answering.{Answers as FrontAnswers}
 use Rattle.stages.specs.declared.scalars.Scalars.{Scalars}
 use Rattle.front.specs.declared.turning.Turn.{Turn}
-use Rattle.stages.specs.declared.answering.Told.{Told as FrontTold}
+use Rattle.outcomes.specs.declared.answering.Told.{Told as FrontTold}
 use Rattle.shell.specs.Tame.{Tames}
 use Rattle.device.specs.Views.{worldIn, noneHanded}
 use Rattle.shell.specs.Views.{Ends, stageWaits, withRegisters, droppedWith, newNumbers}

@@ -151,7 +151,7 @@ pub fn answer(
         return NOTHING_WAITS;
     }
     let x = tame(given);
-    let t = stages::answering::answer(x, mem, rooms, held, good);
+    let t = outcomes::answering::answer(x, mem, rooms, held, good);
     let next = t.scalars;
     store(s, next);
     DONE

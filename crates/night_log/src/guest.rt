@@ -68,7 +68,7 @@ pub fn put_ring(mem: &mut [u8], head: u32, tail: u32) {
 }
 
 pub fn put_descriptor(mem: &mut [u8], slot: u32, d: Descriptor) {
-    let start = words::row_offset(RING_HEADER_SIZE, slot, DESCRIPTOR_SIZE) as usize;
+    let start = rows::row_offset(RING_HEADER_SIZE, slot, DESCRIPTOR_SIZE) as usize;
     put_word(mem, start, 0, d.size);
     put_word(mem, start, 4, d.flags);
     put_long(mem, start, 16, d.cmd);
@@ -82,7 +82,7 @@ pub fn put_descriptor(mem: &mut [u8], slot: u32, d: Descriptor) {
 
 // The bytes of a table of so many entries, which stand close together.
 pub fn table_size(count: u32) -> u32 {
-    words::low32(words::row_offset(TABLE_HEADER_SIZE, count, ENTRY_SIZE))
+    words::low32(rows::row_offset(TABLE_HEADER_SIZE, count, ENTRY_SIZE))
 }
 
 pub fn put_table(part: &mut [u8], count: u32) {
@@ -92,7 +92,7 @@ pub fn put_table(part: &mut [u8], count: u32) {
 }
 
 pub fn put_entry(part: &mut [u8], i: u32, e: Entry) {
-    let start = words::row_offset(TABLE_HEADER_SIZE, i, ENTRY_SIZE) as usize;
+    let start = rows::row_offset(TABLE_HEADER_SIZE, i, ENTRY_SIZE) as usize;
     put_word(part, start, 0, e.id);
     put_word(part, start, 4, e.flags);
     put_long(part, start, 8, e.gpa);

@@ -20,7 +20,7 @@ use Rattle.rules.specs.declared.Record.{Record}
 use Rattle.rules.specs.declared.CopyBuffer.{CopyBuffer}
 use Rattle.rules.specs.declared.Kind.{Kind}
 use Rattle.rules.specs.declared.Kind.the-variants.{Bytes, Picture}
-use Rattle.words.specs.Rows.{rowAt}
+use Rattle.rows.specs.Rows.{rowAt}
 use Rattle.table.specs.Views.{entriesOf}
 use Rattle.rooms.specs.Views.{resourceOf, resourcesOf, holdingsOf}
 use Rattle.rooms.specs.Resources.{resource-found, resource-missing}

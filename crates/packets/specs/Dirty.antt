@@ -14,7 +14,7 @@ use Rattle.rules.specs.Packets.{handle-of, kind-bytes, resource-bytes, hand-out
 use Rattle.rules.specs.declared.Resource.{Resource}
 use Rattle.rules.specs.declared.Record.{Record}
 use Rattle.rules.specs.declared.DirtyRange.{DirtyRange}
-use Rattle.words.specs.Rows.{rowAt}
+use Rattle.rows.specs.Rows.{rowAt}
 use Rattle.table.specs.Views.{entriesOf}
 use Rattle.rooms.specs.Views.{resourceOf, resourcesOf, holdingsOf}
 use Rattle.rooms.specs.Resources.{resource-found, resource-missing}

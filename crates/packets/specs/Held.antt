@@ -16,7 +16,7 @@ use Rattle.rules.specs.declared.Resource.{Resource}
 use Rattle.rules.specs.declared.Record.{Record}
 use Rattle.rules.specs.declared.Refusal.{Refusal}
 use Rattle.rules.specs.declared.Verdict.the-variants.{Fine, Broken}
-use Rattle.words.specs.Keys.{Once, once-pushed, once-removed, lookup-pushed-other, lookup-removed-other, length-removed, lookup-none, index-bound}
+use Rattle.rows.specs.Keys.{Once, once-pushed, once-removed, lookup-pushed-other, lookup-removed-other, length-removed, lookup-none, index-bound}
 use Rattle.words.specs.Over.{below-or-not}
 use Rattle.packets.specs.Effects.{Fresh, InRange, take-or}
 

@@ -32,7 +32,7 @@ use Rattle.rules.specs.declared.Verdict.{Verdict}
 use Rattle.rules.specs.declared.Verdict.the-variants.{Fine, Broken}
 use Rattle.rules.specs.declared.Opening.{Opening}
 use Rattle.rules.specs.declared.Opening.the-variants.{BadRing, NoWork, Refused, Started}
-use Rattle.words.specs.Keys.{Once, once-nil, once-pushed, lookup-nil}
+use Rattle.rows.specs.Keys.{Once, once-nil, once-pushed, lookup-nil}
 use Rattle.packets.specs.Held.{Every, Inside, SoundResources, Sound, first-sound, take-sound}
 use Rattle.laws.specs.Fine.{fine-later, kept-rule, both-left}
 

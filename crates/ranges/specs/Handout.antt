@@ -17,7 +17,7 @@ use Rattle.rules.specs.declared.Entry.{Entry}
 use Rattle.rules.specs.declared.Resource.{Resource}
 use Rattle.rules.specs.declared.Record.{Record}
 use Rattle.rules.specs.declared.Verdict.the-variants.{Fine}
-use Rattle.words.specs.Rows.{rowAt, length-table}
+use Rattle.rows.specs.Rows.{rowAt, length-table}
 use Rattle.table.specs.Views.{RowRead, entriesOf}
 use Rattle.table.specs.Entry.{entry-found, entry-missing}
 use Rattle.rooms.specs.Views.{recordOf, recordsOf, holdingsOf}

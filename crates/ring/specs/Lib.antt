@@ -1,3 +1,1 @@
-pub mod Header
-pub mod Descriptor
 pub mod Opening

@@ -28,9 +28,9 @@ use Rattle.rules.specs.declared.Verdict.{Verdict}
 use Rattle.rules.specs.declared.Verdict.the-variants.{Fine, Broken}
 use Rattle.rules.specs.declared.Opening.{Opening}
 use Rattle.rules.specs.declared.Opening.the-variants.{BadRing, NoWork, Refused, Started}
-use Rattle.table.specs.Header.{headed}
-use Rattle.table.specs.declared.header.Headed.{Headed}
-use Rattle.table.specs.declared.header.Headed.the-variants.{Good as GoodTable, Bad as BadTable}
+use Rattle.table_header.specs.Header.{headed}
+use Rattle.table_header.specs.declared.header.Headed.{Headed}
+use Rattle.table_header.specs.declared.header.Headed.the-variants.{Good as GoodTable, Bad as BadTable}
 use Rattle.stream.specs.Header.{begun}
 use Rattle.stream.specs.declared.header.Begun.{Begun}
 use Rattle.stream.specs.declared.header.Begun.the-variants.{Good as GoodStream, Bad as BadStream}

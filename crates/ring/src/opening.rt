@@ -1,11 +1,5 @@
 // How an opening ends: a bad ring, no work, a submission that is refused, or one that was started.
 // Ranges are looked into only where they are present, and only once they are known to lie within memory.
-use crate::descriptor::descriptor_at;
-use crate::descriptor::descriptor_verdict;
-use crate::descriptor::range_verdict;
-use crate::header::good;
-use crate::header::header_at;
-use crate::header::slot_offset;
 use rules::Descriptor;
 use rules::Job;
 use rules::Opened;
@@ -15,8 +9,14 @@ use rules::Stream;
 use rules::Table;
 use rules::Verdict;
 use rules::numbers::RING_HEADER_SIZE;
+use slots::descriptor::descriptor_at;
+use slots::descriptor::descriptor_verdict;
+use slots::descriptor::range_verdict;
+use slots::header::good;
+use slots::header::header_at;
+use slots::header::slot_offset;
 use stream::header::Begun;
-use table::header::Headed;
+use table_header::header::Headed;
 use words::widths::long;
 use words::widths::place;
 use words::widths::wide;
@@ -38,7 +38,7 @@ fn open_table(mem: &[u8], gpa: u64, size: u32) -> Headed
             stride: 0,
         });
     }
-    table::header::check_header(mem, place(gpa), wide(size))
+    table_header::header::check_header(mem, place(gpa), wide(size))
 }
 
 // 16, where a stream is present.

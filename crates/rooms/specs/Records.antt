@@ -10,7 +10,7 @@ use lib.ListN.{length, getD, set}
 use Rattle.rules.specs.Numbers.{most}
 use Rattle.rules.specs.Lists.{pushed}
 use Rattle.rules.specs.declared.Record.{Record}
-use Rattle.words.specs.Rows.{rowAt, row-field, table-push-sets}
+use Rattle.rows.specs.Rows.{rowAt, row-field, table-push-sets}
 use Rattle.rooms.specs.Views.{recordOf, recordsOf}
 
 pub row-read : (l : List ℕ) (i a b c : ℕ) → a ≡ getD l (5 * i) 0 % 4294967296 → b ≡ getD l (5 * i + 1) 0 % 4294967296 → c ≡ getD l (5 * i + 2) 0 % 4294967296

@@ -16,8 +16,8 @@ use Rattle.rules.specs.declared.Kind.{Kind}
 use Rattle.rules.specs.declared.Kind.the-variants.{Bytes, Picture}
 use Rattle.rules.specs.declared.Shape.{Shape}
 use Rattle.rules.specs.declared.Resource.{Resource}
-use Rattle.words.specs.Rows.{rowAt, table, firstWord, row-field, table-push-sets, table-remove, table-copied}
-use Rattle.words.specs.Keys.{find-table, lookup-row, lookup-no-row}
+use Rattle.rows.specs.Rows.{rowAt, table, firstWord, row-field, table-push-sets, table-remove, table-copied}
+use Rattle.rows.specs.Keys.{find-table, lookup-row, lookup-no-row}
 use Rattle.rooms.specs.Views.{flatKind, kindIn, resourceOf, resourcesOf}
 
 -- ---- kind_at, resource_row

@@ -9,7 +9,7 @@ use Rattle.rules.specs.declared.Kind.{Kind}
 use Rattle.rules.specs.declared.Kind.the-variants.{Bytes, Picture}
 use Rattle.rules.specs.declared.Resource.{Resource}
 use Rattle.rules.specs.declared.Record.{Record}
-use Rattle.words.specs.Rows.{table}
+use Rattle.rows.specs.Rows.{table}
 
 -- a four-byte number
 abbrev pub small : List ℕ → ℕ → ℕ

@@ -5,7 +5,7 @@ ghost use mathlib.Core.Path.{_≡_};
 ghost use Prim.Native.Nat.{_+_, _≤_, _<_};
 ghost use Rattle.rules.specs.Numbers.{most};
 ghost use Rattle.rules.specs.Lists.{pushed};
-ghost use Rattle.words.specs.Rows.{rowAt};
+ghost use Rattle.rows.specs.Rows.{rowAt};
 ghost use Rattle.rooms.specs.Views.{recordOf, recordsOf};
 
 // The words of a record.

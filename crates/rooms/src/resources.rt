@@ -9,7 +9,7 @@ ghost use Prim.Native.Nat.{_+_, _-_, _≤_, _<_};
 ghost use Rattle.rules.specs.Numbers.{most};
 ghost use Rattle.rules.specs.Lists.{indexOf, pushed, removed};
 ghost use Rattle.rules.specs.Packets.{handle-of};
-ghost use Rattle.words.specs.Rows.{rowAt};
+ghost use Rattle.rows.specs.Rows.{rowAt};
 ghost use Rattle.rooms.specs.Views.{resourceOf, resourcesOf, kindIn, flatKind};
 
 // The words of a resource.
@@ -59,7 +59,7 @@ pub fn find_resource(rooms: &[u64; 640], n: usize, handle: u32) -> usize
     requires { ⌜ n ≤ most ⌝ }
     ensures { λ r. ⌜ r ≡ indexOf handle-of handle (resourcesOf n (now (rooms .entry))) ⌝ }
 {
-    words::find_row(rooms, WORDS, n, handle)
+    rows::find_row(rooms, WORDS, n, handle)
 }
 
 // The six words of a kind.
@@ -122,7 +122,7 @@ pub fn remove_resource(rooms: &mut [u64; 640], n: usize, i: usize)
     requires { ⌜ (n ≤ most) × (i < n) ⌝ }
     ensures { λ _. ⌜ resourcesOf (n - 1) (now (rooms .exit)) ≡ removed i (resourcesOf n (now (rooms .entry))) ⌝ }
 {
-    words::move_row(rooms, WORDS, n - 1, i);
+    rows::move_row(rooms, WORDS, n - 1, i);
 }
 
 // The first `n` resources of one table over another's.
@@ -130,5 +130,5 @@ pub fn copy_resources(from: &[u64; 640], to: &mut [u64; 640], n: usize)
     requires { ⌜ n ≤ most ⌝ }
     ensures { λ _. ⌜ resourcesOf n (now (to .exit)) ≡ resourcesOf n (now (from .entry)) ⌝ }
 {
-    words::copy_words(from, to, WORDS * n);
+    rows::copy_words(from, to, WORDS * n);
 }

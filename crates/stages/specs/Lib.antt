@@ -1,4 +1,2 @@
 pub mod Views
 pub mod Starting
-pub mod Landing
-pub mod Answering

@@ -17,7 +17,7 @@ use Rattle.rules.specs.Steps.{packets-at, entries-at}
 use Rattle.rules.specs.declared.Job.{Job}
 use Rattle.rules.specs.declared.Stream.{Stream}
 use Rattle.rules.specs.declared.Opened.{Opened}
-use Rattle.words.specs.Rows.{table-zero}
+use Rattle.rows.specs.Rows.{table-zero}
 use Rattle.table.specs.Views.{entryOf, entriesOf}
 use Rattle.rooms.specs.Views.{recordOf, resourcesOf, holdingsOf}
 use Rattle.stages.specs.Views.{worldOf, workOf, bare, Roomy}

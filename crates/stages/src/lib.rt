@@ -1,6 +1,3 @@
-// What is in work, by its numbers and the lent tables: where an opening or a phase comes to, and what the host's answer makes
-// of it. It works in place; whoever runs it lends it the tables of a Device, or a host's own.
-pub mod answering;
-pub mod landing;
+// What is in work, by its numbers and the lent tables, and how it begins.
 pub mod scalars;
 pub mod starting;

@@ -10,7 +10,7 @@ use borrow.Author.Tests.{eq-eqb, ne-eqb, lt-ltb, le-ltb, ltb-false, eqb-true, no
 use lib.Dec.{ltb, eqb}
 use lib.ListN.{length, take, drop, length-drop}
 use lib.Seq.{drop-drop, length-take-le}
-use Rattle.words.specs.Keys.{same-or-not}
+use Rattle.rows.specs.Keys.{same-or-not}
 use Rattle.rules.specs.Numbers.{bad-packet}
 use Rattle.stream.specs.Kept.{all-kept}
 use Rattle.rules.specs.Judging.{refusal, rule, _▹_}

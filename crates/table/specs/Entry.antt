@@ -21,8 +21,8 @@ use Rattle.rules.specs.declared.Refusal.{Refusal}
 use Rattle.rules.specs.declared.Table.{Table}
 use Rattle.rules.specs.declared.Verdict.{Verdict}
 use Rattle.rules.specs.declared.Verdict.the-variants.{Fine, Broken}
-use Rattle.words.specs.Rows.{rowAt, table, firstWord, row-field, length-table, table-push-sets}
-use Rattle.words.specs.Keys.{find-table, lookup-row, lookup-no-row}
+use Rattle.rows.specs.Rows.{rowAt, table, firstWord, row-field, length-table, table-push-sets}
+use Rattle.rows.specs.Keys.{find-table, lookup-row, lookup-no-row}
 use Rattle.table.specs.Views.{entryOf, RowRead, entriesOf, takenOf}
 
 -- ---- entry_at, entry_row

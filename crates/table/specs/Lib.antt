@@ -1,3 +1,2 @@
 pub mod Views
-pub mod Header
 pub mod Entry

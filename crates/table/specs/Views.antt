@@ -7,7 +7,7 @@ use Rattle.rules.specs.Table.{Taken}
 use Rattle.rules.specs.declared.Entry.{Entry}
 use Rattle.rules.specs.declared.Verdict.{Verdict}
 use Rattle.rules.specs.declared.Verdict.the-variants.{Fine, Broken}
-use Rattle.words.specs.Rows.{table}
+use Rattle.rows.specs.Rows.{table}
 
 -- an id and flags are four bytes wide; the last word is where the entry ends, so that no row's entry ends above 2^64
 abbrev pub entryOf : List ℕ → Entry

@@ -1,7 +1,5 @@
 // One entry of a table: read once, judged, and kept as a row of four words: id, flags, gpa, end.
 // The kept rows are what later packets resolve their ids against.
-use crate::header::ENTRY_SIZE;
-use crate::header::entry_offset;
 use rules::Entry;
 use rules::Refusal;
 use rules::Table;
@@ -9,6 +7,8 @@ use rules::Verdict;
 use rules::numbers::BAD_ENTRY;
 use rules::numbers::MOST;
 use rules::numbers::TWICE_IN_TABLE;
+use table_header::header::ENTRY_SIZE;
+use table_header::header::entry_offset;
 use words::widths::wide;
 ghost use mathlib.Core.Path.{_≡_};
 ghost use Prim.Native.Nat.{_+_, _-_, _≤_, _<_};
@@ -17,7 +17,7 @@ ghost use Rattle.rules.specs.Layouts.{entry, entry-size};
 ghost use Rattle.rules.specs.Lists.{indexOf, pushed};
 ghost use Rattle.rules.specs.Numbers.{most};
 ghost use Rattle.rules.specs.Table.{entry-id, entry-rules, take-entry};
-ghost use Rattle.words.specs.Rows.{rowAt};
+ghost use Rattle.rows.specs.Rows.{rowAt};
 ghost use Rattle.table.specs.Views.{RowRead, entriesOf, takenOf};
 ghost use Rattle.table.specs.Entry.{sound as sound-entry};
 
@@ -51,7 +51,7 @@ pub fn find_entry(kept: &[u64; 256], n: usize, id: u32) -> usize
     requires { ⌜ n ≤ most ⌝ }
     ensures { λ r. ⌜ r ≡ indexOf entry-id id (entriesOf n (now (kept .entry))) ⌝ }
 {
-    words::find_row(kept, WORDS, n, id)
+    rows::find_row(kept, WORDS, n, id)
 }
 
 // Reads each field of an entry once.

@@ -23,7 +23,7 @@ use Rattle.rules.specs.declared.Verdict.{Verdict}
 use Rattle.rules.specs.declared.Verdict.the-variants.{Fine, Broken}
 use Rattle.words.specs.Over.{below-or-not}
 use Rattle.words.specs.Fields.{field-part}
-use Rattle.table.specs.Header.{Sized, fine-sized, header-short}
+use Rattle.table_header.specs.Header.{Sized, fine-sized, header-short}
 use Rattle.whole_table.specs.Whole.{entries-more}
 
 -- steps one after the other, n at most: the first broken rule, and how many were taken up to and with it

@@ -20,12 +20,12 @@ use Rattle.rules.specs.declared.Refusal.{Refusal}
 use Rattle.rules.specs.declared.Table.{Table}
 use Rattle.rules.specs.declared.Verdict.{Verdict}
 use Rattle.rules.specs.declared.Verdict.the-variants.{Fine, Broken}
-use Rattle.words.specs.Rows.{tab, tab-first, tab-none, tab-snoc}
-use Rattle.words.specs.Keys.{lookup-here, lookup-later, lookup-nil}
-use Rattle.table.specs.Header.{headed, Sized, fine-sized}
+use Rattle.rows.specs.Rows.{tab, tab-first, tab-none, tab-snoc}
+use Rattle.rows.specs.Keys.{lookup-here, lookup-later, lookup-nil}
+use Rattle.table_header.specs.Header.{headed, Sized, fine-sized}
 use Rattle.table.specs.Entry.{sound, unsound, sound-once}
-use Rattle.table.specs.declared.header.Headed.{Headed}
-use Rattle.table.specs.declared.header.Headed.the-variants.{Good, Bad}
+use Rattle.table_header.specs.declared.header.Headed.{Headed}
+use Rattle.table_header.specs.declared.header.Headed.the-variants.{Good, Bad}
 
 -- a table that stands at the front of some bytes, with each of its entries within them
 pub record Within (b : List ℕ) (t : Table) : Type 0 where

@@ -1,4 +1,2 @@
 pub mod Over
 pub mod Fields
-pub mod Rows
-pub mod Keys

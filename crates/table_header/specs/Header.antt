@@ -1,0 +1,193 @@
+-- A table's header: what its reading and its judging ask, and what a fine one says. Assumes nothing.
+use mathlib.Core.Path.{_≡_, refl}
+use mathlib.Core.Bool.{Bool, true, false, not}
+use mathlib.Core.List.{List}
+use Prim.Native.Nat.{ℕ, _+_, _*_, _-_, _/_, _^_, _≤_, _<_}
+use native.Mathlib.Nat.{mul-le-mul, le-trans}
+use native.Mathlib.Omega.{arith}
+use borrow.Author.Needs.{needs}
+use borrow.Author.Tests.{lt-ltb, le-ltb, eq-eqb, ne-eqb, ltb-false}
+use lib.Dec.{ltb, eqb}
+use mir.Syntax.{w64}
+use mir.Val.{Fits}
+use Rattle.rules.specs.Numbers.{bad-table, too-many, most, table-magic}
+use Rattle.rules.specs.Judging.{refusal, rule, _▹_}
+use Rattle.rules.specs.Layouts.{word, good-version, table-header, table-header-size, entry-size}
+use Rattle.rules.specs.Table.{header-rules, table-of}
+use Rattle.rules.specs.declared.Refusal.{Refusal}
+use Rattle.rules.specs.declared.Table.{Table}
+use Rattle.rules.specs.declared.TableHeader.{TableHeader}
+use Rattle.rules.specs.declared.Verdict.{Verdict}
+use Rattle.rules.specs.declared.Verdict.the-variants.{Fine, Broken}
+use Rattle.table_header.specs.declared.header.Headed.{Headed}
+use Rattle.table_header.specs.declared.header.Headed.the-variants.{Good, Bad}
+
+-- the numbers of a good header are kept
+abbrev pub headed : Verdict → Table → Headed
+headed Fine t = Good t
+headed (Broken r) t = Bad r
+
+-- ---- header_at
+
+pub header-read : (m : List ℕ) (at a b c d e : ℕ) → a ≡ word m at → b ≡ word m (at + 4) → c ≡ word m (at + 8) → d ≡ word m (at + 12) → e ≡ word m (at + 16)
+    → _≡_ {A = TableHeader} (record { magic = a; version = b; size = c; count = d; stride = e }) (table-header m at)
+unfolding table-header
+header-read m at a b c d e p q r s t = rw (p, q, r, s, t)
+
+pub ruleset reading-header = (header-read, needs)
+
+-- ---- entry_offset
+
+-- two words of four bytes, multiplied, leave room for a header and an entry
+module _ (i stride : ℕ) (p : i < 2 ^ 32) (q : stride < 2 ^ 32) where
+  product-room : i * stride + (2 ^ 33 - 1) ≤ 2 ^ 64
+  product-room =
+      let far : i * stride ≤ 4294967295 * 4294967295 = mul-le-mul {n₂ = 4294967295} {m₂ = 4294967295} (omega arith) (omega arith) in
+      omega arith
+
+  pub offset-product : Fits w64 (i * stride)
+  offset-product = record { fits = omega (arith, product-room) }
+
+  pub offset-sum : Fits w64 (table-header-size + i * stride)
+  offset-sum = record { fits = omega (arith, product-room) }
+
+  pub offset-is : (table-header-size + i * stride ≡ table-header-size + i * stride) × (table-header-size + i * stride + 2 ^ 32 ≤ 2 ^ 64)
+  offset-is = (refl, omega (arith, product-room))
+
+pub ruleset offsets = (offset-product, offset-sum, offset-is, needs)
+
+-- ---- header_verdict
+
+module _ (tablesize : ℕ) (h : TableHeader) where
+  pub header-short : tablesize < table-header-size → Broken (refusal bad-table) ≡ header-rules tablesize h
+  unfolding header-rules
+  header-short p = rw (lt-ltb _ _ p)
+
+  module _ (long : table-header-size ≤ tablesize) where
+    pub header-magic : (h .magic ≡ table-magic → ⊥) → Broken (refusal bad-table) ≡ header-rules tablesize h
+    unfolding header-rules
+    header-magic p = rw (le-ltb _ _ long, ne-eqb _ _ p)
+
+    module _ (magic : h .magic ≡ table-magic) where
+      pub header-version : (h .version / 65536 ≡ 1 → ⊥) → Broken (refusal bad-table) ≡ header-rules tablesize h
+      unfolding header-rules
+      header-version p = rw (le-ltb _ _ long, eq-eqb _ _ magic, ne-eqb _ _ p)
+
+      module _ (version : h .version / 65536 ≡ 1) where
+        pub header-small : h .size < table-header-size → Broken (refusal bad-table) ≡ header-rules tablesize h
+        unfolding header-rules
+        header-small p = rw (le-ltb _ _ long, eq-eqb _ _ magic, eq-eqb _ _ version, lt-ltb _ _ p)
+
+        module _ (whole : table-header-size ≤ h .size) where
+          pub header-large : tablesize < h .size → Broken (refusal bad-table) ≡ header-rules tablesize h
+          unfolding header-rules
+          header-large p = rw (le-ltb _ _ long, eq-eqb _ _ magic, eq-eqb _ _ version, le-ltb _ _ whole, lt-ltb _ _ p)
+
+          module _ (within : h .size ≤ tablesize) where
+            pub header-narrow : h .stride < entry-size → Broken (refusal bad-table) ≡ header-rules tablesize h
+            unfolding header-rules
+            header-narrow p = rw (le-ltb _ _ long, eq-eqb _ _ magic, eq-eqb _ _ version, le-ltb _ _ whole, le-ltb _ _ within, lt-ltb _ _ p)
+
+            module _ (wide : entry-size ≤ h .stride) (end : ℕ) (at : (end ≡ table-header-size + h .count * h .stride) × (end + 2 ^ 32 ≤ 2 ^ 64)) where
+              pub header-crowded : h .size < end → Broken (refusal bad-table) ≡ header-rules tablesize h
+              unfolding header-rules
+              header-crowded p =
+                  rw (
+                    le-ltb _ _ long,
+                    eq-eqb _ _ magic,
+                    eq-eqb _ _ version,
+                    le-ltb _ _ whole,
+                    le-ltb _ _ within,
+                    le-ltb _ _ wide,
+                    ← at .0,
+                    lt-ltb _ _ p,
+                  )
+
+              module _ (room : end ≤ h .size) where
+                pub header-many : most < h .count → Broken (refusal too-many) ≡ header-rules tablesize h
+                unfolding header-rules
+                header-many p =
+                    rw (
+                      le-ltb _ _ long,
+                      eq-eqb _ _ magic,
+                      eq-eqb _ _ version,
+                      le-ltb _ _ whole,
+                      le-ltb _ _ within,
+                      le-ltb _ _ wide,
+                      ← at .0,
+                      le-ltb _ _ room,
+                      lt-ltb _ _ p,
+                    )
+
+                pub header-fine : h .count ≤ most → Fine ≡ header-rules tablesize h
+                unfolding header-rules
+                header-fine p =
+                    rw (
+                      le-ltb _ _ long,
+                      eq-eqb _ _ magic,
+                      eq-eqb _ _ version,
+                      le-ltb _ _ whole,
+                      le-ltb _ _ within,
+                      le-ltb _ _ wide,
+                      ← at .0,
+                      le-ltb _ _ room,
+                      le-ltb _ _ p,
+                    )
+
+pub ruleset judging-header =
+    (header-short, header-magic, header-version, header-small, header-large, header-narrow, header-crowded, header-many, header-fine, needs)
+
+-- ---- check_header
+
+module _ (m : List ℕ) (at tablesize : ℕ) where
+  pub headed-short : tablesize < table-header-size → Bad (refusal bad-table) ≡ headed (header-rules tablesize (table-header m at)) (table-of at (table-header m at))
+  headed-short p = rw (← header-short tablesize (table-header m at) p)
+
+  module _ (h : TableHeader) (read : h ≡ table-header m at) (v : Verdict) (judged : v ≡ header-rules tablesize h) where
+    pub headed-good : v ≡ Fine
+        → Good (record { gpa = at; count = h .count; stride = h .stride }) ≡ headed (header-rules tablesize (table-header m at)) (table-of at (table-header m at))
+    headed-good told = rw (← read, ← judged, told)
+
+    pub headed-bad : (r : Refusal) → v ≡ Broken r → Bad r ≡ headed (header-rules tablesize (table-header m at)) (table-of at (table-header m at))
+    headed-bad r told = rw (← read, ← judged, told)
+
+pub ruleset checking-header = (headed-short, headed-good, headed-bad, needs)
+
+-- ---- what a fine header says
+
+-- a rule that is kept: its test fails, and the later rules are kept too
+passed : (n : ℕ) (t : Bool) (later : Verdict) → rule n t ▹ later ≡ Fine → (t ≡ false) × (later ≡ Fine)
+passed n true later e = let z : _≡_ {A = ℕ} 0 1 = cc in absurd (omega arith)
+passed n false later e = (refl, e)
+
+held : (n : ℕ) (t : Bool) → rule n t ≡ Fine → t ≡ false
+held n true e = let z : _≡_ {A = ℕ} 0 1 = cc in absurd (omega arith)
+held n false e = refl
+
+pub record Sized (tablesize : ℕ) (h : TableHeader) : Type 0 where
+  pub few : h .count ≤ most
+  pub wide : entry-size ≤ h .stride
+  pub room : table-header-size + h .count * h .stride ≤ tablesize
+
+pub fine-sized : (tablesize : ℕ) (h : TableHeader) → header-rules tablesize h ≡ Fine → Sized tablesize h
+unfolding header-rules
+fine-sized tablesize h e =
+    let few : Verdict = rule too-many (ltb most (h .count)) in
+    let room : Verdict = rule bad-table (ltb (h .size) (table-header-size + h .count * h .stride)) ▹ few in
+    let wide : Verdict = rule bad-table (ltb (h .stride) entry-size) ▹ room in
+    let within : Verdict = rule bad-table (ltb tablesize (h .size)) ▹ wide in
+    let whole : Verdict = rule bad-table (ltb (h .size) table-header-size) ▹ within in
+    let version : Verdict = rule bad-table (not (good-version (h .version))) ▹ whole in
+    let magic : Verdict = rule bad-table (not (eqb (h .magic) table-magic)) ▹ version in
+    let e₁ : magic ≡ Fine = passed bad-table (ltb tablesize table-header-size) magic e .1 in
+    let e₂ : version ≡ Fine = passed bad-table (not (eqb (h .magic) table-magic)) version e₁ .1 in
+    let e₃ : whole ≡ Fine = passed bad-table (not (good-version (h .version))) whole e₂ .1 in
+    let e₄ : within ≡ Fine = passed bad-table (ltb (h .size) table-header-size) within e₃ .1 in
+    let e₅ : (ltb tablesize (h .size) ≡ false) × (wide ≡ Fine) = passed bad-table _ wide e₄ in
+    let e₆ : (ltb (h .stride) entry-size ≡ false) × (room ≡ Fine) = passed bad-table _ room (e₅ .1) in
+    let e₇ : (ltb (h .size) (table-header-size + h .count * h .stride) ≡ false) × (few ≡ Fine) = passed bad-table _ few (e₆ .1) in
+    record {
+      few = ltb-false _ _ (held too-many _ (e₇ .1));
+      wide = ltb-false _ _ (e₆ .0);
+      room = le-trans (ltb-false _ _ (e₇ .0)) (ltb-false _ _ (e₅ .0));
+    }

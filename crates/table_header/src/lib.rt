@@ -1,0 +1,2 @@
+// The header of an allocation table.
+pub mod header;
