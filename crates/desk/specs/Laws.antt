@@ -1,11 +1,10 @@
 -- What the exports' code asks. Assumes nothing.
 use mathlib.Core.Path.{_≡_, ap, subst, _∙_}
-use mathlib.Core.Bool.{Bool, true, false}
+use mathlib.Core.Bool.{Bool}
 use mathlib.Core.List.{List, []}
-use Prim.Native.Nat.{ℕ}
+use Prim.Native.Nat.{ℕ, _<_}
 use native.Mathlib.Omega.{arith}
 use borrow.Author.Needs.{needs}
-use borrow.Author.Tests.{eq-eqb, ne-eqb}
 use lib.ListN.{length, set, drop, drop-of-length-le}
 use lib.Seq.{sets-eq}
 use Rattle.rules.specs.Calls.{ended-number, Value, Ran, Handed as HandedBy}
@@ -16,14 +15,6 @@ use Rattle.flat.specs.Views.{setIn}
 use Rattle.lent.specs.Calls.{Makes, Reads, Runs, Hands, Answers}
 use Rattle.lent.specs.declared.calls.Spent.{Spent}
 use Rattle.desk.specs.Said.{five, recordWords, SaysValue, SaysRun, SaysRecord}
-
-pub unset : (x : ℕ) → x ≡ 0 → false ≡ setIn x
-unset x h = rw (eq-eqb x 0 h)
-
-pub is-set : (x : ℕ) → (x ≡ 0 → ⊥) → true ≡ setIn x
-is-set x h = rw (ne-eqb x 0 h)
-
-pub ruleset flags = (unset, is-set, needs)
 
 -- ---- the five words
 
@@ -70,7 +61,8 @@ record-said s c said i x k q =
 pub made-for : (memory n : ℕ) (s′ : List ℕ) → n ≡ memory → Makes n s′ → Makes memory s′
 made-for memory n s′ p k = subst (λ (y : ℕ). Makes y s′) p k
 
-pub answer-told : (s r h m : List ℕ) (good a : ℕ) (b : Bool) (s′ r′ m′ : List ℕ) → b ≡ setIn good → Answers s r h m b a s′ r′ m′ → Answers s r h m (setIn good) a s′ r′ m′
-answer-told s r h m good a b s′ r′ m′ p k = subst (λ (y : Bool). Answers s r h m y a s′ r′ m′) p k
+pub answer-told : (s r h m : List ℕ) (good x a : ℕ) (b : Bool) (s′ r′ m′ : List ℕ) → (x ≡ good) × (x < 4294967296) → b ≡ setIn x → Answers s r h m b a s′ r′ m′
+    → Answers s r h m (setIn good) a s′ r′ m′
+answer-told s r h m good x a b s′ r′ m′ p q k = subst (λ (y : Bool). Answers s r h m y a s′ r′ m′) (q ∙ ap setIn (p .0)) k
 
 pub ruleset telling = (made-for, value-said, run-said, record-said, answer-told, needs)

@@ -3,6 +3,7 @@
 use crate::said::number_of;
 use crate::said::say;
 use crate::said::say_record;
+use flat::reading::is_set;
 use words::widths::place;
 use words::widths::wide;
 ghost use mathlib.Core.Path.{_≡_};
@@ -14,12 +15,6 @@ fn count_of(x: u16) -> u64
     ensures { λ r. ⌜ r ≡ x ⌝ }
 {
     x as u64
-}
-
-fn is_set(x: u32) -> bool
-    ensures { λ r. ⌜ r ≡ setIn x ⌝ }
-{
-    if x == 0 { false } else { true }
 }
 
 // A new device for a memory of so many bytes.
@@ -98,5 +93,6 @@ pub extern "C" fn zelezmut_answer(
 ) -> u32
     ensures { λ r. ⌜ Answers (now (scalars .entry)) (now (rooms .entry)) (now (held .entry)) (now (mem .entry)) (setIn good) r (now (scalars .exit)) (now (rooms .exit)) (now (mem .exit)) ⌝ }
 {
-    lent::calls::answer(scalars, rooms, held, mem, is_set(good))
+    let told = is_set(wide(good));
+    lent::calls::answer(scalars, rooms, held, mem, told)
 }

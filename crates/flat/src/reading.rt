@@ -13,7 +13,8 @@ use words::widths::place;
 ghost use mathlib.Core.Path.{_≡_};
 ghost use Rattle.flat.specs.Views.{setIn, registersIn, jobIn, tableIn, streamIn, stageIn, countsIn, scalarsIn};
 
-fn is_set(x: u64) -> bool
+// A flag as a host says it: any word but 0 is set.
+pub fn is_set(x: u64) -> bool
     ensures { λ r. ⌜ r ≡ setIn x ⌝ }
 {
     if x == 0 { false } else { true }

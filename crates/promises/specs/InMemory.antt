@@ -137,7 +137,7 @@ run-lies : (k n : ℕ) (w : World) → length (w .mem) ≡ n → LiesIn n (w .st
 run-lies zero n w e h = rw (run-none go step w) h
 run-lies (suc k) n w e h =
     by-test (go w) refl
-    (run-lies k n (step w) (touched-length (w .mem) (step w .mem) (unit-writes-by-settling w) ∙ e) (subst (λ i. LiesIn i (step w .state .work)) e (step-lies w (subst (λ i. LiesIn i (w .state .work)) (sym e) h))))
+    (run-lies k n (step w) (touched-length w (w .state .work) (step w .mem) (unit-writes-by-settling w) ∙ e) (subst (λ i. LiesIn i (step w .state .work)) e (step-lies w (subst (λ i. LiesIn i (w .state .work)) (sym e) h))))
   where
     by-test : (b : Bool) → go w ≡ b → LiesIn n (run-for k (step w) .state .state .work) → LiesIn n (run-for (suc k) w .state .state .work)
     by-test true g q = rw (run-go go step k w g) q

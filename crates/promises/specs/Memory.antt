@@ -1,5 +1,5 @@
--- Only a settling writes guest memory: of each unit and each answer, the bytes are as they were or the head and the page of one
--- settling were written, and no other byte has changed. Assumes nothing.
+-- Only a settling writes guest memory: of each unit and each answer, the bytes are as they were, or the head and the page of the
+-- submission in work (or of the one refused at this opening) were written, and no other byte has changed. Assumes nothing.
 use mathlib.Core.Path.{_≡_, refl, ap, _∙_}
 use mathlib.Core.Bool.{Bool, true, false}
 use mathlib.Core.List.{List}
@@ -14,7 +14,7 @@ use Rattle.rules.specs.State.{Work, World}
 use Rattle.rules.specs.State.Work.{resting, entries, packets, waiting}
 use Rattle.rules.specs.Settle.{ended-by, marked, settled}
 use Rattle.rules.specs.Steps.{after-opening, open-step, after-entry, entry-step, after-packet, next-place, packet-step, step-on, step, go, run-for, answer-on, answered}
-use Rattle.rules.specs.declared.Registers.{Registers}
+use Rattle.rules.specs.declared.Refusal.{Refusal}
 use Rattle.rules.specs.declared.Entry.{Entry}
 use Rattle.rules.specs.declared.Resource.{Resource}
 use Rattle.rules.specs.declared.Job.{Job}
@@ -26,63 +26,76 @@ use Rattle.rules.specs.declared.Opening.{Opening}
 use Rattle.rules.specs.declared.Opening.the-variants.{BadRing, NoWork, Refused, Started}
 use Rattle.settle.specs.Only.{marked-length}
 
--- what one unit or one answer does to the bytes
-pub data Touched (m : List ℕ) : List ℕ → Type 0 where
-  untouched : Touched m m
-  settles : (j : Job) (r : Registers) → Touched m (marked j r m)
+-- an opening now refuses this submission
+pub record RefusedHere (w : World) (j : Job) : Type 0 where
+  pub why : Refusal
+  pub here : opening-of (w .mem) (w .state .regs .ring) (w .state .regs .ringsize) ≡ Refused j why
 
-settled-touches : (j : Job) (v : Verdict) (rs : List Resource) (w : World) → Touched (w .mem) (settled j v rs w .mem)
-unfolding settled
-settled-touches j v rs w = settles j (ended-by j v (w .state .regs))
+-- the submission that a unit or an answer can settle: the one in work, or the one that this opening refuses
+abbrev pub JobOf : World → Work → Job → Type 0
+JobOf w resting j = RefusedHere w j
+JobOf w (entries o kept) j = j ≡ o .job
+JobOf w (packets k s at es h) j = j ≡ k
+JobOf w (waiting k es h) j = j ≡ k
+
+-- what one unit or one answer does to the bytes: nothing, or the head and the page of that submission, by the registers as its
+-- settling leaves them
+pub data Touched (w : World) (k : Work) : List ℕ → Type 0 where
+  untouched : Touched w k (w .mem)
+  settles : (j : Job) (v : Verdict) → JobOf w k j → Touched w k (marked j (ended-by j v (w .state .regs)) (w .mem))
 
 module _ (w : World) where
-  opening-touches : (v : Opening) → Touched (w .mem) (after-opening w v .mem)
-  opening-touches BadRing = untouched
-  opening-touches NoWork = untouched
-  opening-touches (Refused j r) = settled-touches j (Broken r) (w .state .resources) w
-  opening-touches (Started o) = untouched
+  settled-touches : (k : Work) (j : Job) (v : Verdict) (rs : List Resource) → JobOf w k j → Touched w k (settled j v rs w .mem)
+  unfolding settled
+  settled-touches k j v rs own = settles j v own
 
-  entry-touches : (o : Opened) (kept : List Entry) (v : Verdict) → Touched (w .mem) (after-entry w o kept v .mem)
-  entry-touches o kept Fine = untouched
-  entry-touches o kept (Broken r) = settled-touches (o .job) (Broken r) (w .state .resources) w
+  opening-touches : (v : Opening) → opening-of (w .mem) (w .state .regs .ring) (w .state .regs .ringsize) ≡ v → Touched w resting (after-opening w v .mem)
+  opening-touches BadRing e = untouched
+  opening-touches NoWork e = untouched
+  opening-touches (Refused j r) e = settled-touches resting j (Broken r) (w .state .resources) (record { why = r; here = e })
+  opening-touches (Started o) e = untouched
 
-  packet-touches : (j : Job) (s : Stream) (next : ℕ) (es : List Entry) (h : Holdings) (v : Verdict) → Touched (w .mem) (after-packet w j s next es h v .mem)
-  packet-touches j s next es h Fine = untouched
-  packet-touches j s next es h (Broken r) = settled-touches j (Broken r) (w .state .resources) w
+  entry-touches : (o : Opened) (kept kept′ : List Entry) (v : Verdict) → Touched w (entries o kept) (after-entry w o kept′ v .mem)
+  entry-touches o kept kept′ Fine = untouched
+  entry-touches o kept kept′ (Broken r) = settled-touches (entries o kept) (o .job) (Broken r) (w .state .resources) refl
 
-  on-touches : (k : Work) → Touched (w .mem) (step-on w k .mem)
+  packet-touches : (j : Job) (s : Stream) (at next : ℕ) (es : List Entry) (h h′ : Holdings) (v : Verdict) → Touched w (packets j s at es h) (after-packet w j s next es h′ v .mem)
+  packet-touches j s at next es h h′ Fine = untouched
+  packet-touches j s at next es h h′ (Broken r) = settled-touches (packets j s at es h) j (Broken r) (w .state .resources) refl
+
+  on-touches : (k : Work) → Touched w k (step-on w k .mem)
   unfolding open-step entry-step packet-step
-  on-touches resting = opening-touches (opening-of (w .mem) (w .state .regs .ring) (w .state .regs .ringsize))
-  on-touches (entries o kept) = entry-touches o (take-entry (w .mem) (o .table) kept .kept) (take-entry (w .mem) (o .table) kept .verdict)
+  on-touches resting = opening-touches (opening-of (w .mem) (w .state .regs .ring) (w .state .regs .ringsize)) refl
+  on-touches (entries o kept) = entry-touches o kept (take-entry (w .mem) (o .table) kept .kept) (take-entry (w .mem) (o .table) kept .verdict)
   on-touches (packets j s at es h) =
-      packet-touches j s (next-place at (left (w .mem) s at)) es (take-packet es h (left (w .mem) s at) .held) (take-packet es h (left (w .mem) s at) .verdict)
+      packet-touches j s at (next-place at (left (w .mem) s at)) es h (take-packet es h (left (w .mem) s at) .held) (take-packet es h (left (w .mem) s at) .verdict)
   on-touches (waiting j es h) = untouched
 
-  answer-touches : (good : Bool) (k : Work) → Touched (w .mem) (answer-on good w k .mem)
+  answer-touches : (good : Bool) (k : Work) → Touched w k (answer-on good w k .mem)
   answer-touches good resting = untouched
   answer-touches good (entries o kept) = untouched
   answer-touches good (packets j s at es h) = untouched
-  answer-touches true (waiting j es h) = settled-touches j Fine (h .resources) w
-  answer-touches false (waiting j es h) = settled-touches j _ (w .state .resources) w
+  answer-touches true (waiting j es h) = settled-touches (waiting j es h) j Fine (h .resources) refl
+  answer-touches false (waiting j es h) = settled-touches (waiting j es h) j _ (w .state .resources) refl
 
 -- one unit writes memory only by settling, and so does an answer
-pub unit-writes-by-settling : (w : World) → Touched (w .mem) (step w .mem)
+pub unit-writes-by-settling : (w : World) → Touched w (w .state .work) (step w .mem)
 unfolding step
 unit-writes-by-settling w = on-touches w (w .state .work)
 
-pub answer-writes-by-settling : (good : Bool) (w : World) → Touched (w .mem) (answered good w .mem)
+pub answer-writes-by-settling : (good : Bool) (w : World) → Touched w (w .state .work) (answered good w .mem)
 unfolding answered
 answer-writes-by-settling good w = answer-touches w good (w .state .work)
 
 -- memory keeps its length
-pub touched-length : (m m′ : List ℕ) → Touched m m′ → length m′ ≡ length m
-touched-length m m′ untouched = refl
-touched-length m m′ (settles j r) = marked-length j r m
+pub touched-length : (w : World) (k : Work) (m : List ℕ) → Touched w k m → length m ≡ length (w .mem)
+touched-length w k m untouched = refl
+touched-length w k m (settles j v own) = marked-length j (ended-by j v (w .state .regs)) (w .mem)
 
 pub run-keeps-length : (n : ℕ) (w : World) → length (run-for n w .state .mem) ≡ length (w .mem)
 run-keeps-length zero w = rw (run-none go step w)
 run-keeps-length (suc n) w = by-test (go w) refl (run-keeps-length n (step w))
   where
     by-test : (b : Bool) → go w ≡ b → length (run-for n (step w) .state .mem) ≡ length (step w .mem) → length (run-for (suc n) w .state .mem) ≡ length (w .mem)
-    by-test true g k = ap (λ (x : Out World). length (x .state .mem)) (run-go go step n w g) ∙ (k ∙ touched-length (w .mem) (step w .mem) (unit-writes-by-settling w))
+    by-test true g k = ap (λ (x : Out World). length (x .state .mem)) (run-go go step n w g) ∙ (k ∙ touched-length w (w .state .work) (step w .mem) (unit-writes-by-settling w))
     by-test false g k = ap (λ (x : Out World). length (x .state .mem)) (run-stop go step (suc n) w g)

@@ -36,6 +36,8 @@ use Rattle.rules.specs.declared.Verdict.the-variants.{Fine, Broken}
 use Rattle.rules.specs.declared.Opening.{Opening}
 use Rattle.rules.specs.declared.Opening.the-variants.{BadRing, NoWork, Refused, Started}
 use Rattle.laws.specs.Fine.{fine-first, fine-later, kept-rule, kept-only, both-left}
+use Rattle.table_header.specs.Header.{Sized, fine-sized}
+use Rattle.stream.specs.Header.{stream-sound}
 use Rattle.promises.specs.Whole.{midst, Course, course-none, course-join, reading, after-table, entries-end, placed, after-stream, packets-end}
 
 -- ---- what was opened lies within memory
@@ -48,39 +50,6 @@ pub record Lies (m : List ℕ) (o : Opened) : Type 0 where
 -- a range of memory is as long as it says
 part-length : (m : List ℕ) (at n : ℕ) → at + n ≤ length m → length (take n (drop at m)) ≡ n
 part-length m at n h = length-take-le n (drop at m) (omega (arith, length-drop at m))
-
--- what a good table header says
-pub record GoodHeader (tablesize : ℕ) (h : TableHeader) : Type 0 where
-  pub inside : h .size ≤ tablesize
-  pub stride : entry-size ≤ h .stride
-  pub rows : table-header-size + h .count * h .stride ≤ h .size
-  pub few : h .count ≤ most
-
-good-header-says : (tablesize : ℕ) (h : TableHeader) → header-rules tablesize h ≡ Fine → GoodHeader tablesize h
-unfolding header-rules
-good-header-says tablesize h fine =
-    let l₁ = fine-later (rule bad-table (ltb tablesize table-header-size)) _ fine in
-    let l₂ = fine-later (rule bad-table (not (eqb (h .magic) table-magic))) _ l₁ in
-    let l₃ = fine-later (rule bad-table (not (good-version (h .version)))) _ l₂ in
-    let l₄ = fine-later (rule bad-table (ltb (h .size) table-header-size)) _ l₃ in
-    let l₅ = fine-later (rule bad-table (ltb tablesize (h .size))) _ l₄ in
-    let l₆ = fine-later (rule bad-table (ltb (h .stride) entry-size)) _ l₅ in
-    let l₇ = fine-later (rule bad-table (ltb (h .size) (table-header-size + h .count * h .stride))) _ l₆ in
-    record {
-      inside = ltb-false tablesize (h .size) (kept-rule bad-table (ltb tablesize (h .size)) (fine-first _ _ l₄));
-      stride = ltb-false (h .stride) entry-size (kept-rule bad-table (ltb (h .stride) entry-size) (fine-first _ _ l₅));
-      rows = ltb-false (h .size) (table-header-size + h .count * h .stride) (kept-rule bad-table (ltb (h .size) (table-header-size + h .count * h .stride)) (fine-first _ _ l₆));
-      few = ltb-false most (h .count) (kept-rule too-many (ltb most (h .count)) l₇);
-    }
-
-stream-inside : (cmdsize : ℕ) (h : StreamHeader) → stream-rules cmdsize h ≡ Fine → h .size ≤ cmdsize
-unfolding stream-rules
-stream-inside cmdsize h fine =
-    let l₁ = fine-later (rule bad-stream (ltb cmdsize stream-header-size)) _ fine in
-    let l₂ = fine-later (rule bad-stream (not (eqb (h .magic) stream-magic))) _ l₁ in
-    let l₃ = fine-later (rule bad-stream (not (good-version (h .version)))) _ l₂ in
-    let l₄ = fine-later (rule bad-stream (ltb (h .size) stream-header-size)) _ l₃ in
-    ltb-false cmdsize (h .size) (kept-rule bad-stream (ltb cmdsize (h .size)) l₄)
 
 -- entry i < n of rows of at least 32 bytes ends within them
 row-inside : (i n stride : ℕ) → i < n → entry-size ≤ stride → i * stride + entry-size ≤ n * stride
@@ -116,21 +85,21 @@ module _ (m : List ℕ) (j : Job) (d : Descriptor) (stride : ℕ) (fine : submis
   kept-stream t = pick t (record { gpa = d .cmd; size = stream-header m (d .cmd) .size }) (record { gpa = 0; size = 0 })
 
   table-few : (t : Bool) → present (d .tablesize) ≡ t → kept-table t .count ≤ most
-  table-few true p = good-header-says (d .tablesize) (table-header m (d .table)) (kept-only (present (d .tablesize)) _ p header-fine) .few
+  table-few true p = fine-sized (d .tablesize) (table-header m (d .table)) (kept-only (present (d .tablesize)) _ p header-fine) .few
   table-few false p = omega arith
 
   table-reach : (t : Bool) → present (d .tablesize) ≡ t → (i : ℕ) → i < kept-table t .count → in-reach m (kept-table t) i ≡ true
   table-reach true p i h =
-      let g : GoodHeader (d .tablesize) (table-header m (d .table)) = good-header-says (d .tablesize) (table-header m (d .table)) (kept-only (present (d .tablesize)) _ p header-fine) in
+      let g : Sized (d .tablesize) (table-header m (d .table)) = fine-sized (d .tablesize) (table-header m (d .table)) (kept-only (present (d .tablesize)) _ p header-fine) in
       let few : i < most = omega (arith, g .few) in
       let fits : d .table + (24 + i * table-header m (d .table) .stride) + 32 ≤ length m =
-      omega (arith, table-inside p, g .inside, g .rows, row-inside i (table-header m (d .table) .count) (table-header m (d .table) .stride) h (g .stride)) in
+      omega (arith, table-inside p, g .room, row-inside i (table-header m (d .table) .count) (table-header m (d .table) .stride) h (g .wide)) in
       rw (lt-ltb i most few, le-leb _ _ fits)
   table-reach false p i h = absurd (omega arith)
 
   stream-long : (t : Bool) → present (d .cmdsize) ≡ t → length (stream-bytes m (kept-stream t)) ≡ kept-stream t .size
   stream-long true p =
-      part-length m (d .cmd) (stream-header m (d .cmd) .size) (omega (arith, cmd-inside p, stream-inside (d .cmdsize) (stream-header m (d .cmd)) (kept-only (present (d .cmdsize)) _ p stream-fine)))
+      part-length m (d .cmd) (stream-header m (d .cmd) .size) (omega (arith, cmd-inside p, stream-sound (d .cmdsize) (stream-header m (d .cmd)) (kept-only (present (d .cmdsize)) _ p stream-fine) .inside))
   stream-long false p = part-length m 0 0 (omega arith)
 
   pub started-lies : Lies m (opened-of m j d)

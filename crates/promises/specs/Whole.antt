@@ -1,24 +1,22 @@
 -- Demand 2: the steps of a submission over still memory end where the unsliced rules end, after their count of units. Assumes nothing.
 use mathlib.Core.Path.{_≡_, refl, ap, subst, _∙_}
-use mathlib.Core.Bool.{Bool, true, false, not}
+use mathlib.Core.Bool.{Bool, true, false}
 use mathlib.Core.List.{List, [], _∷_, _++_, append-assoc, append-nil}
-use Prim.Native.Nat.{ℕ, zero, suc, _+_, _-_, _%_, _≤_, _<_}
+use Prim.Native.Nat.{ℕ, zero, suc, _+_, _-_, _≤_, _<_}
 use native.Mathlib.Omega.{arith}
 use native.Mathlib.Numerals.{one-add}
-use borrow.Author.Tests.{eq-eqb, ne-eqb, lt-ltb, le-ltb, ltb-false, ltb-true}
-use lib.Dec.{ltb, eqb}
+use borrow.Author.Tests.{lt-ltb, le-ltb, ltb-false, ltb-true}
+use lib.Dec.{ltb}
 use lib.ListN.{length, take, drop, length-append, length-drop}
-use lib.Seq.{drop-drop}
 use Rattle.machine.specs.Machine.{Out, spent, run-none, run-go, sliced}
-use Rattle.rules.specs.Numbers.{bad-packet}
 use Rattle.rules.specs.Lists.{pushed}
-use Rattle.rules.specs.Layouts.{word, packet-header-size, entry, stream-header-size}
+use Rattle.rules.specs.Layouts.{entry, stream-header-size}
 use Rattle.rules.specs.Table.{Judged, entry-place, entry-rules, keep, in-reach, take-entry, entries-from, stop-or-go, judge-entries}
-use Rattle.rules.specs.Judging.{rule}
-use Rattle.rules.specs.Stream.{frame-rules, framed, frame-of, packet-of, size-of, before, cut, stream-bytes}
+use Rattle.rules.specs.Stream.{frame-of, packet-of, size-of, before, cut, stream-bytes}
 use Rattle.rules.specs.Packets.{Holdings, at-first, apply, apply-frame, take-packet}
 use Rattle.rules.specs.Unsliced.{Reckoned, one-further, judge-packets}
-use Rattle.laws.specs.Fine.{fine-first, fine-later, kept-rule}
+use Rattle.stream.specs.Framing.{Sound, frame-sound}
+use Rattle.stream.specs.Listing.{cut-none, cut-next}
 use Rattle.rules.specs.State.{Work, World, working}
 use Rattle.rules.specs.State.Work.{resting, entries, packets, waiting}
 use Rattle.rules.specs.Settle.{settled, settled-keeping}
@@ -139,41 +137,6 @@ module _ (w : World) (on : w .state .regs .enabled ≡ true) (o : Opened) where
 
 -- ---- the packets
 
--- a packet that is framed lies within the bytes left, and is not empty
-pub record Framed (b : List ℕ) (size : ℕ) : Type 0 where
-  pub some : 0 < size
-  pub fits : size ≤ length b
-
-abbrev pub Sound : List ℕ → Frame → Type 0
-Sound b (Whole op size) = Framed b size
-Sound b (Misframed r) = 0 ≤ length b
-
-sound-by : (b : List ℕ) (v : Verdict) → frame-rules b ≡ v → Sound b (framed v (word b 0) (word b 4))
-unfolding frame-rules
-sound-by b Fine e =
-    let later₁ = fine-later (rule bad-packet (ltb (length b) packet-header-size)) _ e in
-    let later₂ = fine-later (rule bad-packet (ltb (word b 4) packet-header-size)) _ later₁ in
-    let later₃ = fine-later (rule bad-packet (not (eqb (word b 4 % 4) 0))) _ later₂ in
-    let some : 8 ≤ word b 4 = ltb-false (word b 4) 8 (kept-rule bad-packet (ltb (word b 4) packet-header-size) (fine-first _ _ later₁)) in
-    record {
-      some = omega arith;
-      fits = ltb-false (length b) (word b 4) (kept-rule bad-packet (ltb (length b) (word b 4)) (fine-first _ _ later₃));
-    }
-sound-by b (Broken r) e = omega arith
-
-pub sound : (b : List ℕ) → Sound b (frame-of b)
-unfolding frame-of
-sound b = sound-by b (frame-rules b) refl
-
-cut-none : (k : ℕ) (b : List ℕ) → length b ≡ 0 → cut k b ≡ []
-unfolding cut
-cut-none zero b h = refl
-cut-none (suc k) b h = rw (eq-eqb (length b) 0 h)
-
-cut-some : (k at : ℕ) (b : List ℕ) → (length (drop at b) ≡ 0 → ⊥) → cut (suc k) (drop at b) ≡ before (frame-of (drop at b)) (drop at b) (cut k (drop (at + size-of (frame-of (drop at b))) b))
-unfolding cut
-cut-some k at b h = rw (ne-eqb (length (drop at b)) 0 h, drop-drop)
-
 module _ (w : World) (on : w .state .regs .enabled ≡ true) (j : Job) (s : Stream) (es : List Entry) (len : length (stream-bytes (w .mem) s) ≡ s .size) where
   abbrev pub bytes : List ℕ
   bytes = stream-bytes (w .mem) s
@@ -220,23 +183,25 @@ module _ (w : World) (on : w .state .regs .enabled ≡ true) (j : Job) (s : Stre
     at-applied Fine size held q st ih = course-more (q .count) (placed at h) (placed (at + size) held) _ go-packet st midst-packet ih
     at-applied (Broken r) size held q st ih = course-last (placed at h) _ go-packet st midst-packet
 
-    at-frame : (k : ℕ) (f : Frame) → Sound (drop at bytes) f
+    at-frame : (k : ℕ) (f : Frame) → ((op size : ℕ) → f ≡ Whole op size → Sound (drop at bytes) op size)
         → step (placed at h) ≡ after-packet w j s (at + size-of f) es (apply-frame es h (drop at bytes) f .held) (apply-frame es h (drop at bytes) f .verdict)
         → ((n : ℕ) (g : Holdings) → at < n → n ≤ s .size → Reckons n g (judge-packets es g (cut k (drop n bytes))))
         → Reckons at h (judge-packets es h (before f (drop at bytes) (cut k (drop (at + size-of f) bytes))))
     unfolding judge-packets
     at-frame k (Whole op size) d st ih =
         let room : length (drop at bytes) ≡ s .size - at = length-drop at bytes ∙ rw len in
+        let some : 8 ≤ size = d op size refl .header in
+        let fits : size ≤ length (drop at bytes) = d op size refl .inside in
         at-applied (apply es h (packet-of op (take size (drop at bytes))) .verdict) size (apply es h (packet-of op (take size (drop at bytes))) .held)
         (judge-packets es (apply es h (packet-of op (take size (drop at bytes))) .held) (cut k (drop (at + size) bytes))) st
-        (ih (at + size) (apply es h (packet-of op (take size (drop at bytes))) .held) (omega (arith, d .some)) (omega (arith, d .fits)))
+        (ih (at + size) (apply es h (packet-of op (take size (drop at bytes))) .held) (omega arith) (omega arith))
     at-frame k (Misframed r) d st ih = course-last (placed at h) _ go-packet st midst-packet
 
   packets-none : (k at : ℕ) (h : Holdings) → s .size ≤ at → Reckons at h (judge-packets es h (cut k (drop at bytes)))
   unfolding judge-packets
   packets-none k at h p =
-      let gone : length (drop at bytes) ≡ 0 = length-drop at bytes ∙ omega arith in
-      rw (cut-none k (drop at bytes) gone, le-ltb at (s .size) p) (course-none _)
+      let gone : length bytes ≤ at = rw len p in
+      rw (cut-none k bytes at gone, le-ltb at (s .size) p) (course-none _)
 
   -- from a place in the stream, k bounding what is left
   pub packets-end : (k at : ℕ) (h : Holdings) → s .size - at ≤ k → Reckons at h (judge-packets es h (cut k (drop at bytes)))
@@ -248,7 +213,7 @@ module _ (w : World) (on : w .state .regs .enabled ≡ true) (j : Job) (s : Stre
           → Reckons at h (judge-packets es h (cut (suc k) (drop at bytes)))
       by-test true t ih =
           let more : at < s .size = ltb-true at (s .size) t in
-          let some : length (drop at bytes) ≡ 0 → ⊥ = λ z. omega (arith, length-drop at bytes, len) in
-          rw (cut-some k at bytes some)
-          (at-frame at h more k (frame-of (drop at bytes)) (sound (drop at bytes)) (step-as-frame at h more) ih)
+          let some : at < length bytes = rw len more in
+          rw (cut-next k bytes at some)
+          (at-frame at h more k (frame-of (drop at bytes)) (frame-sound (drop at bytes)) (step-as-frame at h more) ih)
       by-test false t ih = packets-none (suc k) at h (ltb-false at (s .size) t)

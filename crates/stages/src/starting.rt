@@ -7,14 +7,13 @@ use rooms::resources::copy_resources;
 use rules::Job;
 use rules::Opened;
 use rules::Stream;
+use rules::numbers::STREAM_HEADER_SIZE;
 use words::widths::index;
 ghost use mathlib.Core.Path.{_≡_};
 ghost use Prim.Native.Nat.{_≤_};
 ghost use Rattle.rules.specs.Numbers.{most};
 ghost use Rattle.stages.specs.Views.{Roomy};
 ghost use Rattle.stages.specs.Starting.{packetsStage, Begins, Starts};
-
-const FIRST_PACKET: u32 = 24;
 
 // The next packet, if one is left.
 pub fn packets_stage(job: Job, stream: Stream, at: usize) -> Stage
@@ -41,7 +40,7 @@ pub fn begin_packets(
     let n = s.counts;
     let live = n.rooms;
     copy_resources(rooms, held, live);
-    let stage = packets_stage(job, stream, index(FIRST_PACKET));
+    let stage = packets_stage(job, stream, index(STREAM_HEADER_SIZE));
     let regs = s.regs;
     let counts = Counts {
         entries: kept,

@@ -12,25 +12,30 @@ use rules::Packet;
 use rules::Refusal;
 use rules::numbers::BAD_PACKET;
 use rules::numbers::COPY_BUFFER;
+use rules::numbers::COPY_BUFFER_SIZE;
 use rules::numbers::CREATE_BUFFER;
+use rules::numbers::CREATE_BUFFER_SIZE;
 use rules::numbers::CREATE_TEXTURE;
+use rules::numbers::CREATE_TEXTURE_SIZE;
 use rules::numbers::DESTROY;
+use rules::numbers::DESTROY_SIZE;
 use rules::numbers::DIRTY_RANGE;
+use rules::numbers::DIRTY_RANGE_SIZE;
 use words::u32_at;
 use words::widths::index;
 
-const PACKET_HEADER_SIZE: usize = 8;
+const PACKET_HEADER_SIZE: usize = rules::numbers::PACKET_HEADER_SIZE as usize;
 
 // The size that the table of opcodes gives; 0 for an opcode that we do not know.
 fn known_size(op: u32) -> u32
     ensures { λ r. ⌜ r ≡ known-size op ⌝ }
 {
     match op {
-        CREATE_BUFFER => 40,
-        CREATE_TEXTURE => 56,
-        DESTROY => 16,
-        DIRTY_RANGE => 32,
-        COPY_BUFFER => 48,
+        CREATE_BUFFER => CREATE_BUFFER_SIZE,
+        CREATE_TEXTURE => CREATE_TEXTURE_SIZE,
+        DESTROY => DESTROY_SIZE,
+        DIRTY_RANGE => DIRTY_RANGE_SIZE,
+        COPY_BUFFER => COPY_BUFFER_SIZE,
         _ => 0,
     }
 }

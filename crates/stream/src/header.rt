@@ -11,12 +11,14 @@ use rules::Stream;
 use rules::StreamHeader;
 use rules::Verdict;
 use rules::numbers::BAD_STREAM;
+use rules::numbers::GOOD_MAJOR;
+use rules::numbers::MINORS;
 use rules::numbers::STREAM_MAGIC;
 use words::u32_at;
 use words::widths::long;
 use words::widths::wide;
 
-const STREAM_HEADER_SIZE: u64 = 24;
+const STREAM_HEADER_SIZE: u64 = rules::numbers::STREAM_HEADER_SIZE as u64;
 
 // What the check of a header gives: the numbers to keep, or the rule that is broken.
 pub enum Begun {
@@ -47,7 +49,7 @@ pub fn header_verdict(cmdsize: u64, h: StreamHeader) -> Verdict
     if h.magic != STREAM_MAGIC {
         return Verdict::Broken(Refusal { code: BAD_STREAM });
     }
-    if h.version / 65536 != 1 {
+    if h.version / MINORS != GOOD_MAJOR {
         return Verdict::Broken(Refusal { code: BAD_STREAM });
     }
     if size < STREAM_HEADER_SIZE {

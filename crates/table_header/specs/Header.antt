@@ -19,6 +19,7 @@ use Rattle.rules.specs.declared.Table.{Table}
 use Rattle.rules.specs.declared.TableHeader.{TableHeader}
 use Rattle.rules.specs.declared.Verdict.{Verdict}
 use Rattle.rules.specs.declared.Verdict.the-variants.{Fine, Broken}
+use Rattle.laws.specs.Fine.{fine-first, fine-later, kept-rule}
 use Rattle.table_header.specs.declared.header.Headed.{Headed}
 use Rattle.table_header.specs.declared.header.Headed.the-variants.{Good, Bad}
 
@@ -155,15 +156,6 @@ pub ruleset checking-header = (headed-short, headed-good, headed-bad, needs)
 
 -- ---- what a fine header says
 
--- a rule that is kept: its test fails, and the later rules are kept too
-passed : (n : ℕ) (t : Bool) (later : Verdict) → rule n t ▹ later ≡ Fine → (t ≡ false) × (later ≡ Fine)
-passed n true later e = let z : _≡_ {A = ℕ} 0 1 = cc in absurd (omega arith)
-passed n false later e = (refl, e)
-
-held : (n : ℕ) (t : Bool) → rule n t ≡ Fine → t ≡ false
-held n true e = let z : _≡_ {A = ℕ} 0 1 = cc in absurd (omega arith)
-held n false e = refl
-
 pub record Sized (tablesize : ℕ) (h : TableHeader) : Type 0 where
   pub few : h .count ≤ most
   pub wide : entry-size ≤ h .stride
@@ -171,23 +163,18 @@ pub record Sized (tablesize : ℕ) (h : TableHeader) : Type 0 where
 
 pub fine-sized : (tablesize : ℕ) (h : TableHeader) → header-rules tablesize h ≡ Fine → Sized tablesize h
 unfolding header-rules
-fine-sized tablesize h e =
-    let few : Verdict = rule too-many (ltb most (h .count)) in
-    let room : Verdict = rule bad-table (ltb (h .size) (table-header-size + h .count * h .stride)) ▹ few in
-    let wide : Verdict = rule bad-table (ltb (h .stride) entry-size) ▹ room in
-    let within : Verdict = rule bad-table (ltb tablesize (h .size)) ▹ wide in
-    let whole : Verdict = rule bad-table (ltb (h .size) table-header-size) ▹ within in
-    let version : Verdict = rule bad-table (not (good-version (h .version))) ▹ whole in
-    let magic : Verdict = rule bad-table (not (eqb (h .magic) table-magic)) ▹ version in
-    let e₁ : magic ≡ Fine = passed bad-table (ltb tablesize table-header-size) magic e .1 in
-    let e₂ : version ≡ Fine = passed bad-table (not (eqb (h .magic) table-magic)) version e₁ .1 in
-    let e₃ : whole ≡ Fine = passed bad-table (not (good-version (h .version))) whole e₂ .1 in
-    let e₄ : within ≡ Fine = passed bad-table (ltb (h .size) table-header-size) within e₃ .1 in
-    let e₅ : (ltb tablesize (h .size) ≡ false) × (wide ≡ Fine) = passed bad-table _ wide e₄ in
-    let e₆ : (ltb (h .stride) entry-size ≡ false) × (room ≡ Fine) = passed bad-table _ room (e₅ .1) in
-    let e₇ : (ltb (h .size) (table-header-size + h .count * h .stride) ≡ false) × (few ≡ Fine) = passed bad-table _ few (e₆ .1) in
+fine-sized tablesize h fine =
+    let l₁ = fine-later (rule bad-table (ltb tablesize table-header-size)) _ fine in
+    let l₂ = fine-later (rule bad-table (not (eqb (h .magic) table-magic))) _ l₁ in
+    let l₃ = fine-later (rule bad-table (not (good-version (h .version)))) _ l₂ in
+    let l₄ = fine-later (rule bad-table (ltb (h .size) table-header-size)) _ l₃ in
+    let l₅ = fine-later (rule bad-table (ltb tablesize (h .size))) _ l₄ in
+    let l₆ = fine-later (rule bad-table (ltb (h .stride) entry-size)) _ l₅ in
+    let l₇ = fine-later (rule bad-table (ltb (h .size) (table-header-size + h .count * h .stride))) _ l₆ in
+    let inside = ltb-false tablesize (h .size) (kept-rule bad-table (ltb tablesize (h .size)) (fine-first _ _ l₄)) in
+    let rows = ltb-false (h .size) (table-header-size + h .count * h .stride) (kept-rule bad-table (ltb (h .size) (table-header-size + h .count * h .stride)) (fine-first _ _ l₆)) in
     record {
-      few = ltb-false _ _ (held too-many _ (e₇ .1));
-      wide = ltb-false _ _ (e₆ .0);
-      room = le-trans (ltb-false _ _ (e₇ .0)) (ltb-false _ _ (e₅ .0));
+      few = ltb-false most (h .count) (kept-rule too-many (ltb most (h .count)) l₇);
+      wide = ltb-false (h .stride) entry-size (kept-rule bad-table (ltb (h .stride) entry-size) (fine-first _ _ l₅));
+      room = le-trans rows inside;
     }

@@ -5,6 +5,8 @@ use rules::Table;
 use rules::TableHeader;
 use rules::Verdict;
 use rules::numbers::BAD_TABLE;
+use rules::numbers::GOOD_MAJOR;
+use rules::numbers::MINORS;
 use rules::numbers::MOST;
 use rules::numbers::TABLE_MAGIC;
 use rules::numbers::TOO_MANY;
@@ -16,14 +18,9 @@ ghost use Rattle.rules.specs.Table.{header-rules, table-of};
 ghost use Rattle.table_header.specs.Header.{headed};
 
 // The bytes of a table's header and of an entry that are named; more may follow them.
-pub const HEADER_SIZE: u64 = 24;
+pub const HEADER_SIZE: u64 = rules::numbers::TABLE_HEADER_SIZE as u64;
 
-pub const ENTRY_SIZE: u64 = 32;
-
-// The major version that is good, and where it stands above the minor, of which any passes.
-const MAJOR: u32 = 1;
-
-const MINORS: u32 = 65536;
+pub const ENTRY_SIZE: u64 = rules::numbers::ENTRY_SIZE as u64;
 
 // How the check of a header ends: the numbers kept, or the rule broken.
 pub enum Headed {
@@ -62,7 +59,7 @@ pub fn header_verdict(tablesize: u64, h: TableHeader) -> Verdict
     if h.magic != TABLE_MAGIC {
         return Verdict::Broken(Refusal { code: BAD_TABLE });
     }
-    if h.version / MINORS != MAJOR {
+    if h.version / MINORS != GOOD_MAJOR {
         return Verdict::Broken(Refusal { code: BAD_TABLE });
     }
     if (h.size as u64) < HEADER_SIZE {
