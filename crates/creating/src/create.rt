@@ -1,148 +1,18 @@
 // Create: a new resource, host-backed or within an entry of the table; a backed one is handed out as a record.
 // The handle is looked up by one scan, the entry by another; nothing is copied.
+use backing::create;
 use ranges::applied::Applied;
-use ranges::applied::refuse;
-use ranges::bytes::resource_bytes;
-use rooms::records::push_record;
-use rooms::resources::find_resource;
-use rooms::resources::push_resource;
 use rules::CreateBuffer;
 use rules::CreateTexture;
 use rules::Kind;
-use rules::Record;
 use rules::Resource;
-use rules::Verdict;
-use rules::numbers::BACKS;
-use rules::numbers::BAD_HANDLE;
-use rules::numbers::BAD_SHAPE;
-use rules::numbers::MOST;
-use rules::numbers::NOT_IN_TABLE;
-use rules::numbers::PAST_ENTRY;
-use rules::numbers::TOO_MANY;
-use table::entry::entry_row;
-use table::entry::find_entry;
 ghost use mathlib.Core.Path.{_≡_};
-ghost use mathlib.Core.List.{List};
-ghost use Prim.Native.Nat.{ℕ, _≤_};
 ghost use Rattle.machine.specs.Machine.{pick};
-ghost use Rattle.rules.specs.Numbers.{most};
 ghost use Rattle.rules.specs.Shapes.{good-shape, good-backed};
-ghost use Rattle.rules.specs.Packets.{backed, create-hosted, create-backed, create as create-rules, on-buffer-packet, on-texture-packet};
-ghost use Rattle.table.specs.Views.{entriesOf};
+ghost use Rattle.rules.specs.Packets.{backed, on-buffer-packet, on-texture-packet};
+ghost use Rattle.entry_rows.specs.Views.{entriesOf};
 ghost use Rattle.rooms.specs.Views.{holdingsOf};
 ghost use Rattle.ranges.specs.Views.{Applies, Room};
-ghost use Rattle.creating.specs.Create.{store-backed};
-
-// A host-backed resource asks for a room only. It makes no record, so any records stay as they are.
-fn create_hosted(rooms: &mut [u64; 640], live: usize, made: usize, r: Resource) -> Applied
-    requires { ⌜ (live ≤ most) × (made ≤ most) ⌝ }
-    ensures { λ a. ⌜ ((l : List ℕ) → Applies (create-hosted (holdingsOf live (now (rooms .entry)) made l) r) a (now (rooms .exit)) l) ⌝ }
-{
-    if live >= MOST {
-        return refuse(TOO_MANY, live, made);
-    }
-    push_resource(rooms, live, r);
-    Applied {
-        verdict: Verdict::Fine,
-        live: live + 1,
-        made,
-    }
-}
-
-// A backed resource asks for a room and for a record's.
-fn store_backed(
-    rooms: &mut [u64; 640],
-    live: usize,
-    records: &mut [u64; 320],
-    made: usize,
-    r: Resource,
-    c: Record,
-) -> Applied
-    requires { ⌜ (live ≤ most) × (made ≤ most) ⌝ }
-    ensures { λ a. ⌜ Applies (store-backed (holdingsOf live (now (rooms .entry)) made (now (records .entry))) r c) a (now (rooms .exit)) (now (records .exit)) ⌝ }
-{
-    if live >= MOST {
-        return refuse(TOO_MANY, live, made);
-    }
-    if made >= MOST {
-        return refuse(TOO_MANY, live, made);
-    }
-    push_resource(rooms, live, r);
-    push_record(records, made, c);
-    Applied {
-        verdict: Verdict::Fine,
-        live: live + 1,
-        made: made + 1,
-    }
-}
-
-// A backed resource lies inside the entry with its id, and is handed out whole. The sum of its offset and bytes may be
-// above 2^64, so the two are held against the entry's size one after the other.
-fn create_backed(
-    entries: &[u64; 256],
-    n: usize,
-    rooms: &mut [u64; 640],
-    live: usize,
-    records: &mut [u64; 320],
-    made: usize,
-    r: Resource,
-) -> Applied
-    requires { ⌜ Room n live made ⌝ }
-    ensures { λ a. ⌜ Applies (create-backed (entriesOf n (now (entries .entry))) (holdingsOf live (now (rooms .entry)) made (now (records .entry))) r) a (now (rooms .exit)) (now (records .exit)) ⌝ }
-{
-    let place = find_entry(entries, n, r.backing);
-    if place >= n {
-        return refuse(NOT_IN_TABLE, live, made);
-    }
-    let e = entry_row(entries, place);
-    let kind = r.kind;
-    let bytes = resource_bytes(kind, r.pitch);
-    let offset = r.offset as u64;
-    if bytes > e.size {
-        return refuse(PAST_ENTRY, live, made);
-    }
-    if offset > e.size - bytes {
-        return refuse(PAST_ENTRY, live, made);
-    }
-    let c = Record {
-        kind: BACKS,
-        handle: r.handle,
-        id: r.backing,
-        gpa: e.gpa + offset,
-        length: bytes,
-    };
-    store_backed(rooms, live, records, made, r, c)
-}
-
-// What buffers and textures share, once it is known whether the shape is good.
-fn create(
-    entries: &[u64; 256],
-    n: usize,
-    rooms: &mut [u64; 640],
-    live: usize,
-    records: &mut [u64; 320],
-    made: usize,
-    good: bool,
-    r: Resource,
-) -> Applied
-    requires { ⌜ Room n live made ⌝ }
-    ensures { λ a. ⌜ Applies (create-rules (entriesOf n (now (entries .entry))) (holdingsOf live (now (rooms .entry)) made (now (records .entry))) good r) a (now (rooms .exit)) (now (records .exit)) ⌝ }
-{
-    if r.handle == 0 {
-        return refuse(BAD_HANDLE, live, made);
-    }
-    let place = find_resource(rooms, live, r.handle);
-    if place < live {
-        return refuse(BAD_HANDLE, live, made);
-    }
-    if !good {
-        return refuse(BAD_SHAPE, live, made);
-    }
-    if r.backing == 0 {
-        return create_hosted(rooms, live, made, r);
-    }
-    create_backed(entries, n, rooms, live, records, made, r)
-}
 
 // A number that a host-backed resource ignores, and keeps as 0.
 fn backed_only(backing: u32, x: u32) -> u32

@@ -1,17 +1,13 @@
 -- What a call over lent state says in five words: the values of the rules' own call, in order, then zeros.
 use mathlib.Core.Path.{_≡_}
-use mathlib.Core.List.{List, [], _∷_}
+use mathlib.Core.List.{List}
 use Prim.Native.Nat.{ℕ}
 use Rattle.rules.specs.Calls.{ended-number, call-read, call-run, call-record}
-use Rattle.rules.specs.declared.Record.{Record}
 use Rattle.device.specs.Views.{worldIn, stateIn}
 use Rattle.lent.specs.Calls.{deviceIn, Refused}
+use Rattle.said.specs.Five.{five, recordWords}
 
-abbrev pub five : ℕ → ℕ → ℕ → ℕ → ℕ → List ℕ
-five a b c d e = a ∷ b ∷ c ∷ d ∷ e ∷ []
-
-abbrev pub recordWords : Record → List ℕ
-recordWords x = five (x .kind) (x .handle) (x .id) (x .gpa) (x .length)
+-- ---- the calls
 
 -- the rules' read, of the device in the words
 pub record SaysValue (s : List ℕ) (offset a : ℕ) (said : List ℕ) : Type 0 where

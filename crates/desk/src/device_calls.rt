@@ -1,21 +1,17 @@
 // The device over state that the host owns: words for its numbers and for its four tables, and five words for what a call
 // says. Zero or not, any words mean some device; `zelezmut_make` makes a new one of them.
-use crate::said::number_of;
-use crate::said::say;
-use crate::said::say_record;
 use flat::reading::is_set;
-use words::widths::place;
-use words::widths::wide;
+use said::number_of;
+use said::say;
+use said::say_record;
+use widths::count;
+use widths::place;
+use widths::wide;
 ghost use mathlib.Core.Path.{_≡_};
 ghost use Rattle.flat.specs.Views.{setIn};
-ghost use Rattle.lent.specs.Calls.{Makes, Writes, Answers};
+ghost use Rattle.lent.specs.Calls.{Makes, Writes};
+ghost use Rattle.lent_memory.specs.Works.{Answers};
 ghost use Rattle.desk.specs.Said.{SaysValue, SaysRun, SaysRecord};
-
-fn count_of(x: u16) -> u64
-    ensures { λ r. ⌜ r ≡ x ⌝ }
-{
-    x as u64
-}
 
 // A new device for a memory of so many bytes.
 #[no_mangle]
@@ -58,8 +54,8 @@ pub extern "C" fn zelezmut_run(
 ) -> u32
     ensures { λ r. ⌜ SaysRun (now (scalars .entry)) (now (entries .entry)) (now (rooms .entry)) (now (held .entry)) (now (records .entry)) (now (mem .entry)) allowance r (now (said .exit)) (now (scalars .exit)) (now (entries .exit)) (now (held .exit)) (now (records .exit)) (now (mem .exit)) ⌝ }
 {
-    let x = lent::calls::run(scalars, entries, rooms, held, records, mem, allowance);
-    let units = count_of(x.units);
+    let x = lent_memory::working::run(scalars, entries, rooms, held, records, mem, allowance);
+    let units = count(x.units);
     let how = x.ended;
     let ended = number_of(how);
     say(said, units, ended);
@@ -94,5 +90,5 @@ pub extern "C" fn zelezmut_answer(
     ensures { λ r. ⌜ Answers (now (scalars .entry)) (now (rooms .entry)) (now (held .entry)) (now (mem .entry)) (setIn good) r (now (scalars .exit)) (now (rooms .exit)) (now (mem .exit)) ⌝ }
 {
     let told = is_set(wide(good));
-    lent::calls::answer(scalars, rooms, held, mem, told)
+    lent_memory::working::answer(scalars, rooms, held, mem, told)
 }

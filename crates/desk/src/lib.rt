@@ -1,7 +1,6 @@
 // The exports for a host that is not Rattle: plain numbers, lent bytes and lent words in, numbers out.
 // Each only hands its words on, so that what it promises is the promise of the crate behind it.
 pub mod device_calls;
-pub mod said;
 
 ghost use mathlib.Core.Path.{_≡_};
 ghost use Rattle.rules.specs.Shapes.{packed-size};
@@ -19,7 +18,7 @@ pub extern "C" fn zelezmut_packed_size(
 ) -> u64
     ensures { λ r. ⌜ r ≡ packed-size (record { format = format; width = width; height = height; mips = mips; layers = layers }) pitch ⌝ }
 {
-    shapes::packed_size(format, width, height, mips, layers, pitch)
+    sizes::packed_size(format, width, height, mips, layers, pitch)
 }
 
 // The first error of an allocation table that lies in the lent bytes, for a guest memory of so many bytes: 13, 19, 14 or 15 as the

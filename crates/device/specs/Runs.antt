@@ -18,13 +18,13 @@ use Rattle.rooms.specs.Views.{resourceOf}
 use Rattle.rows.specs.Rows.{table-zero}
 use Rattle.stages.specs.Views.{workOf, worldOf}
 use Rattle.front.specs.Turning.{Advanced}
-use Rattle.outcomes.specs.Answering.{Answers}
+use Rattle.answering.specs.Answering.{Answers}
 use Rattle.stages.specs.declared.scalars.Stage.the-variants.{Resting, Entries, Packets, Waiting}
 use Rattle.stages.specs.declared.scalars.Stage.{Stage}
 use Rattle.stages.specs.declared.scalars.Counts.{Counts}
 use Rattle.stages.specs.declared.scalars.Scalars.{Scalars}
 use Rattle.front.specs.declared.turning.Turn.{Turn}
-use Rattle.outcomes.specs.declared.answering.Told.{Told as ToldFront}
+use Rattle.answering.specs.declared.Told.{Told as ToldFront}
 use Rattle.shell.specs.Tame.{least-same, tamed, Tames, roomy-tamed}
 use Rattle.device.specs.Views.{stateIn, worldIn, ranOf, toldOf}
 use Rattle.shell.specs.Views.{Ends, stageWaits, newNumbers}

@@ -1,10 +1,10 @@
 // The device as a value: every call takes it and hands it back, with the call's answer and its values.
 // No call asks anything of its caller: whatever stands in the device or in memory, it ends and says what it gives.
+use answering::answer;
 use front::turning::advance;
-use outcomes::answering::answer;
+use records::record_row;
 use registers::Shown;
 use registers::Written;
-use rooms::records::record_row;
 use rules::Ended;
 use rules::Record;
 use rules::numbers::DONE;
@@ -19,7 +19,7 @@ use shell::new_numbers;
 use shell::tame::tame;
 use shell::with_registers;
 use stages::scalars::Scalars;
-use words::widths::index;
+use widths::index;
 ghost use mathlib.Core.Path.{_≡_};
 ghost use Rattle.rules.specs.State.{made};
 ghost use Rattle.rules.specs.Calls.{call-write, call-read, call-run, call-record, call-answer};

@@ -14,7 +14,7 @@ use Rattle.stages.specs.declared.scalars.Stage.{Stage}
 use Rattle.stages.specs.declared.scalars.Stage.the-variants.{Resting, Entries, Packets, Waiting}
 use Rattle.stages.specs.declared.scalars.Counts.{Counts}
 use Rattle.stages.specs.declared.scalars.Scalars.{Scalars}
-use Rattle.flat.specs.declared.storing.Flat.{Flat}
+use Rattle.flat.specs.declared.Flat.{Flat}
 
 abbrev pub setIn : ℕ → Bool
 setIn x = pick (eqb x 0) false true

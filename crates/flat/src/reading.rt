@@ -8,8 +8,8 @@ use rules::Table;
 use stages::scalars::Counts;
 use stages::scalars::Scalars;
 use stages::scalars::Stage;
+use widths::place;
 use words::low32;
-use words::widths::place;
 ghost use mathlib.Core.Path.{_≡_};
 ghost use Rattle.flat.specs.Views.{setIn, registersIn, jobIn, tableIn, streamIn, stageIn, countsIn, scalarsIn};
 

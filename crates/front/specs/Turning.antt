@@ -27,19 +27,20 @@ use Rattle.rules.specs.declared.Stream.{Stream}
 use Rattle.rules.specs.declared.Opened.{Opened}
 use Rattle.rules.specs.declared.Verdict.{Verdict}
 use Rattle.rules.specs.declared.Verdict.the-variants.{Fine, Broken as BrokenRule}
-use Rattle.table.specs.Views.{entriesOf}
+use Rattle.entry_rows.specs.Views.{entriesOf}
 use Rattle.rooms.specs.Views.{holdingsOf}
 use Rattle.ranges.specs.Views.{Room}
 use Rattle.phases.specs.Ending.{onward}
 use Rattle.phases.specs.Entries.{Reading, reading-goes, read-on, read-step, EntriesRan, from-row, outOf as entriesOut}
-use Rattle.phases.specs.Playing.{Playing, playing-goes, play-on, play-step, playingOf, PacketsRan, outOf as packetsOut}
+use Rattle.playing.specs.Playing.{Playing, playing-goes, play-on, play-step, playingOf, PacketsRan, outOf as packetsOut}
 use Rattle.phases.specs.declared.ending.Ending.{Ending}
 use Rattle.phases.specs.declared.ending.Ending.the-variants.{Going, Done, Broken}
 use Rattle.phases.specs.declared.entries.EntriesRun.{EntriesRun}
-use Rattle.phases.specs.declared.playing.PacketsPlace.{PacketsPlace}
-use Rattle.phases.specs.declared.playing.PacketsRun.{PacketsRun}
+use Rattle.playing.specs.declared.PacketsPlace.{PacketsPlace}
+use Rattle.playing.specs.declared.PacketsRun.{PacketsRun}
 use Rattle.stages.specs.Views.{worldOf, bare, Roomy}
-use Rattle.outcomes.specs.Landing.{laid-on, laid, LandsEntries, played-on, played, LandsPackets, Opens}
+use Rattle.landing.specs.Landing.{laid-on, laid, LandsEntries, played-on, played, LandsPackets}
+use Rattle.outcomes.specs.Opening.{Opens}
 use Rattle.stages.specs.declared.scalars.Stage.the-variants.{Resting, Entries, Packets, Waiting}
 use Rattle.stages.specs.declared.scalars.Counts.{Counts}
 use Rattle.stages.specs.declared.scalars.Scalars.{Scalars}

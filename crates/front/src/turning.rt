@@ -1,26 +1,26 @@
 // A run, turn by turn: an opening is one unit, a phase as many as the allowance and its own length let.
 // So the hot loops are the phases', and the contract is still unit by unit.
-use outcomes::landing::land_entries;
-use outcomes::landing::land_packets;
-use outcomes::landing::open_ring;
+use landing::land_entries;
+use landing::land_packets;
+use outcomes::opening::open_ring;
 use phases::ending::Ending;
 use phases::entries::read_entries;
-use phases::playing::PacketsPlace;
-use phases::playing::PacketsRun;
-use phases::playing::read_packets;
+use playing::PacketsPlace;
+use playing::PacketsRun;
+use playing::read_packets;
 use rules::Job;
 use rules::Opened;
 use rules::Stream;
 use stages::scalars::Scalars;
 use stages::scalars::Stage;
-use words::widths::index;
-use words::widths::place;
+use widths::index;
+use widths::place;
 ghost use mathlib.Core.Path.{_≡_};
 ghost use Prim.Native.Nat.{_≤_, _<_};
 ghost use lib.ListN.{length};
 ghost use Rattle.rules.specs.Stream.{stream-bytes};
 ghost use Rattle.ranges.specs.Views.{Room};
-ghost use Rattle.phases.specs.Playing.{PacketsRan};
+ghost use Rattle.playing.specs.Playing.{PacketsRan};
 ghost use Rattle.stages.specs.Views.{Roomy, worldOf};
 ghost use Rattle.front.specs.Turning.{Due, EntriesTurn, PacketsTurn, TurnOf, stillTurn, Advanced};
 

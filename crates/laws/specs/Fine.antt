@@ -28,6 +28,15 @@ kept-rule n false e = refl
 pub kept-only : (t : Bool) (v : Verdict) → t ≡ true → only t v ≡ Fine → v ≡ Fine
 kept-only t v h e = rw h at e
 
+-- five in a row, as a header and a packet have them
+pub all-kept : (n : ℕ) (a b c d e : Bool) → rule n a ▹ rule n b ▹ rule n c ▹ rule n d ▹ rule n e ≡ Fine
+    → (a ≡ false) × ((b ≡ false) × ((c ≡ false) × ((d ≡ false) × (e ≡ false))))
+all-kept n a b c d e h =
+    let p = fine-later (rule n a) (rule n b ▹ rule n c ▹ rule n d ▹ rule n e) h in
+    let q = fine-later (rule n b) (rule n c ▹ rule n d ▹ rule n e) p in
+    let r = fine-later (rule n c) (rule n d ▹ rule n e) q in
+    (kept-rule n a (fine-first _ _ h), (kept-rule n b (fine-first _ _ p), (kept-rule n c (fine-first _ _ q), (kept-rule n d (fine-first _ _ r), kept-rule n e (fine-later (rule n d) (rule n e) r)))))
+
 -- tests joined
 pub both-left : (a b : Bool) → a && b ≡ true → a ≡ true
 both-left true b h = refl

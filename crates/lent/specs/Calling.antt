@@ -1,17 +1,13 @@
 -- The calls over lent state: what their code asks, from the laws of Device's own methods. Assumes nothing.
-use mathlib.Core.Path.{_≡_, refl, sym, ap, subst, _∙_}
+use mathlib.Core.Path.{_≡_, refl, ap, subst, _∙_}
 use mathlib.Core.Bool.{Bool, true, false, not}
 use mathlib.Core.List.{List}
 use Prim.Native.Nat.{ℕ, _≤_, _<_}
 use borrow.Author.Needs.{needs}
-use lib.ListN.{length}
-use Rattle.rules.specs.Numbers.{done, other-memory, no-register, nothing-waits}
-use Rattle.rules.specs.Calls.{Ran, Told}
+use Rattle.rules.specs.Numbers.{done, no-register}
 use Rattle.rules.specs.Registers.{register}
 use Rattle.rules.specs.declared.Registers.{Registers}
 use Rattle.rules.specs.declared.Record.{Record}
-use Rattle.rules.specs.declared.Ended.{Ended}
-use Rattle.rules.specs.declared.Ended.the-variants.{Idle}
 use Rattle.registers.specs.Map.{shown, Writes as RegisterWrites}
 use Rattle.registers.specs.declared.Shown.{Shown}
 use Rattle.registers.specs.declared.Shown.the-variants.{Value, NoRegister as NoShown}
@@ -19,20 +15,15 @@ use Rattle.registers.specs.declared.Written.{Written}
 use Rattle.registers.specs.declared.Written.the-variants.{Kept, Reset, NoRegister}
 use Rattle.rows.specs.Rows.{rowAt}
 use Rattle.rooms.specs.Views.{recordOf}
-use Rattle.stages.specs.Views.{worldOf}
-use Rattle.front.specs.Turning.{Advanced}
-use Rattle.outcomes.specs.Answering.{Answers as FrontAnswers}
 use Rattle.stages.specs.declared.scalars.Scalars.{Scalars}
-use Rattle.front.specs.declared.turning.Turn.{Turn}
-use Rattle.outcomes.specs.declared.answering.Told.{Told as FrontTold}
 use Rattle.shell.specs.Tame.{Tames}
-use Rattle.device.specs.Views.{worldIn, noneHanded}
-use Rattle.shell.specs.Views.{Ends, stageWaits, withRegisters, droppedWith, newNumbers}
+use Rattle.device.specs.Views.{noneHanded}
+use Rattle.shell.specs.Views.{stageWaits, withRegisters, droppedWith, newNumbers}
 use Rattle.device.specs.Reads.{write-none, write-kept, write-reset, read-none, read-value, record-unasked, record-past, record-there}
-use Rattle.device.specs.Runs.{run-refused, run-done, answer-refused, answer-unasked, answer-done, is-made}
+use Rattle.device.specs.Runs.{is-made}
 use Rattle.device.specs.declared.Handed.{Handed}
 use Rattle.flat.specs.Views.{registersIn, scalarsIn}
-use Rattle.lent.specs.Calls.{deviceIn, Makes, Writes, Reads, Runs, Hands, Answers}
+use Rattle.lent.specs.Calls.{deviceIn, Makes, Writes, Reads, Hands}
 
 -- ---- make
 
@@ -84,65 +75,6 @@ module _ (s : List ℕ) (offset : ℕ) (q : Registers) (is : q ≡ registersIn s
   reads-value v e = record { value = λ t r h c. read-value (deviceIn s t r h c) offset x there v e }
 
 pub ruleset reading = (reads-none, reads-value, needs)
-
--- ---- run
-
-module _ (s e r h c m : List ℕ) (allowance : ℕ) (given : Scalars) (is : given ≡ scalarsIn s) where
-  pub runs-refused : (length m ≡ given .memory → ⊥) → Runs s e r h c m allowance (record { answer = other-memory; units = 0; ended = Idle }) s e h c m
-  runs-refused n =
-      record {
-        ran = run-refused (deviceIn s e r h c) m allowance (λ p. n (p ∙ ap (λ (y : Scalars). y .memory) (sym is)));
-        still = λ n. (refl, (refl, (refl, (refl, refl))));
-      }
-
-  pub runs-done : (x : Scalars) (t : Turn) (k : Ended) (s′ e′ h′ c′ m′ : List ℕ) → length m ≡ given .memory → Tames given x
-      → Advanced allowance (worldOf x e r h c m) (worldOf (t .scalars) e′ r h′ c′ m′) (t .scalars .counts) (t .units) → Ends (t .scalars) k → scalarsIn s′ ≡ t .scalars
-      → Runs s e r h c m allowance (record { answer = done; units = t .units; ended = k }) s′ e′ h′ c′ m′
-  runs-done x t k s′ e′ h′ c′ m′ n tame′ adv ends stored =
-      record {
-        ran =
-            ap {B = Ran} (λ (y : Scalars). record { answer = done; units = t .units; ended = k; world = worldIn (record { scalars = y; entries = e′; rooms = r; held = h′; records = c′ }) m′ }) stored
-            ∙ run-done (deviceIn s e r h c) m allowance x t k m′ e′ h′ c′ (n ∙ ap (λ (y : Scalars). y .memory) is) (subst (λ (y : Scalars). Tames y x) is tame′) adv ends;
-        still = λ n. absurd (n refl);
-      }
-
-pub ruleset running = (runs-refused, runs-done, needs)
-
--- ---- answer
-
-module _ (s r h m : List ℕ) (good : Bool) (given : Scalars) (is : given ≡ scalarsIn s) where
-  pub answers-refused : (length m ≡ given .memory → ⊥) → Answers s r h m good other-memory s r m
-  answers-refused n =
-      record {
-        told = λ e c. answer-refused (deviceIn s e r h c) m good (λ p. n (p ∙ ap (λ (y : Scalars). y .memory) (sym is)));
-        still = λ n. (refl, (refl, refl));
-      }
-
-  module _ (n : length m ≡ given .memory) (b : Bool) (asks : b ≡ stageWaits (given .stage)) where
-    long : length m ≡ scalarsIn s .memory
-    long = n ∙ ap (λ (y : Scalars). y .memory) is
-
-    waits : b ≡ stageWaits (scalarsIn s .stage)
-    waits = asks ∙ ap (λ (y : Scalars). stageWaits (y .stage)) is
-
-    pub answers-unasked : not b ≡ true → Answers s r h m good nothing-waits s r m
-    answers-unasked q =
-        record {
-          told = λ e c. answer-unasked (deviceIn s e r h c) m good long b waits q;
-          still = λ n. (refl, (refl, refl));
-        }
-
-    pub answers-done : (x : Scalars) (t : FrontTold) (s′ r′ m′ : List ℕ) → not b ≡ false → Tames given x → FrontAnswers x m r h good t m′ r′ → scalarsIn s′ ≡ t .scalars
-        → Answers s r h m good done s′ r′ m′
-    answers-done x t s′ r′ m′ q tame′ a stored =
-        record {
-          told =
-              λ e c. ap {B = Told} (λ (y : Scalars). record { answer = done; world = worldIn (record { scalars = y; entries = e; rooms = r′; held = h; records = c }) m′ }) stored
-              ∙ answer-done (deviceIn s e r h c) m good long b waits x t m′ r′ q (subst (λ (y : Scalars). Tames y x) is tame′) a;
-          still = λ n. absurd (n refl);
-        }
-
-pub ruleset telling = (answers-refused, answers-unasked, answers-done, needs)
 
 -- ---- record
 

@@ -35,7 +35,7 @@ fn signal_line(example: u32, regs: Registers, signal: u64) {
     say_example(example);
     say_named(b"completed ", regs.completed);
     say_named(b", signal ", signal);
-    let after = settle::ended_by(regs, job, Verdict::Fine);
+    let after = signals::ended_by(regs, job, Verdict::Fine);
     say_named(b": completed ", after.completed);
     if after.fenced {
         say(b", IRQ\n");

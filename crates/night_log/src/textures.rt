@@ -51,7 +51,7 @@ fn size_line(example: u32, s: Shape, pitch: u32) {
     say_shape(example, s);
     say_named(b", pitch ", pitch as u64);
     say(b": ");
-    let size = shapes::packed_size(s.format, s.width, s.height, s.mips, s.layers, pitch);
+    let size = sizes::packed_size(s.format, s.width, s.height, s.mips, s.layers, pitch);
     if size == 0 {
         say_judged(BAD_SHAPE);
     } else {
@@ -66,7 +66,7 @@ fn start_line(example: u32, s: Shape, pitch: u32, index: u32) {
     say_named(b", pitch ", pitch as u64);
     say_named(b", index ", index as u64);
     say(b" starts at: ");
-    match shapes::subresource_start(s, pitch, index) {
+    match sizes::subresource_start(s, pitch, index) {
         Start::At(place) => say_number(place),
         Start::Nowhere => say(b"nowhere"),
     }

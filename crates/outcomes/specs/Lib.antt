@@ -1,2 +1,1 @@
-pub mod Landing
-pub mod Answering
+pub mod Opening

@@ -11,11 +11,11 @@ use Rattle.rules.specs.declared.DirtyRange.{DirtyRange}
 use Rattle.rules.specs.declared.CopyBuffer.{CopyBuffer}
 use Rattle.rules.specs.declared.Packet.{Packet}
 use Rattle.rules.specs.declared.Packet.the-variants.{Buffer, Texture, Destroy, Dirty, Copy, Unknown}
-use Rattle.table.specs.Views.{entriesOf}
+use Rattle.entry_rows.specs.Views.{entriesOf}
 use Rattle.rooms.specs.Views.{holdingsOf}
 use Rattle.ranges.specs.Views.{Applies, Room}
 use Rattle.ranges.specs.Handout.{acceptedWith}
-use Rattle.packets.specs.Destroy.{Destroys}
+use Rattle.destroying.specs.Destroy.{Destroys}
 use Rattle.ranges.specs.declared.applied.Applied.{Applied}
 
 module _ (n live made : ℕ) (e l c l′ c′ : List ℕ) (p : Packet) (a : Applied) where

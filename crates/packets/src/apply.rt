@@ -1,14 +1,14 @@
 // One packet that was framed and read, whatever it is. One whose opcode we do not know touches nothing.
-use crate::copy::on_copy;
-use crate::destroy::on_destroy;
-use crate::dirty::on_dirty;
+use copying::copy::on_copy;
 use creating::create::on_buffer;
 use creating::create::on_texture;
+use destroying::destroy::on_destroy;
+use dirtying::dirty::on_dirty;
 use ranges::applied::Applied;
 use rules::Packet;
 use rules::Verdict;
 ghost use Rattle.rules.specs.Packets.{apply};
-ghost use Rattle.table.specs.Views.{entriesOf};
+ghost use Rattle.entry_rows.specs.Views.{entriesOf};
 ghost use Rattle.rooms.specs.Views.{holdingsOf};
 ghost use Rattle.ranges.specs.Views.{Applies, Room};
 

@@ -20,7 +20,7 @@ use Rattle.rules.specs.declared.Verdict.{Verdict}
 use Rattle.rules.specs.declared.Verdict.the-variants.{Fine, Broken as BrokenRule}
 use Rattle.laws.specs.Fine.{both-left}
 use Rattle.rows.specs.Rows.{length-table}
-use Rattle.table.specs.Views.{entryOf, entriesOf, takenOf}
+use Rattle.entry_rows.specs.Views.{entryOf, entriesOf, takenOf}
 use Rattle.phases.specs.Ending.{onward, ending-at}
 use Rattle.phases.specs.declared.ending.Ending.{Ending}
 use Rattle.phases.specs.declared.ending.Ending.the-variants.{Going, Done, Broken}

@@ -10,5 +10,3 @@ pub mod Memory
 pub mod InMemory
 pub mod AnyRegisters
 pub mod Night
-pub mod OnDevice
-pub mod Examples

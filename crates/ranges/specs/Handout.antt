@@ -18,8 +18,8 @@ use Rattle.rules.specs.declared.Resource.{Resource}
 use Rattle.rules.specs.declared.Record.{Record}
 use Rattle.rules.specs.declared.Verdict.the-variants.{Fine}
 use Rattle.rows.specs.Rows.{rowAt, length-table}
-use Rattle.table.specs.Views.{RowRead, entriesOf}
-use Rattle.table.specs.Entry.{entry-found, entry-missing}
+use Rattle.entry_rows.specs.Views.{RowRead, entriesOf}
+use Rattle.entry_rows.specs.Rows.{entry-found, entry-missing}
 use Rattle.rooms.specs.Views.{recordOf, recordsOf, holdingsOf}
 use Rattle.ranges.specs.Views.{Applies, Room, refusedWith}
 use Rattle.ranges.specs.declared.applied.Applied.{Applied}

@@ -10,6 +10,6 @@ pub fn resource_bytes(kind: Kind, pitch: u32) -> u64
 {
     match kind {
         Kind::Bytes(size) => size,
-        Kind::Picture(s) => shapes::packed_size_of(s, pitch),
+        Kind::Picture(s) => sizes::packed_size_of(s, pitch),
     }
 }

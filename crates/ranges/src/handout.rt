@@ -2,21 +2,21 @@
 // Dirty ranges and copies share these checks; sums are those of plain numbers and never wrap.
 use crate::applied::Applied;
 use crate::applied::refuse;
-use rooms::records::push_record;
+use entry_rows::entry_row;
+use entry_rows::find_entry;
+use records::push_record;
 use rules::Record;
 use rules::Resource;
 use rules::Verdict;
 use rules::numbers::MOST;
 use rules::numbers::TOO_MANY;
-use table::entry::entry_row;
-use table::entry::find_entry;
 ghost use mathlib.Core.Path.{_≡_};
 ghost use Prim.Native.Nat.{_+_, _≤_};
 ghost use lib.Dec.{ltb};
 ghost use Rattle.rules.specs.Numbers.{most};
 ghost use Rattle.rules.specs.Table.{matching};
 ghost use Rattle.rules.specs.Packets.{hand-out};
-ghost use Rattle.table.specs.Views.{entriesOf};
+ghost use Rattle.entry_rows.specs.Views.{entriesOf};
 ghost use Rattle.ranges.specs.Handout.{Hands, resolvedOf};
 
 // What a range of a resource comes to in this submission's table.

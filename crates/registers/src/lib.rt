@@ -12,7 +12,7 @@ use rules::Registers;
 use rules::numbers::DEVICE_MAGIC;
 use rules::numbers::FEATURES;
 use rules::numbers::VERSION;
-use words::widths::wide;
+use widths::wide;
 
 // A number of eight bytes is read and written by halves of four.
 const HALF: u64 = 4294967296;

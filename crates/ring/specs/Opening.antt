@@ -31,9 +31,9 @@ use Rattle.rules.specs.declared.Opening.the-variants.{BadRing, NoWork, Refused,
 use Rattle.table_header.specs.Header.{headed}
 use Rattle.table_header.specs.declared.header.Headed.{Headed}
 use Rattle.table_header.specs.declared.header.Headed.the-variants.{Good as GoodTable, Bad as BadTable}
-use Rattle.stream.specs.Header.{begun}
-use Rattle.stream.specs.declared.header.Begun.{Begun}
-use Rattle.stream.specs.declared.header.Begun.the-variants.{Good as GoodStream, Bad as BadStream}
+use Rattle.stream_header.specs.Header.{begun}
+use Rattle.stream_header.specs.declared.header.Begun.{Begun}
+use Rattle.stream_header.specs.declared.header.Begun.the-variants.{Good as GoodStream, Bad as BadStream}
 use Rattle.laws.specs.Fine.{fine-first, fine-later, kept-rule, kept-only, both-left, both-right}
 
 -- ---- a table or a stream, where it is present

@@ -1,5 +1,8 @@
 // How an opening ends: a bad ring, no work, a submission that is refused, or one that was started.
 // Ranges are looked into only where they are present, and only once they are known to lie within memory.
+use descriptors::descriptor::descriptor_at;
+use descriptors::descriptor::descriptor_verdict;
+use descriptors::descriptor::range_verdict;
 use rules::Descriptor;
 use rules::Job;
 use rules::Opened;
@@ -9,17 +12,14 @@ use rules::Stream;
 use rules::Table;
 use rules::Verdict;
 use rules::numbers::RING_HEADER_SIZE;
-use slots::descriptor::descriptor_at;
-use slots::descriptor::descriptor_verdict;
-use slots::descriptor::range_verdict;
 use slots::header::good;
 use slots::header::header_at;
 use slots::header::slot_offset;
-use stream::header::Begun;
+use stream_header::header::Begun;
 use table_header::header::Headed;
-use words::widths::long;
-use words::widths::place;
-use words::widths::wide;
+use widths::long;
+use widths::place;
+use widths::wide;
 ghost use mathlib.Core.Path.{_≡_};
 ghost use Prim.Native.Nat.{_+_, _≤_, _<_};
 ghost use lib.ListN.{length};
@@ -49,7 +49,7 @@ fn open_stream(mem: &[u8], gpa: u64, size: u32) -> Begun
     if size == 0 {
         return Begun::Good(Stream { gpa: 0, size: 0 });
     }
-    stream::header::check_header(mem, place(gpa), wide(size))
+    stream_header::header::check_header(mem, place(gpa), wide(size))
 }
 
 // The submission that a descriptor describes, once 11 and 12 have passed.

@@ -3,21 +3,18 @@
 use rules::Kind;
 use rules::Resource;
 use rules::Shape;
-use words::widths::wide;
 ghost use mathlib.Core.Path.{_≡_};
 ghost use Prim.Native.Nat.{_+_, _-_, _≤_, _<_};
 ghost use Rattle.rules.specs.Numbers.{most};
-ghost use Rattle.rules.specs.Lists.{indexOf, pushed, removed};
+ghost use Rattle.rules.specs.Lists.{indexOf};
 ghost use Rattle.rules.specs.Packets.{handle-of};
 ghost use Rattle.rows.specs.Rows.{rowAt};
-ghost use Rattle.rooms.specs.Views.{resourceOf, resourcesOf, kindIn, flatKind};
+ghost use Rattle.rooms.specs.Views.{resourceOf, resourcesOf, kindIn};
 
 // The words of a resource.
 pub const WORDS: usize = 10;
 
-const BUFFER: u64 = 0;
-
-const TEXTURE: u64 = 1;
+pub const BUFFER: u64 = 0;
 
 // What the resource of a row is.
 fn kind_at(rooms: &[u64; 640], b: usize) -> Kind
@@ -60,75 +57,4 @@ pub fn find_resource(rooms: &[u64; 640], n: usize, handle: u32) -> usize
     ensures { λ r. ⌜ r ≡ indexOf handle-of handle (resourcesOf n (now (rooms .entry))) ⌝ }
 {
     rows::find_row(rooms, WORDS, n, handle)
-}
-
-// The six words of a kind.
-struct FlatKind {
-    tag: u64,
-    first: u64,
-    width: u64,
-    height: u64,
-    mips: u64,
-    layers: u64,
-}
-
-// A kind as words; those that a buffer does not use are 0.
-fn flat(kind: Kind) -> FlatKind
-    ensures { λ r. ⌜ flatKind (r .tag) (r .first) (r .width) (r .height) (r .mips) (r .layers) ≡ kind ⌝ }
-{
-    match kind {
-        Kind::Bytes(size) => FlatKind {
-            tag: BUFFER,
-            first: size,
-            width: 0,
-            height: 0,
-            mips: 0,
-            layers: 0,
-        },
-        Kind::Picture(s) => FlatKind {
-            tag: TEXTURE,
-            first: wide(s.format),
-            width: wide(s.width),
-            height: wide(s.height),
-            mips: wide(s.mips),
-            layers: wide(s.layers),
-        },
-    }
-}
-
-// One resource more, after `n` others.
-pub fn push_resource(rooms: &mut [u64; 640], n: usize, r: Resource)
-    requires { ⌜ n < most ⌝ }
-    ensures { λ _. ⌜ resourcesOf (n + 1) (now (rooms .exit)) ≡ pushed (resourcesOf n (now (rooms .entry))) r ⌝ }
-{
-    let kind = r.kind;
-    let f = flat(kind);
-    let all = &rooms[..];
-    let b = WORDS * n;
-    rooms[b] = wide(r.handle);
-    rooms[b + 1] = f.tag;
-    rooms[b + 2] = f.first;
-    rooms[b + 3] = f.width;
-    rooms[b + 4] = f.height;
-    rooms[b + 5] = f.mips;
-    rooms[b + 6] = f.layers;
-    rooms[b + 7] = wide(r.pitch);
-    rooms[b + 8] = wide(r.backing);
-    rooms[b + 9] = wide(r.offset);
-}
-
-// The resource of row i is gone: the last of `n` takes its place.
-pub fn remove_resource(rooms: &mut [u64; 640], n: usize, i: usize)
-    requires { ⌜ (n ≤ most) × (i < n) ⌝ }
-    ensures { λ _. ⌜ resourcesOf (n - 1) (now (rooms .exit)) ≡ removed i (resourcesOf n (now (rooms .entry))) ⌝ }
-{
-    rows::move_row(rooms, WORDS, n - 1, i);
-}
-
-// The first `n` resources of one table over another's.
-pub fn copy_resources(from: &[u64; 640], to: &mut [u64; 640], n: usize)
-    requires { ⌜ n ≤ most ⌝ }
-    ensures { λ _. ⌜ resourcesOf n (now (to .exit)) ≡ resourcesOf n (now (from .entry)) ⌝ }
-{
-    rows::copy_words(from, to, WORDS * n);
 }

@@ -21,10 +21,6 @@ head-size = 4
 abbrev pub head-end : ℕ
 head-end = head-offset + head-size
 
--- "count + 1 (stops at 4294967295)"
-abbrev pub most-errors : ℕ
-most-errors = 4294967295
-
 -- registers and memory before, the submission and its verdict, registers and memory after
 pub record Settled (before : Registers) (m : List ℕ) (j : Job) (v : Verdict) (after : Registers) (m′ : List ℕ) : Type 0 where
   pub regs : after ≡ ended-by j v before

@@ -1,8 +1,5 @@
 pub mod Formats
 pub mod Bounds
 pub mod Chain
-pub mod Mips
-pub mod Layers
 pub mod Good
-pub mod Packed
-pub mod Places
+pub mod Rows

@@ -6,7 +6,7 @@ use rules::numbers::GOOD_MAJOR;
 use rules::numbers::MINORS;
 use rules::numbers::RING_HEADER_SIZE;
 use rules::numbers::RING_MAGIC;
-use words::widths::wide;
+use widths::wide;
 ghost use mathlib.Core.Path.{_≡_};
 ghost use Prim.Native.Nat.{_+_, _*_, _%_, _≤_, _<_};
 ghost use lib.ListN.{length};

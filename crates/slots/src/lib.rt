@@ -1,3 +1,2 @@
 // The ring's header and the descriptor in a slot: each field read once, and judged.
-pub mod descriptor;
 pub mod header;

@@ -18,7 +18,7 @@ use Rattle.rules.specs.declared.Job.{Job}
 use Rattle.rules.specs.declared.Stream.{Stream}
 use Rattle.rules.specs.declared.Opened.{Opened}
 use Rattle.rows.specs.Rows.{table-zero}
-use Rattle.table.specs.Views.{entryOf, entriesOf}
+use Rattle.entry_rows.specs.Views.{entryOf, entriesOf}
 use Rattle.rooms.specs.Views.{recordOf, resourcesOf, holdingsOf}
 use Rattle.stages.specs.Views.{worldOf, workOf, bare, Roomy}
 use Rattle.stages.specs.declared.scalars.Stage.{Stage}

@@ -5,7 +5,7 @@ use Rattle.rules.specs.Numbers.{most}
 use Rattle.rules.specs.State.{Work, World}
 use Rattle.rules.specs.State.Work.{resting, entries, packets, waiting}
 use Rattle.rules.specs.declared.Registers.{Registers}
-use Rattle.table.specs.Views.{entriesOf}
+use Rattle.entry_rows.specs.Views.{entriesOf}
 use Rattle.rooms.specs.Views.{resourcesOf, holdingsOf}
 use Rattle.stages.specs.declared.scalars.Stage.{Stage}
 use Rattle.stages.specs.declared.scalars.Stage.the-variants.{Resting, Entries, Packets, Waiting}

@@ -3,12 +3,12 @@
 use crate::scalars::Counts;
 use crate::scalars::Scalars;
 use crate::scalars::Stage;
-use rooms::resources::copy_resources;
+use placing::storing::copy_resources;
 use rules::Job;
 use rules::Opened;
 use rules::Stream;
 use rules::numbers::STREAM_HEADER_SIZE;
-use words::widths::index;
+use widths::index;
 ghost use mathlib.Core.Path.{_≡_};
 ghost use Prim.Native.Nat.{_≤_};
 ghost use Rattle.rules.specs.Numbers.{most};

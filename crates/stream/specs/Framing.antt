@@ -12,7 +12,7 @@ use lib.ListN.{length, take, drop, length-drop}
 use lib.Seq.{drop-drop, length-take-le}
 use Rattle.rows.specs.Keys.{same-or-not}
 use Rattle.rules.specs.Numbers.{bad-packet}
-use Rattle.stream.specs.Kept.{all-kept}
+use Rattle.laws.specs.Fine.{all-kept}
 use Rattle.rules.specs.Judging.{refusal, rule, _▹_}
 use Rattle.rules.specs.Layouts.{word, packet-header-size}
 use Rattle.rules.specs.Stream.{known-size, wrong-size, frame-rules, framed, frame-of, packet-of}

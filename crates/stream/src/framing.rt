@@ -6,7 +6,7 @@ ghost use lib.ListN.{length, take, drop};
 ghost use Rattle.rules.specs.Stream.{known-size, wrong-size, frame-of, packet-of};
 ghost use Rattle.stream.specs.Framing.{frame-by};
 ghost use Rattle.rules.specs.declared.Frame.the-variants.{Whole};
-use crate::fields::packet_from;
+use fields::packet_from;
 use rules::Frame;
 use rules::Packet;
 use rules::Refusal;
@@ -21,8 +21,8 @@ use rules::numbers::DESTROY;
 use rules::numbers::DESTROY_SIZE;
 use rules::numbers::DIRTY_RANGE;
 use rules::numbers::DIRTY_RANGE_SIZE;
+use widths::index;
 use words::u32_at;
-use words::widths::index;
 
 const PACKET_HEADER_SIZE: usize = rules::numbers::PACKET_HEADER_SIZE as usize;
 

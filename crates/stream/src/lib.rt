@@ -1,5 +1,2 @@
-// The command stream: its header is checked once, and its packets are framed and read one at a time.
-// header.rt has the check, framing.rt where a packet ends, fields.rt what a packet says.
-pub mod fields;
+// The command stream, one packet at a time: where each ends, and the reading of it.
 pub mod framing;
-pub mod header;

@@ -1,5 +1,8 @@
 // One entry of a table: read once, judged, and kept as a row of four words: id, flags, gpa, end.
 // The kept rows are what later packets resolve their ids against.
+use entry_rows::WORDS;
+use entry_rows::entry_at;
+use entry_rows::find_entry;
 use rules::Entry;
 use rules::Refusal;
 use rules::Table;
@@ -9,63 +12,15 @@ use rules::numbers::MOST;
 use rules::numbers::TWICE_IN_TABLE;
 use table_header::header::ENTRY_SIZE;
 use table_header::header::entry_offset;
-use words::widths::wide;
+use widths::wide;
 ghost use mathlib.Core.Path.{_≡_};
 ghost use Prim.Native.Nat.{_+_, _-_, _≤_, _<_};
-ghost use lib.ListN.{length};
-ghost use Rattle.rules.specs.Layouts.{entry, entry-size};
-ghost use Rattle.rules.specs.Lists.{indexOf, pushed};
+ghost use Rattle.rules.specs.Layouts.{entry};
+ghost use Rattle.rules.specs.Lists.{pushed};
 ghost use Rattle.rules.specs.Numbers.{most};
-ghost use Rattle.rules.specs.Table.{entry-id, entry-rules, take-entry};
-ghost use Rattle.rows.specs.Rows.{rowAt};
-ghost use Rattle.table.specs.Views.{RowRead, entriesOf, takenOf};
+ghost use Rattle.rules.specs.Table.{entry-rules, take-entry};
+ghost use Rattle.entry_rows.specs.Views.{entriesOf, takenOf};
 ghost use Rattle.table.specs.Entry.{sound as sound-entry};
-
-// The words of a kept entry.
-const WORDS: usize = 4;
-
-// How far it is from one place up to another: nothing if that is below.
-fn up_to(from: u64, to: u64) -> u64
-    ensures { λ r. ⌜ (r ≡ to - from) × (from + r < 18446744073709551616) ⌝ }
-{
-    if to < from { 0 } else { to - from }
-}
-
-// The kept entry of row i. Its range ends below 2^64, whatever words stand there.
-pub fn entry_row(kept: &[u64; 256], i: usize) -> Entry
-    requires { ⌜ i < most ⌝ }
-    ensures { λ r. ⌜ RowRead (rowAt 4 (now (kept .entry)) i) r ⌝ }
-{
-    let b = WORDS * i;
-    let gpa = kept[b + 2];
-    Entry {
-        id: words::low32(kept[b]),
-        flags: words::low32(kept[b + 1]),
-        gpa,
-        size: up_to(gpa, kept[b + 3]),
-    }
-}
-
-// The place of the kept entry that has an id, or `n`.
-pub fn find_entry(kept: &[u64; 256], n: usize, id: u32) -> usize
-    requires { ⌜ n ≤ most ⌝ }
-    ensures { λ r. ⌜ r ≡ indexOf entry-id id (entriesOf n (now (kept .entry))) ⌝ }
-{
-    rows::find_row(kept, WORDS, n, id)
-}
-
-// Reads each field of an entry once.
-pub fn entry_at(mem: &[u8], at: usize) -> Entry
-    requires { ⌜ at + entry-size ≤ length (now mem) ⌝ }
-    ensures { λ r. ⌜ r ≡ entry (now (mem .entry)) at ⌝ }
-{
-    Entry {
-        id: words::u32_at(mem, at),
-        flags: words::u32_at(mem, at + 4),
-        gpa: words::u64_at(mem, at + 8),
-        size: words::u64_at(mem, at + 16),
-    }
-}
 
 // Whether an entry is good by itself: it has an id and bytes, and they lie within memory.
 pub fn sound(memory: u64, e: Entry) -> bool

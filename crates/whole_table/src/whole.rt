@@ -1,9 +1,9 @@
 // The whole table at once, for a host that asks what the steps would find in it: its bytes alone
 // are read, and nothing is kept.
+use entry_rows::entry_at;
 use rules::Table;
 use rules::numbers::BAD_ENTRY;
 use rules::numbers::TWICE_IN_TABLE;
-use table::entry::entry_at;
 use table::entry::sound;
 use table_header::header::Headed;
 use table_header::header::check_header;

@@ -10,11 +10,11 @@ use borrow.Author.Needs.{needs}
 use lib.Arith.{mod-mul}
 use lib.Bits.{bitOr, bitAnd, or-shifted-r, and-mask}
 use lib.Dec.{lit<, lit≤}
-use lib.ListN.{length, getD, take, drop, set, length-drop}
-use lib.Seq.{sets, drop-cons, take-add, length-take-le, drop-drop, getD-drop}
+use lib.ListN.{length, getD, take, drop, length-drop}
+use lib.Seq.{drop-cons, take-add, length-take-le, drop-drop, getD-drop}
 use Rattle.rules.specs.Bytes.{le, bytesOf, field}
 use Rattle.rules.specs.Lists.{over}
-use Rattle.words.specs.Over.{sets-over, length-over, over-over, part-over, tail-over, part-read, part-before, part-at, drop-after}
+use Rattle.words.specs.Over.{length-over, over-over, part-over, tail-over, part-read, part-before, part-at, drop-after}
 
 -- ---- what bytes say
 
@@ -173,30 +173,3 @@ pub reads-eight : (at a b lo hi : ℕ) (xs : List ℕ) → at + 8 ≤ length xs 
 reads-eight at a b lo hi xs h p q r s = or-join 32 (2 ^ 64) lo hi (omega arith) (omega arith) ∙ omega (arith, le-add 4 4 at xs (omega arith))
 
 pub ruleset reading = (reads-four, reads-eight, needs)
-
--- ---- put_u32, put_u64
-
--- k bytes stored one by one at the front
-pub sets-put : (k v : ℕ) (l : List ℕ) → k ≤ length l → sets l 0 (bytesOf k v) ≡ over 0 (bytesOf k v) l
-sets-put k v l h = sets-over 0 (bytesOf k v) l (rw length-bytesOf (omega arith))
-
-pub puts-four : (v a b c d : ℕ) (l : List ℕ) → 4 ≤ length l → a ≡ v % 256 → b ≡ v / 256 % 256 → c ≡ v / 65536 % 256 → d ≡ v / 16777216 % 256
-    → set (set (set (set l 0 a) 1 b) 2 c) 3 d ≡ over 0 (bytesOf 4 v) l
-unfolding bytesOf
-puts-four v a b c d l h p q r s =
-    let e2 : c ≡ v / 256 / 256 % 256 = omega arith in
-    let e3 : d ≡ v / 256 / 256 / 256 % 256 = omega arith in
-    rw (p, q, e2, e3) (sets-put 4 v l h)
-
-pub puts-eight : (v lo hi : ℕ) (l p q : List ℕ) → 8 ≤ length l → lo ≡ v % 4294967296 → p ≡ over 0 (bytesOf 4 lo) (take 4 l)
-    → hi ≡ v / 4294967296 % 4294967296 → q ≡ over 0 (bytesOf 4 hi) (take 4 (drop 4 (p ++ drop 4 l)))
-    → take 4 (p ++ drop 4 l) ++ (q ++ drop 4 (drop 4 (p ++ drop 4 l))) ≡ over 0 (bytesOf 8 v) l
-puts-eight v lo hi l p q h a b c d =
-    let first : p ++ drop 4 l ≡ over 0 (bytesOf 4 lo) l = put-part 4 0 4 lo l p refl (omega arith) b in
-    let long : length (p ++ drop 4 l) ≡ length l = rw first (length-put 4 0 lo l (omega arith)) in
-    let second : take 4 (p ++ drop 4 l) ++ (q ++ drop 4 (drop 4 (p ++ drop 4 l))) ≡ over 4 (bytesOf 4 hi) (p ++ drop 4 l) =
-    put-part 4 4 8 hi (p ++ drop 4 l) q refl (omega arith) d in
-    let top : bytesOf 4 hi ≡ bytesOf 4 (v / 4294967296) = rw c (bytesOf-mod 4 (v / 4294967296)) in
-    second ∙ rw (first, top, a) (put-halves 4 4 v l h)
-
-pub ruleset writing = (puts-four, puts-eight, needs)

@@ -1,25 +1,15 @@
-// Little-endian words in a slice of bytes: what every other crate reads and writes its numbers with.
-pub mod widths;
-
+// Little-endian words read from a slice of bytes, each by one load: what every other crate reads its numbers with.
 use widths::wide;
 ghost use mathlib.Core.Path.{_≡_};
-ghost use Prim.Native.Nat.{_+_, _*_, _/_, _%_, _≤_, _<_};
+ghost use Prim.Native.Nat.{_+_, _/_, _%_, _≤_, _<_};
 ghost use lib.ListN.{length};
-ghost use Rattle.rules.specs.Bytes.{bytesOf, field};
-ghost use Rattle.rules.specs.Lists.{over};
+ghost use Rattle.rules.specs.Bytes.{field};
 
 // The number of a byte, known to be one.
 fn wide32(b: u8) -> u32
     ensures { λ r. ⌜ (r ≡ b) × (r < 256) ⌝ }
 {
     b as u32
-}
-
-// The lowest byte of a word.
-fn low8(v: u32) -> u8
-    ensures { λ r. ⌜ r ≡ v % 256 ⌝ }
-{
-    (v & 255) as u8
 }
 
 // The lower four bytes of a word of eight: a small number read from a row.
@@ -46,24 +36,4 @@ pub fn u64_at(mem: &[u8], at: usize) -> u64
     ensures { λ r. ⌜ r ≡ field 8 (now (mem .entry)) at ⌝ }
 {
     wide(u32_at(mem, at)) | (wide(u32_at(mem, at + 4)) << 32)
-}
-
-// Writes a word of four bytes to the front of `part`: one store.
-pub fn put_u32(part: &mut [u8], v: u32)
-    requires { ⌜ 4 ≤ length (now part) ⌝ }
-    ensures { λ _. ⌜ now (part .exit) ≡ over 0 (bytesOf 4 v) (now (part .entry)) ⌝ }
-{
-    part[0] = low8(v);
-    part[1] = low8(v >> 8);
-    part[2] = low8(v >> 16);
-    part[3] = low8(v >> 24);
-}
-
-// Writes a word of eight bytes to the front of `part`: one store.
-pub fn put_u64(part: &mut [u8], v: u64)
-    requires { ⌜ 8 ≤ length (now part) ⌝ }
-    ensures { λ _. ⌜ now (part .exit) ≡ over 0 (bytesOf 8 v) (now (part .entry)) ⌝ }
-{
-    put_u32(&mut part[0..4], low32(v));
-    put_u32(&mut part[4..8], low32(v >> 32));
 }

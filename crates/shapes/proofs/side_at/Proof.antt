@@ -1,6 +1,6 @@
 -- `side_at` halves a side by one shift.
 -- Assumes nothing.
-use Rattle.shapes.specs.Mips.{measuring}
+use Rattle.shapes.specs.Rows.{measuring}
 use borrow.Author.Needs.{needs}
 use Rattle.shapes.proofs.side_at.Statement.{statement}
 use Rattle.shapes.proofs.side_at.Tie as tie

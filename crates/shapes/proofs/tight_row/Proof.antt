@@ -1,6 +1,6 @@
 -- `tight_row` gives the bytes of a row with no padding.
 -- Assumes nothing.
-use Rattle.shapes.specs.Mips.{measuring}
+use Rattle.shapes.specs.Rows.{measuring}
 use borrow.Author.Needs.{needs}
 use Rattle.shapes.proofs.tight_row.Statement.{statement}
 use Rattle.shapes.proofs.tight_row.Tie as tie

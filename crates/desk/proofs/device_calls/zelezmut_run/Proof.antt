@@ -6,8 +6,8 @@ use Rattle.desk.proofs.device_calls.zelezmut_run.Tie as tie
 run-requires : tie.Need-run-requires
 run-requires c κs = search needs
 
-count-of-requires : tie.Need-count-of-requires
-count-of-requires c κs = search needs
+count-requires : tie.Need-count-requires
+count-requires c κs = search needs
 
 number-of-requires : tie.Need-number-of-requires
 number-of-requires c κs = search needs
@@ -24,4 +24,4 @@ returns c = search telling
 pub zelezmut-run-spec : {M : Type 1} → statement M
 zelezmut-run-spec =
     tie.close
-    (tie.spec run-requires count-of-requires number-of-requires say-requires same-length returns)
+    (tie.spec run-requires count-requires number-of-requires say-requires same-length returns)

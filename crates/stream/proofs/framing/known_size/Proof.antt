@@ -1,5 +1,5 @@
 -- `known_size` meets its contract, a law for each row of the table of opcodes. Assumes nothing.
-use Rattle.stream.specs.Fields.{knowing}
+use Rattle.fields.specs.Fields.{knowing}
 use Rattle.stream.proofs.framing.known_size.Statement.{statement}
 use Rattle.stream.proofs.framing.known_size.Tie as tie
 

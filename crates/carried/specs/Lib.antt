@@ -1,0 +1,2 @@
+pub mod OnDevice
+pub mod Examples

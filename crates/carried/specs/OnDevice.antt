@@ -1,0 +1,142 @@
+-- The theorems carried to the calls that a host makes, by their contracts: chains of runs and answers over one memory that nobody else
+-- writes, of the device by value and of the one over lent state alike. Assumes nothing.
+use mathlib.Core.Path.{_≡_, refl, sym, ap, subst, _∙_}
+use mathlib.Core.Bool.{Bool, true, false}
+use mathlib.Core.List.{List, [], _∷_}
+use Prim.Native.Nat.{ℕ, _+_}
+use lib.Dec.{eqb}
+use Rattle.machine.specs.Machine.{pick}
+use Rattle.machine.specs.Schedule.{Event, Played, play}
+use Rattle.machine.specs.Schedule.Event.{run, told}
+use Rattle.rules.specs.Numbers.{done, nothing-waits}
+use Rattle.rules.specs.State.{World}
+use Rattle.rules.specs.Steps.{run-for, waits, answered}
+use Rattle.rules.specs.Calls.{lent-another, Ran as RanBy, ran, call-run, Told as ToldBy, call-answer}
+use Rattle.device.specs.Views.{worldIn, ranOf, toldOf}
+use Rattle.device.specs.declared.Device.{Device}
+use Rattle.device.specs.declared.Ran.{Ran}
+use Rattle.device.specs.declared.Told.{Told}
+use Rattle.lent.specs.Calls.{deviceIn}
+use Rattle.lent_memory.specs.Works.{Runs, Answers}
+use Rattle.lent_memory.specs.declared.working.Spent.{Spent}
+use Rattle.promises.specs.Slices.{played, same-units-same-answers-same-world}
+use Rattle.promises.specs.Night.{Clear, Night, finished-or-waiting-is-unsliced}
+
+-- calls one after the other, each with what its contract says of what it handed back; each is lent the memory that the one before left
+pub data Chain : World → List (Event Bool) → World → Type 0 where
+  stop : {w : World} → Chain w [] w
+  runs : {w v : World} {es : List (Event Bool)} (n : ℕ) (r : RanBy) → r ≡ call-run w n → lent-another w ≡ false → Chain (r .world) es v → Chain w (run n ∷ es) v
+  tells : {w v : World} {es : List (Event Bool)} (good : Bool) (t : ToldBy) → t ≡ call-answer w good → lent-another w ≡ false → Chain (t .world) es v
+      → Chain w (told good ∷ es) v
+
+-- ---- whose calls
+
+module _ {es : List (Event Bool)} {v : World} where
+  -- the device's, by value
+  module _ (d : Device) (m m₁ : List ℕ) (here : lent-another (worldIn d m) ≡ false) where
+    pub device-runs : (n : ℕ) (r : Ran) → ranOf r m₁ ≡ call-run (worldIn d m) n → Chain (worldIn (r .device) m₁) es v → Chain (worldIn d m) (run n ∷ es) v
+    device-runs n r c k = runs n (ranOf r m₁) c here k
+
+    pub device-answers : (good : Bool) (t : Told) → toldOf t m₁ ≡ call-answer (worldIn d m) good → Chain (worldIn (t .device) m₁) es v → Chain (worldIn d m) (told good ∷ es) v
+    device-answers good t c k = tells good (toldOf t m₁) c here k
+
+  -- those over lent state
+  module _ (s e r h c m s₁ m₁ : List ℕ) (here : lent-another (worldIn (deviceIn s e r h c) m) ≡ false) where
+    pub lent-runs : (e₁ h₁ c₁ : List ℕ) (n : ℕ) (x : Spent) → Runs s e r h c m n x s₁ e₁ h₁ c₁ m₁ → Chain (worldIn (deviceIn s₁ e₁ r h₁ c₁) m₁) es v
+        → Chain (worldIn (deviceIn s e r h c) m) (run n ∷ es) v
+    lent-runs e₁ h₁ c₁ n x k later = runs n (record { answer = x .answer; units = x .units; ended = x .ended; world = worldIn (deviceIn s₁ e₁ r h₁ c₁) m₁ }) (k .ran) here later
+
+    pub lent-answers : (r₁ : List ℕ) (good : Bool) (a : ℕ) → Answers s r h m good a s₁ r₁ m₁ → Chain (worldIn (deviceIn s₁ e r₁ h c) m₁) es v
+        → Chain (worldIn (deviceIn s e r h c) m) (told good ∷ es) v
+    lent-answers r₁ good a k later = tells good (record { answer = a; world = worldIn (deviceIn s₁ e r₁ h c) m₁ }) (k .told e c) here later
+
+-- ---- what a chain's calls say
+
+-- the units that its runs report
+unfoldable pub reported : {w v : World} {es : List (Event Bool)} → Chain w es v → ℕ
+reported stop = 0
+reported (runs n r c h k) = r .units + reported k
+reported (tells good t c h k) = reported k
+
+-- the answers that were taken, by the call's own answer
+unfoldable pub taken : {w v : World} {es : List (Event Bool)} → Chain w es v → List Bool
+taken stop = []
+taken (runs n r c h k) = taken k
+taken (tells good t c h k) = pick (eqb (t .answer) done) (good ∷ taken k) (taken k)
+
+-- ---- a chain stands where the rules' schedule stands, and reports what that spends and takes
+
+run-gives : (w : World) (n : ℕ) → lent-another w ≡ false → call-run w n ≡ ran (run-for n w)
+unfolding call-run
+run-gives w n h = rw h
+
+answer-gives : (w : World) (good : Bool) → lent-another w ≡ false
+    → call-answer w good ≡ pick (waits (w .state)) (record { answer = done; world = answered good w }) (record { answer = nothing-waits; world = w })
+unfolding call-answer
+answer-gives w good h = rw h
+
+abbrev spending : ℕ → Played World Bool → Played World Bool
+spending u p = record { state = p .state; units = u + p .units; accepted = p .accepted }
+
+abbrev taking : Bool → Played World Bool → Played World Bool
+taking good p = record { state = p .state; units = p .units; accepted = good ∷ p .accepted }
+
+module _ (w : World) (es : List (Event Bool)) (later : Played World Bool) where
+  ran-on : (n : ℕ) (r : RanBy) → r ≡ call-run w n → lent-another w ≡ false → later ≡ played es (r .world) → spending (r .units) later ≡ played (run n ∷ es) w
+  unfolding play
+  ran-on n r c h ih = ap (spending (r .units)) ih ∙ ap (λ (x : RanBy). spending (x .units) (played es (x .world))) (c ∙ run-gives w n h)
+
+  told-on : (good : Bool) (t : ToldBy) → t ≡ call-answer w good → lent-another w ≡ false → later ≡ played es (t .world)
+      → pick (eqb (t .answer) done) (taking good later) later ≡ played (told good ∷ es) w
+  unfolding play
+  told-on good t c h ih = by-test (waits (w .state)) (c ∙ answer-gives w good h)
+    where
+      by-test : (b : Bool) → t ≡ pick b (record { answer = done; world = answered good w }) (record { answer = nothing-waits; world = w })
+          → pick (eqb (t .answer) done) (taking good later) later ≡ pick b (taking good (played es (answered good w))) (played es w)
+      by-test true e =
+          ap (λ (x : ToldBy). pick (eqb (x .answer) done) (taking good later) later) e
+          ∙ ap (taking good) (ih ∙ ap (λ (x : ToldBy). played es (x .world)) e)
+      by-test false e =
+          ap (λ (x : ToldBy). pick (eqb (x .answer) done) (taking good later) later) e
+          ∙ (ih ∙ ap (λ (x : ToldBy). played es (x .world)) e)
+
+pick-taken : (b good : Bool) (w : World) (u : ℕ) (l : List Bool) → record { state = w; units = u; accepted = pick b (good ∷ l) l } ≡ pick b (taking good (record { state = w; units = u; accepted = l })) (record { state = w; units = u; accepted = l })
+pick-taken true good w u l = refl
+pick-taken false good w u l = refl
+
+pub chain-plays : (w : World) (es : List (Event Bool)) (v : World) (k : Chain w es v)
+    → record { state = v; units = reported k; accepted = taken k } ≡ played es w
+unfolding play reported taken
+chain-plays w es v stop = refl
+chain-plays w es v (runs {es = fs} n r c h k) = ran-on w fs (record { state = v; units = reported k; accepted = taken k }) n r c h (chain-plays (r .world) fs v k)
+chain-plays w es v (tells {es = fs} good t c h k) =
+    pick-taken (eqb (t .answer) done) good v (reported k) (taken k)
+    ∙ told-on w fs (record { state = v; units = reported k; accepted = taken k }) good t c h (chain-plays (t .world) fs v k)
+
+-- demand 3, of the calls: two chains from one device and one memory whose runs report the same units and that had the same answers
+-- taken stand in the same state with the same memory
+pub chains-agree : (w v₁ v₂ : World) (es fs : List (Event Bool)) (a : Chain w es v₁) (b : Chain w fs v₂) → reported a ≡ reported b → taken a ≡ taken b → v₁ ≡ v₂
+chains-agree w v₁ v₂ es fs a b u t =
+    let pa : record { state = v₁; units = reported a; accepted = taken a } ≡ played es w = chain-plays w es v₁ a in
+    let pb : record { state = v₂; units = reported b; accepted = taken b } ≡ played fs w = chain-plays w fs v₂ b in
+    ap (λ (p : Played World Bool). p .state) pa
+    ∙ (same-units-same-answers-same-world es fs w (sym (ap (λ (p : Played World Bool). p .units) pa) ∙ (u ∙ ap (λ (p : Played World Bool). p .units) pb))
+    (sym (ap (λ (p : Played World Bool). p .accepted) pa) ∙ (t ∙ ap (λ (p : Played World Bool). p .accepted) pb))
+    ∙ sym (ap (λ (p : Played World Bool). p .state) pb))
+
+-- and wherever a chain that began with nothing in the midst stands so again, whole submissions of the unsliced rules have led there, and
+-- the units reported are their count
+pub chain-is-unsliced : (w v : World) (es : List (Event Bool)) (k : Chain w es v) → Clear w → Clear v → Night w (taken k) (reported k) v
+chain-is-unsliced w v es k c e =
+    let p : record { state = v; units = reported k; accepted = taken k } ≡ played es w = chain-plays w es v k in
+    subst (λ (x : Played World Bool). Night w (x .accepted) (x .units) (x .state)) (sym p)
+    (finished-or-waiting-is-unsliced es w c (subst (λ (x : Played World Bool). Clear (x .state)) p e))
+
+-- each call's result is fixed by the device and the memory lent at that call: a front that has read ahead is shut out
+pub call-fixed-by-what-is-lent : (d d′ : Device) (m : List ℕ) (n : ℕ) (r r′ : Ran) (m₁ m₂ : List ℕ) → worldIn d m ≡ worldIn d′ m → ranOf r m₁ ≡ call-run (worldIn d m) n
+    → ranOf r′ m₂ ≡ call-run (worldIn d′ m) n → ranOf r m₁ ≡ ranOf r′ m₂
+call-fixed-by-what-is-lent d d′ m n r r′ m₁ m₂ same a b = a ∙ (ap (λ (w : World). call-run w n) same ∙ sym b)
+
+pub answer-fixed-by-what-is-lent : (d d′ : Device) (m : List ℕ) (good : Bool) (t t′ : Told) (m₁ m₂ : List ℕ) → worldIn d m ≡ worldIn d′ m → toldOf t m₁ ≡ call-answer (worldIn d m) good
+    → toldOf t′ m₂ ≡ call-answer (worldIn d′ m) good → toldOf t m₁ ≡ toldOf t′ m₂
+answer-fixed-by-what-is-lent d d′ m good t t′ m₁ m₂ same a b = a ∙ (ap (λ (w : World). call-answer w good) same ∙ sym b)

@@ -1,0 +1,38 @@
+-- `live_buffer` meets its contract, a law for each end. Assumes nothing.
+use Rattle.copying.specs.Copy.{seeking}
+use borrow.Author.Needs.{needs}
+use Rattle.copying.proofs.copy.live_buffer.Statement.{statement}
+use Rattle.copying.proofs.copy.live_buffer.Tie as tie
+
+find-resource-requires : tie.Need-find-resource-requires
+find-resource-requires c κs = search needs
+
+returns : tie.Need-returns
+returns c = search seeking
+
+resource-row-requires : tie.Need-resource-row-requires
+resource-row-requires c κs = search needs
+
+enum-known-kind : tie.Need-enum-known-kind
+enum-known-kind c = search needs
+
+enum-told : tie.Need-enum-told
+enum-told c = search needs
+
+returns-2 : tie.Need-returns-2
+returns-2 c = search seeking
+
+returns-3 : tie.Need-returns-3
+returns-3 c = search seeking
+
+pub live-buffer-spec : {M : Type 1} → statement M
+live-buffer-spec =
+    tie.close
+    (tie.spec
+    find-resource-requires
+    returns
+    resource-row-requires
+    enum-known-kind
+    enum-told
+    returns-2
+    returns-3)

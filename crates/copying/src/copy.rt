@@ -1,0 +1,154 @@
+// The copy packet: bytes of one live buffer into another; with writeback the range of the destination is handed to the host.
+use ranges::applied::Applied;
+use ranges::applied::refuse;
+use ranges::handout::Resolved;
+use ranges::handout::beyond;
+use ranges::handout::hand_out;
+use ranges::handout::resolve;
+use rooms::resources::find_resource;
+use rooms::resources::resource_row;
+use rules::CopyBuffer;
+use rules::Kind;
+use rules::Resource;
+use rules::Verdict;
+use rules::numbers::BAD_COPY;
+use rules::numbers::BAD_HANDLE;
+use rules::numbers::HOST_BACKED;
+use rules::numbers::NOT_IN_TABLE;
+use rules::numbers::PAST_ENTRY;
+use rules::numbers::PAST_RESOURCE;
+use rules::numbers::READ_ONLY;
+use rules::numbers::WRITES;
+ghost use mathlib.Core.Path.{_≡_};
+ghost use Prim.Native.Nat.{_≤_};
+ghost use Rattle.rules.specs.Numbers.{most};
+ghost use Rattle.rules.specs.Lists.{lookup};
+ghost use Rattle.rules.specs.Packets.{handle-of, on-copy-packet};
+ghost use Rattle.entry_rows.specs.Views.{entriesOf};
+ghost use Rattle.rooms.specs.Views.{resourcesOf, holdingsOf};
+ghost use Rattle.ranges.specs.Views.{Applies, Room};
+ghost use Rattle.ranges.specs.Handout.{Hands};
+ghost use Rattle.copying.specs.Copy.{bufferOf, written-back, between};
+
+// The one flag of a copy, which asks for writeback.
+const WRITEBACK: u32 = 1;
+
+// What a handle names: no live buffer, or one and its bytes.
+enum Sought {
+    NoBuffer,
+    Live(Resource, u64),
+}
+
+// Looks for the live buffer that has a handle.
+fn live_buffer(rooms: &[u64; 640], live: usize, handle: u32) -> Sought
+    requires { ⌜ live ≤ most ⌝ }
+    ensures { λ x. ⌜ x ≡ bufferOf (lookup handle-of handle (resourcesOf live (now (rooms .entry)))) ⌝ }
+{
+    let place = find_resource(rooms, live, handle);
+    if place >= live {
+        return Sought::NoBuffer;
+    }
+    let r = resource_row(rooms, place);
+    let kind = r.kind;
+    match kind {
+        Kind::Bytes(bytes) => Sought::Live(r, bytes),
+        Kind::Picture(_) => Sought::NoBuffer,
+    }
+}
+
+// Hands the range of the destination to the host, to be written.
+fn write_back(
+    entries: &[u64; 256],
+    n: usize,
+    records: &mut [u64; 320],
+    made: usize,
+    live: usize,
+    c: CopyBuffer,
+    dst: Resource,
+) -> Applied
+    requires { ⌜ Room n live made ⌝ }
+    ensures { λ r. ⌜ Hands (written-back (entriesOf n (now (entries .entry))) c dst) live made (now (records .entry)) r (now (records .exit)) ⌝ }
+{
+    if dst.backing == 0 {
+        return refuse(HOST_BACKED, live, made);
+    }
+    match resolve(entries, n, WRITES, dst, c.dstoffset, c.size) {
+        Resolved::Missing => refuse(NOT_IN_TABLE, live, made),
+        Resolved::Past => refuse(PAST_ENTRY, live, made),
+        Resolved::Inside(flags, range) => {
+            if flags % 2 == 1 {
+                return refuse(READ_ONLY, live, made);
+            }
+            hand_out(records, made, live, range)
+        }
+    }
+}
+
+// Judges a copy between two live buffers, of which the destination and the bytes of both are known.
+fn copy_between(
+    entries: &[u64; 256],
+    n: usize,
+    records: &mut [u64; 320],
+    made: usize,
+    live: usize,
+    c: CopyBuffer,
+    dst: Resource,
+    dstbytes: u64,
+    srcbytes: u64,
+) -> Applied
+    requires { ⌜ Room n live made ⌝ }
+    ensures { λ r. ⌜ Hands (between (entriesOf n (now (entries .entry))) c dst dstbytes srcbytes) live made (now (records .entry)) r (now (records .exit)) ⌝ }
+{
+    if c.dst == c.src {
+        return refuse(BAD_COPY, live, made);
+    }
+    if c.flags > WRITEBACK {
+        return refuse(BAD_COPY, live, made);
+    }
+    if beyond(c.dstoffset, c.size, dstbytes) {
+        return refuse(PAST_RESOURCE, live, made);
+    }
+    if beyond(c.srcoffset, c.size, srcbytes) {
+        return refuse(PAST_RESOURCE, live, made);
+    }
+    if c.flags == WRITEBACK {
+        return write_back(entries, n, records, made, live, c, dst);
+    }
+    Applied {
+        verdict: Verdict::Fine,
+        live,
+        made,
+    }
+}
+
+// Applies a copy packet, in place.
+pub fn on_copy(
+    entries: &[u64; 256],
+    n: usize,
+    rooms: &[u64; 640],
+    live: usize,
+    records: &mut [u64; 320],
+    made: usize,
+    c: CopyBuffer,
+) -> Applied
+    requires { ⌜ Room n live made ⌝ }
+    ensures { λ r. ⌜ Applies (on-copy-packet (entriesOf n (now (entries .entry))) (holdingsOf live (now (rooms .entry)) made (now (records .entry))) c) r (now (rooms .entry)) (now (records .exit)) ⌝ }
+{
+    match live_buffer(rooms, live, c.dst) {
+        Sought::NoBuffer => refuse(BAD_HANDLE, live, made),
+        Sought::Live(dst, dstbytes) => match live_buffer(rooms, live, c.src) {
+            Sought::NoBuffer => refuse(BAD_HANDLE, live, made),
+            Sought::Live(_, srcbytes) => copy_between(
+                entries,
+                n,
+                records,
+                made,
+                live,
+                c,
+                dst,
+                dstbytes,
+                srcbytes,
+            ),
+        },
+    }
+}

@@ -1,0 +1,2 @@
+// A submission's descriptor: read once, and judged.
+pub mod descriptor;

@@ -1,0 +1,2 @@
+// The packet that destroys a resource.
+pub mod destroy;

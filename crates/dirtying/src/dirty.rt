@@ -1,0 +1,54 @@
+// The dirty packet: a range of a backed resource that the host is to read again.
+use ranges::applied::Applied;
+use ranges::applied::refuse;
+use ranges::bytes::resource_bytes;
+use ranges::handout::Resolved;
+use ranges::handout::beyond;
+use ranges::handout::hand_out;
+use ranges::handout::resolve;
+use rooms::resources::find_resource;
+use rooms::resources::resource_row;
+use rules::DirtyRange;
+use rules::numbers::BAD_HANDLE;
+use rules::numbers::HOST_BACKED;
+use rules::numbers::NOT_IN_TABLE;
+use rules::numbers::PAST_ENTRY;
+use rules::numbers::PAST_RESOURCE;
+use rules::numbers::READS;
+ghost use Rattle.rules.specs.Packets.{on-dirty-packet};
+ghost use Rattle.entry_rows.specs.Views.{entriesOf};
+ghost use Rattle.rooms.specs.Views.{holdingsOf};
+ghost use Rattle.ranges.specs.Views.{Applies, Room};
+
+// Applies a dirty packet, in place. The entry is this submission's, whatever table the resource was created with.
+pub fn on_dirty(
+    entries: &[u64; 256],
+    n: usize,
+    rooms: &[u64; 640],
+    live: usize,
+    records: &mut [u64; 320],
+    made: usize,
+    c: DirtyRange,
+) -> Applied
+    requires { ⌜ Room n live made ⌝ }
+    ensures { λ r. ⌜ Applies (on-dirty-packet (entriesOf n (now (entries .entry))) (holdingsOf live (now (rooms .entry)) made (now (records .entry))) c) r (now (rooms .entry)) (now (records .exit)) ⌝ }
+{
+    let place = find_resource(rooms, live, c.handle);
+    if place >= live {
+        return refuse(BAD_HANDLE, live, made);
+    }
+    let r = resource_row(rooms, place);
+    if r.backing == 0 {
+        return refuse(HOST_BACKED, live, made);
+    }
+    let kind = r.kind;
+    let bytes = resource_bytes(kind, r.pitch);
+    if beyond(c.offset, c.size, bytes) {
+        return refuse(PAST_RESOURCE, live, made);
+    }
+    match resolve(entries, n, READS, r, c.offset, c.size) {
+        Resolved::Missing => refuse(NOT_IN_TABLE, live, made),
+        Resolved::Past => refuse(PAST_ENTRY, live, made),
+        Resolved::Inside(_, range) => hand_out(records, made, live, range),
+    }
+}

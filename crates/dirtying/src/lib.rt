@@ -1,0 +1,2 @@
+// The packet that hands out a range of a backed resource to be read.
+pub mod dirty;

@@ -1,0 +1,4 @@
+pub mod Mips
+pub mod Layers
+pub mod Packed
+pub mod Places

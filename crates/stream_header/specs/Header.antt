@@ -1,0 +1,140 @@
+-- What the check of a stream's header gives, and the laws that the check asks for. Assumes nothing.
+use mathlib.Core.Path.{_≡_, refl}
+use Prim.Native.Nat.{ℕ, _+_, _/_, _≤_, _<_}
+use native.Mathlib.Omega.{arith}
+use mathlib.Core.Bool.{not}
+use mathlib.Core.List.{List}
+use borrow.Author.Needs.{needs}
+use borrow.Author.Tests.{eq-eqb, ne-eqb, lt-ltb, le-ltb, ltb-false, eqb-true, not-false}
+use lib.Dec.{ltb, eqb}
+use lib.ListN.{length}
+use Rattle.rules.specs.Numbers.{bad-stream, stream-magic}
+use Rattle.rules.specs.Judging.{refusal}
+use Rattle.rules.specs.Layouts.{word, good-version, stream-header, stream-header-size}
+use Rattle.rules.specs.Stream.{stream-rules, stream-of}
+use Rattle.rules.specs.declared.Refusal.{Refusal}
+use Rattle.rules.specs.declared.Stream.{Stream}
+use Rattle.rules.specs.declared.StreamHeader.{StreamHeader}
+use Rattle.rules.specs.declared.Verdict.{Verdict}
+use Rattle.rules.specs.declared.Verdict.the-variants.{Fine, Broken}
+use Rattle.laws.specs.Fine.{all-kept}
+use Rattle.stream_header.specs.declared.header.Begun.{Begun}
+use Rattle.stream_header.specs.declared.header.Begun.the-variants.{Good, Bad}
+
+-- the stream where its header is fine, and the broken rule where it is not
+abbrev pub begun : Verdict → Stream → Begun
+begun Fine s = Good s
+begun (Broken r) s = Bad r
+
+-- ---- header_at
+
+pub header-is : (m : List ℕ) (at k v s : ℕ) → k ≡ word m at → v ≡ word m (at + 4) → s ≡ word m (at + 8)
+    → _≡_ {A = StreamHeader} (record { magic = k; version = v; size = s }) (stream-header m at)
+unfolding stream-header
+header-is m at k v s p q r = rw (p, q, r)
+
+-- ---- header_verdict
+
+module _ (cmdsize : ℕ) (h : StreamHeader) where
+  pub range-short : cmdsize < stream-header-size → Broken (refusal bad-stream) ≡ stream-rules cmdsize h
+  unfolding stream-rules
+  range-short p = rw (lt-ltb cmdsize stream-header-size p)
+
+  module _ (long : stream-header-size ≤ cmdsize) where
+    pub other-magic : (h .magic ≡ stream-magic → ⊥) → Broken (refusal bad-stream) ≡ stream-rules cmdsize h
+    unfolding stream-rules
+    other-magic p = rw (le-ltb cmdsize stream-header-size long, ne-eqb (h .magic) stream-magic p)
+
+    module _ (magic : h .magic ≡ stream-magic) where
+      pub other-version : (h .version / 65536 ≡ 1 → ⊥) → Broken (refusal bad-stream) ≡ stream-rules cmdsize h
+      unfolding stream-rules
+      other-version p = rw (le-ltb cmdsize stream-header-size long, eq-eqb (h .magic) stream-magic magic, ne-eqb (h .version / 65536) 1 p)
+
+      module _ (version : h .version / 65536 ≡ 1) (size : ℕ) (same : size ≡ h .size) where
+        pub stream-short : size < stream-header-size → Broken (refusal bad-stream) ≡ stream-rules cmdsize h
+        unfolding stream-rules
+        stream-short p =
+            rw (
+              le-ltb cmdsize stream-header-size long,
+              eq-eqb (h .magic) stream-magic magic,
+              eq-eqb (h .version / 65536) 1 version,
+              lt-ltb (h .size) stream-header-size (omega arith),
+            )
+
+        module _ (room : stream-header-size ≤ size) where
+          pub stream-long : cmdsize < size → Broken (refusal bad-stream) ≡ stream-rules cmdsize h
+          unfolding stream-rules
+          stream-long p =
+              rw (
+                le-ltb cmdsize stream-header-size long,
+                eq-eqb (h .magic) stream-magic magic,
+                eq-eqb (h .version / 65536) 1 version,
+                le-ltb (h .size) stream-header-size (omega arith),
+                lt-ltb cmdsize (h .size) (omega arith),
+              )
+
+          pub stream-good : size ≤ cmdsize → Fine ≡ stream-rules cmdsize h
+          unfolding stream-rules
+          stream-good p =
+              rw (
+                le-ltb cmdsize stream-header-size long,
+                eq-eqb (h .magic) stream-magic magic,
+                eq-eqb (h .version / 65536) 1 version,
+                le-ltb (h .size) stream-header-size (omega arith),
+                le-ltb cmdsize (h .size) (omega arith),
+              )
+
+-- ---- check_header
+
+module _ (cmdsize : ℕ) (s : Stream) where
+  pub begins-short : (h : StreamHeader) → cmdsize < stream-header-size → Bad (refusal bad-stream) ≡ begun (stream-rules cmdsize h) s
+  begins-short h p = rw (← range-short cmdsize h p)
+
+pub begins-good : (cmdsize at gpa : ℕ) (v : Verdict) (h h′ : StreamHeader) → h ≡ h′ → gpa ≡ at → v ≡ stream-rules cmdsize h → v ≡ Fine
+    → Good (record { gpa = gpa; size = h .size }) ≡ begun (stream-rules cmdsize h′) (stream-of at h′)
+begins-good cmdsize at gpa v h h′ e g r f = rw (← e, ← r, f, g)
+
+pub begins-bad : (cmdsize : ℕ) (s : Stream) (v : Verdict) (q : Refusal) (h h′ : StreamHeader) → h ≡ h′ → v ≡ stream-rules cmdsize h → v ≡ Broken q
+    → Bad q ≡ begun (stream-rules cmdsize h′) s
+begins-bad cmdsize s v q h h′ e r f = rw (← e, ← r, f)
+
+pub ruleset heading = (header-is, range-short, other-magic, other-version, stream-short, stream-long, stream-good, begins-short, begins-good, begins-bad, needs)
+
+-- ---- what a good stream is known by
+
+pub record Sound (cmdsize : ℕ) (h : StreamHeader) : Type 0 where
+  pub magic : h .magic ≡ stream-magic
+  pub major : h .version / 65536 ≡ 1
+  pub header : stream-header-size ≤ h .size
+  pub inside : h .size ≤ cmdsize
+
+pub stream-sound : (cmdsize : ℕ) (h : StreamHeader) → stream-rules cmdsize h ≡ Fine → Sound cmdsize h
+unfolding stream-rules
+stream-sound cmdsize h e =
+    let k =
+    all-kept bad-stream (ltb cmdsize stream-header-size) (not (eqb (h .magic) stream-magic)) (not (good-version (h .version)))
+    (ltb (h .size) stream-header-size) (ltb cmdsize (h .size)) e in
+    record {
+      magic = eqb-true (h .magic) stream-magic (not-false _ (k .1 .0));
+      major = eqb-true (h .version / 65536) 1 (not-false _ (k .1 .1 .0));
+      header = ltb-false (h .size) stream-header-size (k .1 .1 .1 .0);
+      inside = ltb-false cmdsize (h .size) (k .1 .1 .1 .1);
+    }
+
+begun-good : (v : Verdict) (s s′ : Stream) → begun v s ≡ Good s′ → (v ≡ Fine) × (s ≡ s′)
+begun-good Fine s s′ e = (refl, cc)
+begun-good (Broken r) s s′ e = let z : _≡_ {A = ℕ} 0 1 = cc in absurd (omega arith)
+
+-- a stream that was begun lies in memory, header and all, where the command range does
+module _ (m : List ℕ) (at cmdsize : ℕ) (s : Stream) (room : at + cmdsize ≤ length m)
+    (good : begun (stream-rules cmdsize (stream-header m at)) (stream-of at (stream-header m at)) ≡ Good s) where
+  pub begun-inside : s .gpa + s .size ≤ length m
+  begun-inside =
+      let g = begun-good (stream-rules cmdsize (stream-header m at)) (stream-of at (stream-header m at)) s good in
+      let i : stream-header m at .size ≤ cmdsize = stream-sound cmdsize (stream-header m at) (g .0) .inside in
+      rw (← g .1) (omega arith)
+
+  pub begun-header : stream-header-size ≤ s .size
+  begun-header =
+      let g = begun-good (stream-rules cmdsize (stream-header m at)) (stream-of at (stream-header m at)) s good in
+      rw (← g .1) (stream-sound cmdsize (stream-header m at) (g .0) .header)

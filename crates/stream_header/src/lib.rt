@@ -1,0 +1,2 @@
+// The header of a command stream.
+pub mod header;
