@@ -18,7 +18,7 @@ use Rattle.device.specs.declared.Ran.{Ran}
 use Rattle.device.specs.declared.Told.{Told}
 use Rattle.lent.specs.Calls.{deviceIn}
 use Rattle.lent_memory.specs.Works.{Runs, Answers}
-use Rattle.lent_memory.specs.declared.working.Spent.{Spent}
+use Rattle.lent_memory.specs.declared.Spent.{Spent}
 use Rattle.promises.specs.Slices.{played, same-units-same-answers-same-world}
 use Rattle.promises.specs.Night.{Clear, Night, finished-or-waiting-is-unsliced}
 

@@ -5,12 +5,12 @@ use mathlib.Core.List.{List}
 use Prim.Native.Nat.{ℕ, _<_}
 use borrow.Author.Needs.{needs}
 use Rattle.rules.specs.Calls.{ended-number, Value, Ran, Handed as HandedBy}
-use Rattle.device.specs.declared.Read.{Read}
-use Rattle.device.specs.declared.Handed.{Handed}
+use Rattle.asking.specs.declared.Read.{Read}
+use Rattle.asking.specs.declared.Handed.{Handed}
 use Rattle.flat.specs.Views.{setIn}
 use Rattle.lent.specs.Calls.{Makes, Reads, Hands}
 use Rattle.lent_memory.specs.Works.{Runs, Answers}
-use Rattle.lent_memory.specs.declared.working.Spent.{Spent}
+use Rattle.lent_memory.specs.declared.Spent.{Spent}
 use Rattle.desk.specs.Said.{SaysValue, SaysRun, SaysRecord}
 use Rattle.said.specs.Five.{five, recordWords}
 

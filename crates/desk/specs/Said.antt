@@ -4,7 +4,8 @@ use mathlib.Core.List.{List}
 use Prim.Native.Nat.{ℕ}
 use Rattle.rules.specs.Calls.{ended-number, call-read, call-run, call-record}
 use Rattle.device.specs.Views.{worldIn, stateIn}
-use Rattle.lent.specs.Calls.{deviceIn, Refused}
+use Rattle.asking.specs.Views.{Refused}
+use Rattle.lent.specs.Calls.{deviceIn}
 use Rattle.said.specs.Five.{five, recordWords}
 
 -- ---- the calls

@@ -54,7 +54,7 @@ pub extern "C" fn zelezmut_run(
 ) -> u32
     ensures { λ r. ⌜ SaysRun (now (scalars .entry)) (now (entries .entry)) (now (rooms .entry)) (now (held .entry)) (now (records .entry)) (now (mem .entry)) allowance r (now (said .exit)) (now (scalars .exit)) (now (entries .exit)) (now (held .exit)) (now (records .exit)) (now (mem .exit)) ⌝ }
 {
-    let x = lent_memory::working::run(scalars, entries, rooms, held, records, mem, allowance);
+    let x = lent_memory::run(scalars, entries, rooms, held, records, mem, allowance);
     let units = count(x.units);
     let how = x.ended;
     let ended = number_of(how);
@@ -90,5 +90,5 @@ pub extern "C" fn zelezmut_answer(
     ensures { λ r. ⌜ Answers (now (scalars .entry)) (now (rooms .entry)) (now (held .entry)) (now (mem .entry)) (setIn good) r (now (scalars .exit)) (now (rooms .exit)) (now (mem .exit)) ⌝ }
 {
     let told = is_set(wide(good));
-    lent_memory::working::answer(scalars, rooms, held, mem, told)
+    lent_memory::answer(scalars, rooms, held, mem, told)
 }

@@ -1,21 +1,16 @@
 -- A device by value as the rules' state, and what each call hands back as the rules' answer.
 use mathlib.Core.List.{List, []}
 use Prim.Native.Nat.{ℕ}
-use Rattle.rules.specs.Numbers.{no-record}
 use Rattle.rules.specs.State.{State, World}
-use Rattle.rules.specs.Calls.{Wrote as WroteBy, Value, no-range, Ran as RanBy, Handed as HandedBy, Told as ToldBy}
-use Rattle.stages.specs.Views.{worldOf}
-use Rattle.shell.specs.Tame.{tamed}
+use Rattle.rules.specs.Calls.{Wrote as WroteBy, Ran as RanBy, Told as ToldBy}
+use Rattle.working.specs.Works.{worldWith}
 use Rattle.device.specs.declared.Device.{Device}
 use Rattle.device.specs.declared.Wrote.{Wrote}
-use Rattle.device.specs.declared.Read.{Read}
 use Rattle.device.specs.declared.Ran.{Ran}
-use Rattle.device.specs.declared.Handed.{Handed}
 use Rattle.device.specs.declared.Told.{Told}
 
--- a count above the rows that there are means all of them
 abbrev pub worldIn : Device → List ℕ → World
-worldIn d m = worldOf (tamed (d .scalars)) (d .entries) (d .rooms) (d .held) (d .records) m
+worldIn d m = worldWith (d .scalars) (d .entries) (d .rooms) (d .held) (d .records) m
 
 abbrev pub stateIn : Device → State
 stateIn d = worldIn d [] .state
@@ -23,17 +18,8 @@ stateIn d = worldIn d [] .state
 abbrev pub wroteOf : Wrote → WroteBy
 wroteOf r = record { answer = r .answer; state = stateIn (r .device) }
 
-abbrev pub valueOf : Read → Value
-valueOf r = record { answer = r .answer; value = r .value }
-
 abbrev pub ranOf : Ran → List ℕ → RanBy
 ranOf r m = record { answer = r .answer; units = r .units; ended = r .ended; world = worldIn (r .device) m }
 
-abbrev pub handedOf : Handed → HandedBy
-handedOf r = record { answer = r .answer; range = r .range }
-
 abbrev pub toldOf : Told → List ℕ → ToldBy
 toldOf r m = record { answer = r .answer; world = worldIn (r .device) m }
-
-abbrev pub noneHanded : Handed
-noneHanded = record { answer = no-record; range = no-range }

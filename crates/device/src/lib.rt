@@ -1,29 +1,20 @@
 // The device as a value: every call takes it and hands it back, with the call's answer and its values.
 // No call asks anything of its caller: whatever stands in the device or in memory, it ends and says what it gives.
-use answering::answer;
-use front::turning::advance;
-use records::record_row;
-use registers::Shown;
-use registers::Written;
+use asking::Handed;
+use asking::Read;
+use asking::hand;
+use asking::rewrite;
+use asking::show;
 use rules::Ended;
-use rules::Record;
-use rules::numbers::DONE;
-use rules::numbers::NO_RECORD;
-use rules::numbers::NO_REGISTER;
-use rules::numbers::NOTHING_WAITS;
-use rules::numbers::OTHER_MEMORY;
-use shell::awaits;
-use shell::dropped;
-use shell::ended_of;
 use shell::new_numbers;
-use shell::tame::tame;
-use shell::with_registers;
 use stages::scalars::Scalars;
-use widths::index;
+use working::tell;
+use working::work;
 ghost use mathlib.Core.Path.{_≡_};
 ghost use Rattle.rules.specs.State.{made};
 ghost use Rattle.rules.specs.Calls.{call-write, call-read, call-run, call-record, call-answer};
-ghost use Rattle.device.specs.Views.{stateIn, worldIn, wroteOf, valueOf, ranOf, handedOf, toldOf, noneHanded};
+ghost use Rattle.asking.specs.Views.{valueOf, handedOf};
+ghost use Rattle.device.specs.Views.{stateIn, worldIn, wroteOf, ranOf, toldOf};
 
 pub struct Device {
     pub scalars: Scalars,
@@ -38,11 +29,6 @@ pub struct Wrote {
     pub device: Device,
 }
 
-pub struct Read {
-    pub answer: u32,
-    pub value: u32,
-}
-
 pub struct Ran {
     pub answer: u32,
     pub units: u16,
@@ -50,31 +36,9 @@ pub struct Ran {
     pub device: Device,
 }
 
-pub struct Handed {
-    pub answer: u32,
-    pub range: Record,
-}
-
 pub struct Told {
     pub answer: u32,
     pub device: Device,
-}
-
-// No record: every value beside the refusal is zero.
-pub fn none_handed() -> Handed
-    ensures { λ r. ⌜ r ≡ noneHanded ⌝ }
-{
-    let range = Record {
-        kind: 0,
-        handle: 0,
-        id: 0,
-        gpa: 0,
-        length: 0,
-    };
-    Handed {
-        answer: NO_RECORD,
-        range,
-    }
 }
 
 impl Device {
@@ -96,44 +60,23 @@ impl Device {
     pub fn write(self, offset: u32, value: u32) -> Wrote
         ensures { λ r. ⌜ wroteOf r ≡ call-write (stateIn self) offset value ⌝ }
     {
-        let s = self.scalars;
+        let given = self.scalars;
         let entries = self.entries;
         let rooms = self.rooms;
         let held = self.held;
         let records = self.records;
-        match registers::write(s.regs, offset, value) {
-            Written::NoRegister => Wrote {
-                answer: NO_REGISTER,
-                device: self,
-            },
-            Written::Kept(regs) => {
-                let scalars = with_registers(s, regs);
-                let device = Device {
-                    scalars,
-                    entries,
-                    rooms,
-                    held,
-                    records,
-                };
-                Wrote {
-                    answer: DONE,
-                    device,
-                }
-            }
-            Written::Reset(regs) => {
-                let scalars = dropped(s, regs);
-                let device = Device {
-                    scalars,
-                    entries,
-                    rooms,
-                    held,
-                    records,
-                };
-                Wrote {
-                    answer: DONE,
-                    device,
-                }
-            }
+        let w = rewrite(given, offset, value);
+        let scalars = w.scalars;
+        let device = Device {
+            scalars,
+            entries,
+            rooms,
+            held,
+            records,
+        };
+        Wrote {
+            answer: w.answer,
+            device,
         }
     }
 
@@ -142,38 +85,16 @@ impl Device {
         ensures { λ r. ⌜ valueOf r ≡ call-read (stateIn self) offset ⌝ }
     {
         let s = self.scalars;
-        match registers::read(s.regs, offset) {
-            Shown::NoRegister => Read {
-                answer: NO_REGISTER,
-                value: 0,
-            },
-            Shown::Value(value) => Read {
-                answer: DONE,
-                value,
-            },
-        }
+        show(s.regs, offset)
     }
 
     // Record i of the submission that waits.
     pub fn record(self, i: u32) -> Handed
         ensures { λ r. ⌜ handedOf r ≡ call-record (stateIn self) i ⌝ }
     {
-        let s = tame(self.scalars);
+        let s = self.scalars;
         let records = self.records;
-        let stage = s.stage;
-        let n = s.counts;
-        let at = index(i);
-        if !awaits(stage) {
-            return none_handed();
-        }
-        if at >= n.records {
-            return none_handed();
-        }
-        let range = record_row(&records, at);
-        Handed {
-            answer: DONE,
-            range,
-        }
+        hand(s, &records, i)
     }
 
     // As many units as are allowed, over the memory lent now; says how many were spent and how it ended.
@@ -181,21 +102,12 @@ impl Device {
         ensures { λ r. ⌜ ranOf r (now (mem .exit)) ≡ call-run (worldIn self (now (mem .entry))) allowance ⌝ }
     {
         let given = self.scalars;
-        if mem.len() != given.memory {
-            return Ran {
-                answer: OTHER_MEMORY,
-                units: 0,
-                ended: Ended::Idle,
-                device: self,
-            };
-        }
-        let s = tame(given);
         let mut entries = self.entries;
         let rooms = self.rooms;
         let mut held = self.held;
         let mut records = self.records;
-        let t = advance(
-            s,
+        let w = work(
+            given,
             mem,
             &mut entries,
             &rooms,
@@ -203,8 +115,8 @@ impl Device {
             &mut records,
             allowance,
         );
-        let scalars = t.scalars;
-        let ended = ended_of(scalars);
+        let scalars = w.scalars;
+        let ended = w.ended;
         let device = Device {
             scalars,
             entries,
@@ -213,8 +125,8 @@ impl Device {
             records,
         };
         Ran {
-            answer: DONE,
-            units: t.units,
+            answer: w.answer,
+            units: w.units,
             ended,
             device,
         }
@@ -225,25 +137,11 @@ impl Device {
         ensures { λ r. ⌜ toldOf r (now (mem .exit)) ≡ call-answer (worldIn self (now (mem .entry))) good ⌝ }
     {
         let given = self.scalars;
-        if mem.len() != given.memory {
-            return Told {
-                answer: OTHER_MEMORY,
-                device: self,
-            };
-        }
-        let stage = given.stage;
-        if !awaits(stage) {
-            return Told {
-                answer: NOTHING_WAITS,
-                device: self,
-            };
-        }
-        let s = tame(given);
         let entries = self.entries;
         let mut rooms = self.rooms;
         let held = self.held;
         let records = self.records;
-        let t = answer(s, mem, &mut rooms, &held, good);
+        let t = tell(given, mem, &mut rooms, &held, good);
         let scalars = t.scalars;
         let device = Device {
             scalars,
@@ -253,7 +151,7 @@ impl Device {
             records,
         };
         Told {
-            answer: DONE,
+            answer: t.answer,
             device,
         }
     }

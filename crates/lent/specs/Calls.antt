@@ -3,21 +3,18 @@
 use mathlib.Core.Path.{_≡_}
 use mathlib.Core.List.{List}
 use Prim.Native.Nat.{ℕ}
-use Rattle.rules.specs.Numbers.{done}
 use Rattle.rules.specs.State.{made}
 use Rattle.rules.specs.Calls.{Wrote, call-write, call-read, call-record}
-use Rattle.device.specs.Views.{stateIn, valueOf, handedOf}
+use Rattle.device.specs.Views.{stateIn}
+use Rattle.asking.specs.Views.{Refused, valueOf, handedOf}
 use Rattle.device.specs.declared.Device.{Device}
-use Rattle.device.specs.declared.Read.{Read}
-use Rattle.device.specs.declared.Handed.{Handed}
+use Rattle.asking.specs.declared.Read.{Read}
+use Rattle.asking.specs.declared.Handed.{Handed}
 use Rattle.flat.specs.Views.{scalarsIn}
 
 -- the device that stands in lent words: its numbers, entries, resources, the submission's resources, records
 abbrev pub deviceIn : List ℕ → List ℕ → List ℕ → List ℕ → List ℕ → Device
 deviceIn s e r h c = record { scalars = scalarsIn s; entries = e; rooms = r; held = h; records = c }
-
-abbrev pub Refused : ℕ → Type 0
-Refused a = a ≡ done → ⊥
 
 pub record Makes (memory : ℕ) (s′ : List ℕ) : Type 0 where
   pub new : (e r h c : List ℕ) → stateIn (deviceIn s′ e r h c) ≡ made memory

@@ -5,8 +5,9 @@ use mathlib.Core.List.{List}
 use Prim.Native.Nat.{ℕ}
 use Rattle.rules.specs.Calls.{Ran, Told, call-run, call-answer}
 use Rattle.device.specs.Views.{worldIn}
-use Rattle.lent_memory.specs.declared.working.Spent.{Spent}
-use Rattle.lent.specs.Calls.{Refused, deviceIn}
+use Rattle.lent_memory.specs.declared.Spent.{Spent}
+use Rattle.asking.specs.Views.{Refused}
+use Rattle.lent.specs.Calls.{deviceIn}
 
 -- ---- over memory
 

@@ -1,37 +1,16 @@
-use Rattle.device.specs.Runs.{telling}
+use Rattle.device.specs.Calling.{calling}
 use borrow.Author.Needs.{needs}
 use Rattle.device.proofs.Device.answer.Statement.{statement}
 use Rattle.device.proofs.Device.answer.Tie as tie
 
-returns : tie.Need-returns
-returns c = search telling
-
-awaits-requires : tie.Need-awaits-requires
-awaits-requires c κs = search needs
-
-returns-2 : tie.Need-returns-2
-returns-2 c = search telling
-
-tame-requires : tie.Need-tame-requires
-tame-requires c κs = search needs
-
-answer-requires : tie.Need-answer-requires
-answer-requires c κs = search needs
+tell-requires : tie.Need-tell-requires
+tell-requires c κs = search needs
 
 same-length : tie.Need-same-length
 same-length c = search needs
 
-returns-3 : tie.Need-returns-3
-returns-3 c = search telling
+returns : tie.Need-returns
+returns c = search calling
 
 pub answer-spec : {M : Type 1} → statement M
-answer-spec =
-    tie.close
-    (tie.spec
-    returns
-    awaits-requires
-    returns-2
-    tame-requires
-    answer-requires
-    same-length
-    returns-3)
+answer-spec = tie.close (tie.spec tell-requires same-length returns)

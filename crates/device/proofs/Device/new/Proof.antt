@@ -1,4 +1,4 @@
-use Rattle.device.specs.Runs.{making}
+use Rattle.device.specs.Calling.{calling}
 use borrow.Author.Needs.{needs}
 use Rattle.device.proofs.Device.new.Statement.{statement}
 use Rattle.device.proofs.Device.new.Tie as tie
@@ -7,7 +7,7 @@ new-numbers-requires : tie.Need-new-numbers-requires
 new-numbers-requires c κs = search needs
 
 returns : tie.Need-returns
-returns c = search making
+returns c = search calling
 
 pub new-spec : {M : Type 1} → statement M
 new-spec = tie.close (tie.spec new-numbers-requires returns)

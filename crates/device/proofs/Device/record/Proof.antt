@@ -1,45 +1,13 @@
-use Rattle.device.specs.Reads.{handing}
+use Rattle.device.specs.Calling.{calling}
 use borrow.Author.Needs.{needs}
 use Rattle.device.proofs.Device.record.Statement.{statement}
 use Rattle.device.proofs.Device.record.Tie as tie
 
-tame-requires : tie.Need-tame-requires
-tame-requires c κs = search needs
-
-index-requires : tie.Need-index-requires
-index-requires c κs = search needs
-
-awaits-requires : tie.Need-awaits-requires
-awaits-requires c κs = search needs
-
-none-handed-requires : tie.Need-none-handed-requires
-none-handed-requires c κs = search needs
+hand-requires : tie.Need-hand-requires
+hand-requires c κs = search needs
 
 returns : tie.Need-returns
-returns c = search handing
-
-none-handed-requires-2 : tie.Need-none-handed-requires-2
-none-handed-requires-2 c κs = search needs
-
-returns-2 : tie.Need-returns-2
-returns-2 c = search handing
-
-record-row-requires : tie.Need-record-row-requires
-record-row-requires c κs = search needs
-
-returns-3 : tie.Need-returns-3
-returns-3 c = search handing
+returns c = search calling
 
 pub record-spec : {M : Type 1} → statement M
-record-spec =
-    tie.close
-    (tie.spec
-    tame-requires
-    index-requires
-    awaits-requires
-    none-handed-requires
-    returns
-    none-handed-requires-2
-    returns-2
-    record-row-requires
-    returns-3)
+record-spec = tie.close (tie.spec hand-requires returns)

@@ -1,27 +1,16 @@
-use Rattle.device.specs.Runs.{running}
+use Rattle.device.specs.Calling.{calling}
 use borrow.Author.Needs.{needs}
 use Rattle.device.proofs.Device.run.Statement.{statement}
 use Rattle.device.proofs.Device.run.Tie as tie
 
-returns : tie.Need-returns
-returns c = search running
-
-tame-requires : tie.Need-tame-requires
-tame-requires c κs = search needs
-
-advance-requires : tie.Need-advance-requires
-advance-requires c κs = search needs
-
-ended-of-requires : tie.Need-ended-of-requires
-ended-of-requires c κs = search needs
+work-requires : tie.Need-work-requires
+work-requires c κs = search needs
 
 same-length : tie.Need-same-length
 same-length c = search needs
 
-returns-2 : tie.Need-returns-2
-returns-2 c = search running
+returns : tie.Need-returns
+returns c = search calling
 
 pub run-spec : {M : Type 1} → statement M
-run-spec =
-    tie.close
-    (tie.spec returns tame-requires advance-requires ended-of-requires same-length returns-2)
+run-spec = tie.close (tie.spec work-requires same-length returns)

@@ -1,10 +1,7 @@
-use Rattle.lent_memory.specs.Working.{telling}
+use Rattle.working.specs.Working.{telling}
 use borrow.Author.Needs.{needs}
-use Rattle.lent_memory.proofs.working.answer.Statement.{statement}
-use Rattle.lent_memory.proofs.working.answer.Tie as tie
-
-scalars-in-requires : tie.Need-scalars-in-requires
-scalars-in-requires c κs = search needs
+use Rattle.working.proofs.tell.Statement.{statement}
+use Rattle.working.proofs.tell.Tie as tie
 
 returns : tie.Need-returns
 returns c = search telling
@@ -21,25 +18,20 @@ tame-requires c κs = search needs
 answer-requires : tie.Need-answer-requires
 answer-requires c κs = search needs
 
-store-requires : tie.Need-store-requires
-store-requires c κs = search needs
-
 same-length : tie.Need-same-length
 same-length c = search needs
 
 returns-3 : tie.Need-returns-3
 returns-3 c = search telling
 
-pub answer-spec : {M : Type 1} → statement M
-answer-spec =
+pub tell-spec : {M : Type 1} → statement M
+tell-spec =
     tie.close
     (tie.spec
-    scalars-in-requires
     returns
     awaits-requires
     returns-2
     tame-requires
     answer-requires
-    store-requires
     same-length
     returns-3)
