@@ -15,11 +15,12 @@ use Rattle.rules.specs.State.{State}
 use Rattle.rules.specs.Calls.{Wrote, wrote, call-write, valued, call-read, handed-out, call-record}
 use Rattle.rules.specs.declared.Registers.{Registers}
 use Rattle.rules.specs.declared.Record.{Record}
-use Rattle.registers.specs.Map.{shown, writtenTo, Writes}
+use Rattle.registers.specs.Map.{shown}
+use Rattle.register_writes.specs.Writing.{writtenTo, Writes}
 use Rattle.registers.specs.declared.Shown.{Shown}
 use Rattle.registers.specs.declared.Shown.the-variants.{Value, NoRegister as NoShown}
-use Rattle.registers.specs.declared.Written.{Written}
-use Rattle.registers.specs.declared.Written.the-variants.{Kept, Reset, NoRegister}
+use Rattle.register_writes.specs.declared.Written.{Written}
+use Rattle.register_writes.specs.declared.Written.the-variants.{Kept, Reset, NoRegister}
 use Rattle.rows.specs.Rows.{rowAt, table, tab, table-zero}
 use Rattle.rooms.specs.Views.{recordOf, recordsOf, resourceOf}
 use Rattle.stages.specs.Views.{workOf}

@@ -1,8 +1,8 @@
 // The calls that are lent no guest memory, of a device's numbers and records: Device's methods and the calls over lent state are
 // these. A refused call hands back the numbers that it was given, and zero beside its answer.
 use records::record_row;
+use register_writes::Written;
 use registers::Shown;
-use registers::Written;
 use rules::Record;
 use rules::Registers;
 use rules::numbers::DONE;
@@ -52,7 +52,7 @@ pub fn show(regs: Registers, offset: u32) -> Read
 pub fn rewrite(s: Scalars, offset: u32, value: u32) -> Rewritten
     ensures { λ r. ⌜ Rewrites s offset value r ⌝ }
 {
-    match registers::write(s.regs, offset, value) {
+    match register_writes::write(s.regs, offset, value) {
         Written::NoRegister => Rewritten {
             answer: NO_REGISTER,
             scalars: s,

@@ -9,10 +9,10 @@ use Rattle.machine.specs.Machine.{pick}
 use Rattle.machine.specs.Schedule.{Event, Played, play}
 use Rattle.machine.specs.Schedule.Event.{run, told}
 use Rattle.rules.specs.Numbers.{done, nothing-waits}
-use Rattle.rules.specs.State.{World}
+use Rattle.rules.specs.State.{State, World}
 use Rattle.rules.specs.Steps.{run-for, waits, answered}
 use Rattle.rules.specs.Calls.{lent-another, Ran as RanBy, ran, call-run, Told as ToldBy, call-answer}
-use Rattle.device.specs.Views.{worldIn, ranOf, toldOf}
+use Rattle.device.specs.Views.{worldIn, stateIn, ranOf, toldOf}
 use Rattle.device.specs.declared.Device.{Device}
 use Rattle.device.specs.declared.Ran.{Ran}
 use Rattle.device.specs.declared.Told.{Told}
@@ -132,11 +132,18 @@ chain-is-unsliced w v es k c e =
     subst (λ (x : Played World Bool). Night w (x .accepted) (x .units) (x .state)) (sym p)
     (finished-or-waiting-is-unsliced es w c (subst (λ (x : Played World Bool). Clear (x .state)) p e))
 
--- each call's result is fixed by the device and the memory lent at that call: a front that has read ahead is shut out
-pub call-fixed-by-what-is-lent : (d d′ : Device) (m : List ℕ) (n : ℕ) (r r′ : Ran) (m₁ m₂ : List ℕ) → worldIn d m ≡ worldIn d′ m → ranOf r m₁ ≡ call-run (worldIn d m) n
-    → ranOf r′ m₂ ≡ call-run (worldIn d′ m) n → ranOf r m₁ ≡ ranOf r′ m₂
-call-fixed-by-what-is-lent d d′ m n r r′ m₁ m₂ same a b = a ∙ (ap (λ (w : World). call-run w n) same ∙ sym b)
+-- memory may move: `lent n` is what stands there at unit n. Two memories that agree at that unit give the same unit there, or the same
+-- run of any length, whatever they held before and whatever they hold later: a front that has read ahead is shut out
+module _ (d d′ : Device) (lent lent′ : ℕ → List ℕ) (n : ℕ) (same : stateIn d ≡ stateIn d′) (agree : lent n ≡ lent′ n) where
+  one-world : worldIn d (lent n) ≡ worldIn d′ (lent′ n)
+  one-world =
+      ap {B = World} (λ (x : State). record { state = x; mem = lent n }) same
+      ∙ ap {B = World} (λ (m : List ℕ). record { state = stateIn d′; mem = m }) agree
 
-pub answer-fixed-by-what-is-lent : (d d′ : Device) (m : List ℕ) (good : Bool) (t t′ : Told) (m₁ m₂ : List ℕ) → worldIn d m ≡ worldIn d′ m → toldOf t m₁ ≡ call-answer (worldIn d m) good
-    → toldOf t′ m₂ ≡ call-answer (worldIn d′ m) good → toldOf t m₁ ≡ toldOf t′ m₂
-answer-fixed-by-what-is-lent d d′ m good t t′ m₁ m₂ same a b = a ∙ (ap (λ (w : World). call-answer w good) same ∙ sym b)
+  pub call-fixed-by-what-is-lent : (allowance : ℕ) (r r′ : Ran) (m₁ m₂ : List ℕ) → ranOf r m₁ ≡ call-run (worldIn d (lent n)) allowance
+      → ranOf r′ m₂ ≡ call-run (worldIn d′ (lent′ n)) allowance → ranOf r m₁ ≡ ranOf r′ m₂
+  call-fixed-by-what-is-lent allowance r r′ m₁ m₂ a b = a ∙ (ap (λ (w : World). call-run w allowance) one-world ∙ sym b)
+
+  pub answer-fixed-by-what-is-lent : (good : Bool) (t t′ : Told) (m₁ m₂ : List ℕ) → toldOf t m₁ ≡ call-answer (worldIn d (lent n)) good
+      → toldOf t′ m₂ ≡ call-answer (worldIn d′ (lent′ n)) good → toldOf t m₁ ≡ toldOf t′ m₂
+  answer-fixed-by-what-is-lent good t t′ m₁ m₂ a b = a ∙ (ap (λ (w : World). call-answer w good) one-world ∙ sym b)

@@ -40,7 +40,7 @@ pub fn find_entry(kept: &[u64; 256], n: usize, id: u32) -> usize
     requires { ⌜ n ≤ most ⌝ }
     ensures { λ r. ⌜ r ≡ indexOf entry-id id (entriesOf n (now (kept .entry))) ⌝ }
 {
-    rows::find_row(kept, WORDS, n, id)
+    finding::find_row(kept, WORDS, n, id)
 }
 
 // Reads each field of an entry once.

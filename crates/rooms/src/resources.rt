@@ -56,5 +56,5 @@ pub fn find_resource(rooms: &[u64; 640], n: usize, handle: u32) -> usize
     requires { ⌜ n ≤ most ⌝ }
     ensures { λ r. ⌜ r ≡ indexOf handle-of handle (resourcesOf n (now (rooms .entry))) ⌝ }
 {
-    rows::find_row(rooms, WORDS, n, handle)
+    finding::find_row(rooms, WORDS, n, handle)
 }

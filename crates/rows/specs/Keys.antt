@@ -4,17 +4,16 @@ use mathlib.Core.Path.{_≡_, refl, sym, ap, _∙_}
 use mathlib.Core.Bool.{Bool, true, false}
 use mathlib.Core.List.{List, [], _∷_, _++_}
 use mathlib.Core.Logic.{_⊎_, inl, inr, ⊎-elim}
-use Prim.Native.Nat.{ℕ, zero, suc, _+_, _*_, _-_, _≤_, _<_, _%_, _^_}
-use native.Mathlib.Nat.{add-zero, mul-le-mul-left, mul-suc}
+use Prim.Native.Nat.{ℕ, zero, suc, _+_, _*_, _-_, _≤_, _<_}
+use native.Mathlib.Nat.{add-zero}
 use native.Mathlib.Omega.{arith}
-use borrow.Author.Needs.{needs}
 use borrow.Author.Tests.{eq-eqb, ne-eqb, eqb-true, eqb-false}
 use lib.Dec.{eqb}
 use lib.ListN.{length, getD, drop, length-append, length-drop, List·getD-append}
 use lib.Seq.{length-take-le, getD-take, getD-drop, getD-append-seam}
 use Rattle.rules.specs.Lists.{over, pushed, removed, lookup, indexOf, found, none}
 use Rattle.words.specs.Over.{below-or-not, length-over, getD-before, getD-within, getD-after}
-use Rattle.rows.specs.Rows.{rowAt, table, tableFrom, tab, firstWord, row-field, from-first, from-none, from-zero, length-table, getD-table, table-remove}
+use Rattle.rows.specs.Rows.{rowAt, table, tab, firstWord, length-table, getD-table, table-remove}
 
 -- two numbers are the same one, or not
 pub same-or-not : (a b : ℕ) → (a ≡ b) ⊎ (a ≡ b → ⊥)
@@ -317,39 +316,3 @@ module _ {E : Type 0} (f : List ℕ → E) (w : ℕ) (key : E → ℕ) (k : ℕ)
     pub row-removed : (m : List ℕ) → w * n ≤ length l → i < n → m ≡ over (w * i) (rowAt w l (n - 1)) l
         → table f w (n - 1) m ≡ removed (indexOf key k (table f w n l)) (table f w n l)
     row-removed m room h e = rw (e, ← place-of) (table-remove f w n i l room h)
-
--- ---- find_row
-
-module _ (k w n : ℕ) (l : List ℕ) where
-  -- the place of the key among the rows from row i on
-  abbrev placeFrom : ℕ → ℕ
-  placeFrom i = indexOf firstWord k (tableFrom (λ r. r) w i n l)
-
-  pub scan-start : indexOf firstWord k (table (λ r. r) w n l) ≡ 0 + indexOf firstWord k (tableFrom (λ r. r) w 0 n l)
-  scan-start = rw (from-zero (λ r. r)) (omega arith)
-
-  module _ (i : ℕ) (so-far : indexOf firstWord k (table (λ r. r) w n l) ≡ i + indexOf firstWord k (tableFrom (λ r. r) w i n l)) where
-    pub scan-end : n ≤ i → i ≡ indexOf firstWord k (table (λ r. r) w n l)
-    scan-end h =
-        let e : placeFrom i ≡ 0 = rw (from-none (λ r. r) w i n l h) (index-nil firstWord k) in
-        omega arith
-
-    module _ (pre : (0 < w) × (w * n ≤ length l)) (h : i < n) where
-      first : firstWord (rowAt w l i) ≡ getD l (w * i) 0 % 2 ^ 32
-      first = rw (row-field w l i 0 (pre .0), add-zero)
-
-      pub scan-here : (v : ℕ) → v ≡ getD l (w * i) 0 % 2 ^ 32 → v ≡ k → i ≡ indexOf firstWord k (table (λ r. r) w n l)
-      scan-here v u q =
-          let e : placeFrom i ≡ 0 = rw (from-first (λ r. r) w i n l h) (index-here firstWord k (rowAt w l i) _ (first ∙ (sym u ∙ q))) in
-          omega arith
-
-      pub scan-next : (v : ℕ) → v ≡ getD l (w * i) 0 % 2 ^ 32 → (v ≡ k → ⊥) → indexOf firstWord k (table (λ r. r) w n l) ≡ i + 1 + indexOf firstWord k (tableFrom (λ r. r) w (i + 1) n l)
-      scan-next v u q =
-          let e : placeFrom i ≡ suc (placeFrom (i + 1)) = rw (from-first (λ r. r) w i n l h) (index-later firstWord k (rowAt w l i) _ (λ p. q (u ∙ (sym first ∙ p)))) in
-          omega arith
-
--- a row's words are within the list
-pub row-room : (w i n : ℕ) (l : List ℕ) → (0 < w) × (w * n ≤ length l) → i < n → w * i < length l
-row-room w i n l pre h = omega (arith, pre .0, pre .1, mul-le-mul-left w h, mul-suc w i)
-
-pub ruleset finding = (scan-start, scan-end, scan-here, scan-next, row-room, needs)

@@ -1,28 +1,9 @@
-// Rows of words in a flat list: found by their first word, moved, copied, and counted out in a guest's table.
-use words::low32;
+// Rows of words in a flat list: moved, copied, and counted out in a guest's table.
 ghost use mathlib.Core.Path.{_≡_};
-ghost use Prim.Native.Nat.{_+_, _*_, _≤_, _<_};
+ghost use Prim.Native.Nat.{_+_, _*_, _≤_};
 ghost use lib.ListN.{length, take};
-ghost use Rattle.rules.specs.Lists.{over, indexOf};
-ghost use Rattle.rows.specs.Rows.{rowAt, table, firstWord};
-
-// Finds a key among the first words of the first `count` rows: the row's index, or `count`. A key is four bytes wide.
-pub fn find_row(rows: &[u64], width: usize, count: usize, key: u32) -> usize
-    requires { ⌜ (0 < width) × (width * count ≤ length (now rows)) ⌝ }
-    ensures { λ r. ⌜ r ≡ indexOf firstWord key (table (λ r. r) width count (now (rows .entry))) ⌝ }
-{
-    let mut i: usize = 0;
-    let place = loop {
-        if i >= count {
-            break i;
-        }
-        if low32(rows[width * i]) == key {
-            break i;
-        }
-        i += 1;
-    };
-    place
-}
+ghost use Rattle.rules.specs.Lists.{over};
+ghost use Rattle.rows.specs.Rows.{rowAt};
 
 // Copies a row over another: the last row takes a removed one's place.
 pub fn move_row(rows: &mut [u64], width: usize, from: usize, to: usize)

@@ -10,8 +10,8 @@ use borrow.Author.Needs.{needs}
 use Rattle.rules.specs.Numbers.{longest-side, most-layers}
 use Rattle.rules.specs.Shapes.{block-bytes, larger, full-chain, tight, good-shape, good-backed}
 use Rattle.rules.specs.declared.Shape.{Shape}
-use Rattle.shapes.specs.Formats.{minimum}
-use Rattle.shapes.specs.Bounds.{Bounded}
+use Rattle.formats.specs.Formats.{minimum}
+use Rattle.formats.specs.Bounds.{Bounded}
 use Rattle.shapes.specs.Chain.{halvings-le}
 
 -- "1 to 16,384"

@@ -1,5 +1,2 @@
-pub mod Formats
-pub mod Bounds
 pub mod Chain
 pub mod Good
-pub mod Rows

@@ -1,15 +1,15 @@
 // Where the bytes of a texture stand. One layer is worked out mip by mip, and multiplied: a caller pays for at most 15 mips, whatever
 // the layers.
+use formats::blocks_of;
+use formats::side_at;
+use formats::tight_row;
 use rules::Shape;
 use rules::Start;
-use shapes::blocks_of;
 use shapes::good_backed;
-use shapes::side_at;
-use shapes::tight_row;
 ghost use mathlib.Core.Path.{_≡_};
 ghost use Prim.Native.Nat.{_*_, _≤_, _<_};
 ghost use Rattle.rules.specs.Shapes.{mip-bytes, offset-of, packed-size, start-of};
-ghost use Rattle.shapes.specs.Bounds.{Bounded, most-of-mip};
+ghost use Rattle.formats.specs.Bounds.{Bounded, most-of-mip};
 
 // The bytes of one mip: only mip 0 has the guest's pitch.
 fn bytes_of_mip(s: Shape, pitch: u32, mip: u32) -> u64

@@ -12,6 +12,7 @@ use Rattle.rules.specs.Numbers.{ring-magic, slot-doublings, minors, good-major}
 use Rattle.rules.specs.Layouts.{word, ring-header, ring-header-size, descriptor-size}
 use Rattle.rules.specs.Ring.{power-of-two, pending, good-header}
 use Rattle.rules.specs.declared.RingHeader.{RingHeader}
+use Rattle.laws.specs.Fine.{both-left, both-right}
 
 pub header-read : (m : List ℕ) (at a b c d e f g : ℕ) → a ≡ word m at → b ≡ word m (at + 4) → c ≡ word m (at + 8) → d ≡ word m (at + 12) → e ≡ word m (at + 16)
     → f ≡ word m (at + 24) → g ≡ word m (at + 28)
@@ -45,18 +46,10 @@ divides n = same-bool (power-of-two slot-doublings (suc n)) (eqb (1024 % suc n) 
 below-holds : (t : ℕ → Bool) (n : ℕ) → all-below t n ≡ true → (k : ℕ) → k < n → t k ≡ true
 unfolding all-below
 below-holds t zero h k p = absurd (omega arith)
-below-holds t (suc n) h k p = by-place (eqb k n) refl (below-holds t n (right (t n) (all-below t n) h) k)
+below-holds t (suc n) h k p = by-place (eqb k n) refl (below-holds t n (both-right (t n) (all-below t n) h) k)
   where
-    left : (a b : Bool) → a && b ≡ true → a ≡ true
-    left true b e = refl
-    left false b e = e
-
-    right : (a b : Bool) → a && b ≡ true → b ≡ true
-    right true b e = e
-    right false b e = absurd (let z : _≡_ {A = ℕ} 0 1 = cc in omega arith)
-
     by-place : (b : Bool) → eqb k n ≡ b → (k < n → t k ≡ true) → t k ≡ true
-    by-place true e ih = ap t (eqb-true k n e) ∙ left (t n) (all-below t n) h
+    by-place true e ih = ap t (eqb-true k n e) ∙ both-left (t n) (all-below t n) h
     by-place false e ih = ih (omega (arith, eqb-false k n e))
 
 -- computed once, at every count up to the limit

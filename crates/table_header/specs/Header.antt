@@ -37,26 +37,6 @@ header-read m at a b c d e p q r s t = rw (p, q, r, s, t)
 
 pub ruleset reading-header = (header-read, needs)
 
--- ---- entry_offset
-
--- two words of four bytes, multiplied, leave room for a header and an entry
-module _ (i stride : ℕ) (p : i < 2 ^ 32) (q : stride < 2 ^ 32) where
-  product-room : i * stride + (2 ^ 33 - 1) ≤ 2 ^ 64
-  product-room =
-      let far : i * stride ≤ 4294967295 * 4294967295 = mul-le-mul {n₂ = 4294967295} {m₂ = 4294967295} (omega arith) (omega arith) in
-      omega arith
-
-  pub offset-product : Fits w64 (i * stride)
-  offset-product = record { fits = omega (arith, product-room) }
-
-  pub offset-sum : Fits w64 (table-header-size + i * stride)
-  offset-sum = record { fits = omega (arith, product-room) }
-
-  pub offset-is : (table-header-size + i * stride ≡ table-header-size + i * stride) × (table-header-size + i * stride + 2 ^ 32 ≤ 2 ^ 64)
-  offset-is = (refl, omega (arith, product-room))
-
-pub ruleset offsets = (offset-product, offset-sum, offset-is, needs)
-
 -- ---- header_verdict
 
 module _ (tablesize : ℕ) (h : TableHeader) where
@@ -89,7 +69,7 @@ module _ (tablesize : ℕ) (h : TableHeader) where
             unfolding header-rules
             header-narrow p = rw (le-ltb _ _ long, eq-eqb _ _ magic, eq-eqb _ _ version, le-ltb _ _ whole, le-ltb _ _ within, lt-ltb _ _ p)
 
-            module _ (wide : entry-size ≤ h .stride) (end : ℕ) (at : (end ≡ table-header-size + h .count * h .stride) × (end + 2 ^ 32 ≤ 2 ^ 64)) where
+            module _ (wide : entry-size ≤ h .stride) (end : ℕ) (at : (end ≡ table-header-size + h .count * h .stride) × (end + 4294967296 ≤ 18446744073709551616)) where
               pub header-crowded : h .size < end → Broken (refusal bad-table) ≡ header-rules tablesize h
               unfolding header-rules
               header-crowded p =

@@ -8,6 +8,7 @@ use rules::numbers::BAD_TABLE;
 use rules::numbers::GOOD_MAJOR;
 use rules::numbers::MINORS;
 use rules::numbers::MOST;
+use rules::numbers::TABLE_HEADER_SIZE;
 use rules::numbers::TABLE_MAGIC;
 use rules::numbers::TOO_MANY;
 ghost use mathlib.Core.Path.{_≡_};
@@ -18,7 +19,7 @@ ghost use Rattle.rules.specs.Table.{header-rules, table-of};
 ghost use Rattle.table_header.specs.Header.{headed};
 
 // The bytes of a table's header and of an entry that are named; more may follow them.
-pub const HEADER_SIZE: u64 = rules::numbers::TABLE_HEADER_SIZE as u64;
+pub const HEADER_SIZE: u64 = TABLE_HEADER_SIZE as u64;
 
 pub const ENTRY_SIZE: u64 = rules::numbers::ENTRY_SIZE as u64;
 
@@ -44,9 +45,9 @@ fn header_at(mem: &[u8], at: usize) -> TableHeader
 
 // How far from a table's start entry `i` stands: by the table's own stride.
 pub fn entry_offset(stride: u32, i: u32) -> u64
-    ensures { λ r. ⌜ (r ≡ table-header-size + i * stride) × (r + 2 ^ 32 ≤ 2 ^ 64) ⌝ }
+    ensures { λ r. ⌜ (r ≡ table-header-size + i * stride) × (r + 4294967296 ≤ 18446744073709551616) ⌝ }
 {
-    HEADER_SIZE + i as u64 * stride as u64
+    rows::row_offset(TABLE_HEADER_SIZE, i, stride)
 }
 
 // Judges a header that was read, for a table of so many bytes.

@@ -11,6 +11,13 @@ pub fn put32(bytes: &mut [u8], at: usize, value: u32) {
     bytes[at..at + 4].copy_from_slice(&value.to_le_bytes());
 }
 
+/// Words from the first byte on, one behind the other.
+fn put_words(bytes: &mut [u8], words: &[u32]) {
+    for (i, &value) in words.iter().enumerate() {
+        put32(bytes, 4 * i, value);
+    }
+}
+
 pub fn put64(bytes: &mut [u8], at: usize, value: u64) {
     bytes[at..at + 8].copy_from_slice(&value.to_le_bytes());
 }
@@ -61,18 +68,10 @@ impl RingHeader {
 
     pub fn bytes(&self, random: &mut Random) -> Vec<u8> {
         let mut bytes = blank(random, RING_HEADER as usize);
-        let fields = [
-            (0, self.magic),
-            (4, self.version),
-            (8, self.size),
-            (12, self.count),
-            (16, self.stride),
-            (24, self.head),
-            (28, self.tail),
-        ];
-        for (at, value) in fields {
-            put32(&mut bytes, at, value);
-        }
+        let begins = [self.magic, self.version, self.size, self.count, self.stride];
+        put_words(&mut bytes, &begins);
+        put32(&mut bytes, 24, self.head);
+        put32(&mut bytes, 28, self.tail);
         bytes
     }
 }
@@ -157,16 +156,8 @@ impl Table {
 
     pub fn bytes(&self, random: &mut Random) -> Vec<u8> {
         let mut bytes = blank(random, self.entry_at(self.entries.len()));
-        let fields = [
-            (0, self.magic),
-            (4, self.version),
-            (8, self.size),
-            (12, self.count),
-            (16, self.stride),
-        ];
-        for (at, value) in fields {
-            put32(&mut bytes, at, value);
-        }
+        let begins = [self.magic, self.version, self.size, self.count, self.stride];
+        put_words(&mut bytes, &begins);
         for (i, entry) in self.entries.iter().enumerate() {
             entry.put(&mut bytes[self.entry_at(i)..]);
         }

@@ -5,7 +5,7 @@ use Prim.Native.Nat.{_≤_, _-_, _*_}
 use native.Mathlib.Omega.{arith}
 use borrow.Author.Needs.{needs}
 use Rattle.rules.specs.Shapes.{offset-of}
-use Rattle.shapes.specs.Bounds.{most-of-mip}
+use Rattle.formats.specs.Bounds.{most-of-mip}
 use Rattle.sizes.specs.Layers.{summing}
 use Rattle.sizes.proofs.bytes_below.Statement.{statement}
 use Rattle.sizes.proofs.bytes_below.Tie as tie

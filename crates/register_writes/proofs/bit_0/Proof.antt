@@ -1,0 +1,10 @@
+-- `bit_0` meets its contract, by the laws of `bits`. Assumes nothing.
+use Rattle.register_writes.specs.Changes.{bits}
+use Rattle.register_writes.proofs.bit_0.Statement.{statement}
+use Rattle.register_writes.proofs.bit_0.Tie as tie
+
+returns : tie.Need-returns
+returns c = search bits
+
+pub bit-0-spec : {M : Type 1} → statement M
+bit-0-spec = tie.close (tie.spec returns)
