@@ -20,6 +20,7 @@ pub fn is_set(x: u64) -> bool
     if x == 0 { false } else { true }
 }
 
+// The registers that stand in the words.
 pub fn registers_in(s: &[u64; 32]) -> Registers
     ensures { λ r. ⌜ r ≡ registersIn (now (s .entry)) ⌝ }
 {

@@ -28,6 +28,7 @@ pub fn blocks_of(format: u32, pixels: u64) -> u64
     }
 }
 
+// The larger of two numbers.
 pub fn larger_of(a: u32, b: u32) -> u32
     ensures { λ r. ⌜ r ≡ larger a b ⌝ }
 {

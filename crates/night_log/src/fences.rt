@@ -44,6 +44,7 @@ fn signal_line(example: u32, regs: Registers, signal: u64) {
     }
 }
 
+// A fence below the completed one, the same again, and one above it.
 pub fn example_5() {
     let regs = completed(9);
     signal_line(5, regs, 7);

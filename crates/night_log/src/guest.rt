@@ -59,6 +59,7 @@ fn put_header(mem: &mut [u8], magic: u32, size: u32) {
 
 // ---- the ring
 
+// A ring header of the night log's ring, at the start of memory.
 pub fn put_ring(mem: &mut [u8], head: u32, tail: u32) {
     put_header(mem, RING_MAGIC, RING_SIZE);
     put_word(mem, 0, 12, SLOTS);
@@ -67,6 +68,7 @@ pub fn put_ring(mem: &mut [u8], head: u32, tail: u32) {
     put_word(mem, 0, 28, tail);
 }
 
+// A descriptor into its slot.
 pub fn put_descriptor(mem: &mut [u8], slot: u32, d: Descriptor) {
     let start = rows::row_offset(RING_HEADER_SIZE, slot, DESCRIPTOR_SIZE) as usize;
     put_word(mem, start, 0, d.size);
@@ -85,12 +87,14 @@ pub fn table_size(count: u32) -> u32 {
     words::low32(rows::row_offset(TABLE_HEADER_SIZE, count, ENTRY_SIZE))
 }
 
+// The header of a table of so many entries.
 pub fn put_table(part: &mut [u8], count: u32) {
     put_header(part, TABLE_MAGIC, table_size(count));
     put_word(part, 0, 12, count);
     put_word(part, 0, 16, ENTRY_SIZE);
 }
 
+// Entry i of a table.
 pub fn put_entry(part: &mut [u8], i: u32, e: Entry) {
     let start = rows::row_offset(TABLE_HEADER_SIZE, i, ENTRY_SIZE) as usize;
     put_word(part, start, 0, e.id);
@@ -101,10 +105,12 @@ pub fn put_entry(part: &mut [u8], i: u32, e: Entry) {
 
 // ---- the stream, in the part of memory that is lent for it
 
+// The header of a stream of so many bytes.
 pub fn put_stream(part: &mut [u8], size: u32) {
     put_header(part, STREAM_MAGIC, size);
 }
 
+// A packet that creates a buffer.
 pub fn put_create(part: &mut [u8], start: usize, p: CreateBuffer) {
     put_word(part, start, 0, CREATE_BUFFER);
     put_word(part, start, 4, CREATE_BUFFER_SIZE);
@@ -114,6 +120,7 @@ pub fn put_create(part: &mut [u8], start: usize, p: CreateBuffer) {
     put_word(part, start, 28, p.offset);
 }
 
+// A packet that marks a range dirty.
 pub fn put_dirty(part: &mut [u8], start: usize, p: DirtyRange) {
     put_word(part, start, 0, DIRTY_RANGE);
     put_word(part, start, 4, DIRTY_RANGE_SIZE);

@@ -1,9 +1,11 @@
 // Words and numbers on standard output, and the pieces that lines of several examples share.
 
+// Prints a text as it is.
 pub fn say(text: &[u8]) {
     io::write_all(1, text);
 }
 
+// Prints a number, decimal.
 pub fn say_number(n: u64) {
     io::print_decimal(1, n);
 }

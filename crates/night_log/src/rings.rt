@@ -72,6 +72,7 @@ pub fn example_6() {
     opening_line(6, &mem);
 }
 
+// Nine pending in a ring of eight slots: a bad ring.
 pub fn example_7() {
     let mut mem = [0u8; 576];
     put_ring(&mut mem, 0, 9);

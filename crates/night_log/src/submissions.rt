@@ -189,6 +189,7 @@ fn put_entry_5(mem: &mut [u8], i: u32)
     );
 }
 
+// A submission of one entry, run whole and answered.
 pub fn example_9() {
     let mut mem = [0u8; 16384];
     put_submission(&mut mem, 1);

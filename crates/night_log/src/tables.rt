@@ -30,6 +30,7 @@ fn entry_line(example: u32, memory: u64, gpa: u64, size: u64) {
     say(b"\n");
 }
 
+// An entry that ends where memory does, and one that ends a byte further.
 pub fn example_8() {
     entry_line(8, 4096, 0, 4096);
     entry_line(8, 4096, 1, 4096);

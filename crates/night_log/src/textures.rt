@@ -86,6 +86,7 @@ fn five_by_three(layers: u32) -> Shape {
     }
 }
 
+// The least pitch of a texture, and its size by two pitches.
 pub fn example_1() {
     let s = five_by_three(1);
     minimum_line(1, s);
@@ -93,12 +94,14 @@ pub fn example_1() {
     size_line(1, s, 32);
 }
 
+// The same with more than one layer: its size, and where a subresource starts.
 pub fn example_2() {
     let s = five_by_three(2);
     size_line(2, s, 20);
     start_line(2, s, 20, 4);
 }
 
+// A texture of blocks: its rows count blocks and not pixels.
 pub fn example_3() {
     let s = Shape {
         format: 64,
@@ -123,6 +126,7 @@ fn chain_of(width: u32, mips: u32) -> Shape {
     }
 }
 
+// The longest chain of mips, one that is longer, and one of a side of a single pixel.
 pub fn example_4() {
     shape_line(4, chain_of(LONGEST_SIDE, 15));
     shape_line(4, chain_of(LONGEST_SIDE, 16));

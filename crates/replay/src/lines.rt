@@ -1,5 +1,6 @@
 // Words and numbers on standard output, which lines are made of.
 
+// Prints a text as it is.
 pub fn say(text: &[u8]) {
     io::write_all(1, text);
 }

@@ -57,6 +57,7 @@ fn hash(memory: &[u8]) -> u64 {
 
 // ---- the line
 
+// The line `state`: every readable register, and the hash of memory.
 pub fn say_state(device: Device, memory: &[u8]) {
     say(b"state");
     say_registers(device);

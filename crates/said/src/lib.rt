@@ -17,6 +17,7 @@ pub fn number_of(ended: Ended) -> u64
     }
 }
 
+// Says two values, then zeros.
 pub fn say(said: &mut [u64; 5], first: u64, second: u64)
     ensures { λ _. ⌜ now (said .exit) ≡ five first second 0 0 0 ⌝ }
 {
@@ -28,6 +29,7 @@ pub fn say(said: &mut [u64; 5], first: u64, second: u64)
     said[4] = 0;
 }
 
+// Says a record: kind, handle, id, GPA, length.
 pub fn say_record(said: &mut [u64; 5], range: Record)
     ensures { λ _. ⌜ now (said .exit) ≡ recordWords range ⌝ }
 {

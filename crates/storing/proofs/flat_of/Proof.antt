@@ -9,11 +9,11 @@ enum-told c = search needs
 enum-known-stage : tie.Need-enum-known-stage
 enum-known-stage c = search needs
 
+of-job-requires : tie.Need-of-job-requires
+of-job-requires c κs = search needs
+
 wide-requires : tie.Need-wide-requires
 wide-requires c κs = search needs
-
-flag-requires : tie.Need-flag-requires
-flag-requires c κs = search needs
 
 wide-requires-2 : tie.Need-wide-requires-2
 wide-requires-2 c κs = search needs
@@ -21,20 +21,14 @@ wide-requires-2 c κs = search needs
 wide-requires-3 : tie.Need-wide-requires-3
 wide-requires-3 c κs = search needs
 
-wide-requires-4 : tie.Need-wide-requires-4
-wide-requires-4 c κs = search needs
-
 enum-known-stage-2 : tie.Need-enum-known-stage-2
 enum-known-stage-2 c = search needs
 
-wide-requires-5 : tie.Need-wide-requires-5
-wide-requires-5 c κs = search needs
+of-job-requires-2 : tie.Need-of-job-requires-2
+of-job-requires-2 c κs = search needs
 
-flag-requires-2 : tie.Need-flag-requires-2
-flag-requires-2 c κs = search needs
-
-wide-requires-6 : tie.Need-wide-requires-6
-wide-requires-6 c κs = search needs
+wide-requires-4 : tie.Need-wide-requires-4
+wide-requires-4 c κs = search needs
 
 long-requires : tie.Need-long-requires
 long-requires c κs = search needs
@@ -42,11 +36,8 @@ long-requires c κs = search needs
 enum-known-stage-3 : tie.Need-enum-known-stage-3
 enum-known-stage-3 c = search needs
 
-wide-requires-7 : tie.Need-wide-requires-7
-wide-requires-7 c κs = search needs
-
-flag-requires-3 : tie.Need-flag-requires-3
-flag-requires-3 c κs = search needs
+of-job-requires-3 : tie.Need-of-job-requires-3
+of-job-requires-3 c κs = search needs
 
 returns : tie.Need-returns
 returns c = search needs
@@ -66,19 +57,16 @@ flat-of-spec =
     (tie.spec
     enum-told
     enum-known-stage
+    of-job-requires
     wide-requires
-    flag-requires
     wide-requires-2
     wide-requires-3
-    wide-requires-4
     enum-known-stage-2
-    wide-requires-5
-    flag-requires-2
-    wide-requires-6
+    of-job-requires-2
+    wide-requires-4
     long-requires
     enum-known-stage-3
-    wide-requires-7
-    flag-requires-3
+    of-job-requires-3
     returns
     returns-2
     returns-3

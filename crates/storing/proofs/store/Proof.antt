@@ -6,44 +6,8 @@ use Rattle.storing.proofs.store.Tie as tie
 flat-of-requires : tie.Need-flat-of-requires
 flat-of-requires c κs = search needs
 
-long-requires : tie.Need-long-requires
-long-requires c κs = search needs
-
-wide-requires : tie.Need-wide-requires
-wide-requires c κs = search needs
-
-flag-requires : tie.Need-flag-requires
-flag-requires c κs = search needs
-
-flag-requires-2 : tie.Need-flag-requires-2
-flag-requires-2 c κs = search needs
-
-flag-requires-3 : tie.Need-flag-requires-3
-flag-requires-3 c κs = search needs
-
-wide-requires-2 : tie.Need-wide-requires-2
-wide-requires-2 c κs = search needs
-
-wide-requires-3 : tie.Need-wide-requires-3
-wide-requires-3 c κs = search needs
-
-wide-requires-4 : tie.Need-wide-requires-4
-wide-requires-4 c κs = search needs
-
-flag-requires-4 : tie.Need-flag-requires-4
-flag-requires-4 c κs = search needs
-
-long-requires-2 : tie.Need-long-requires-2
-long-requires-2 c κs = search needs
-
-long-requires-3 : tie.Need-long-requires-3
-long-requires-3 c κs = search needs
-
-long-requires-4 : tie.Need-long-requires-4
-long-requires-4 c κs = search needs
-
-long-requires-5 : tie.Need-long-requires-5
-long-requires-5 c κs = search needs
+widen-requires : tie.Need-widen-requires
+widen-requires c κs = search needs
 
 element-write-s : tie.Need-element-write-s
 element-write-s c = search needs
@@ -137,19 +101,7 @@ store-spec =
     tie.close
     (tie.spec
     flat-of-requires
-    long-requires
-    wide-requires
-    flag-requires
-    flag-requires-2
-    flag-requires-3
-    wide-requires-2
-    wide-requires-3
-    wide-requires-4
-    flag-requires-4
-    long-requires-2
-    long-requires-3
-    long-requires-4
-    long-requires-5
+    widen-requires
     element-write-s
     element-write-s-2
     element-write-s-3
