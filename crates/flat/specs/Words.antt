@@ -1,4 +1,4 @@
--- A device's numbers in words, and back. Assumes nothing.
+-- A device's numbers read from words: what the reading asks. Assumes nothing.
 use mathlib.Core.Path.{_≡_}
 use mathlib.Core.Bool.{Bool, true, false}
 use mathlib.Core.List.{List}

@@ -1,4 +1,4 @@
-// The numbers of a device as words that a host owns: read from them, whatever stands there, and stored into them.
+// The numbers of a device as words that a host owns, read from them. Whatever words stand there mean some device.
 pub mod reading;
 
 // The numbers of what is in work, as they lie in the words. What a stage does not have is 0.

@@ -1,4 +1,4 @@
-// Where a phase or an opening has come to, as the device then stands: going on, waiting for the host, or settled.
+// Where a phase has come to, as the device then stands: going on, waiting for the host, or settled.
 // A refusal settles within its unit, and the device's resources stay as they were.
 use phases::ending::Ending;
 use phases::entries::EntriesPlace;

@@ -1,1 +1,1 @@
-// The promises: theorems over the rules and the device. No code stands here; see specs/.
+// The promises: theorems over the rule book. No code stands here; see specs/. `carried` takes some of them to the calls.

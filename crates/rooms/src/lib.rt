@@ -1,3 +1,3 @@
-// Rooms for live resources and for records: rows of words in lent arrays, the live ones first.
-// A row is read into a struct and written from one; nothing above this crate sees a word's index.
+// Rooms for live resources: rows of words in a lent array, the live ones first, read into structs and found by handle.
+// Only this crate and `placing` see a word's index.
 pub mod resources;

@@ -1,2 +1,2 @@
-// The ring's header and the descriptor in a slot: each field read once, and judged.
+// The ring's header: each field read once, and judged; and where the slot to open stands.
 pub mod header;
