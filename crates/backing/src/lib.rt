@@ -1,11 +1,14 @@
 // A resource is created: its handle, its backing and its range are judged in the order of the rules, then it is stored.
+use entry_rows::Entries;
 use entry_rows::entry_row;
 use entry_rows::find_entry;
 use placing::storing::push_resource;
 use ranges::applied::Applied;
 use ranges::applied::refuse;
 use ranges::bytes::resource_bytes;
+use records::Records;
 use records::push_record;
+use rooms::resources::Resources;
 use rooms::resources::find_resource;
 use rules::Record;
 use rules::Resource;
@@ -27,7 +30,7 @@ ghost use Rattle.ranges.specs.Views.{Applies, Room};
 ghost use Rattle.backing.specs.Backing.{store-backed};
 
 // A host-backed resource asks for a room only. It makes no record, so any records stay as they are.
-fn create_hosted(rooms: &mut [u64; 640], live: usize, made: usize, r: Resource) -> Applied
+fn create_hosted(rooms: &mut Resources, live: usize, made: usize, r: Resource) -> Applied
     requires { ⌜ (live ≤ most) × (made ≤ most) ⌝ }
     ensures { λ a. ⌜ ((l : List ℕ) → Applies (create-hosted (holdingsOf live (now (rooms .entry)) made l) r) a (now (rooms .exit)) l) ⌝ }
 {
@@ -44,9 +47,9 @@ fn create_hosted(rooms: &mut [u64; 640], live: usize, made: usize, r: Resource) 
 
 // A backed resource asks for a room and for a record's.
 fn store_backed(
-    rooms: &mut [u64; 640],
+    rooms: &mut Resources,
     live: usize,
-    records: &mut [u64; 320],
+    records: &mut Records,
     made: usize,
     r: Resource,
     c: Record,
@@ -72,11 +75,11 @@ fn store_backed(
 // A backed resource lies inside the entry with its id, and is handed out whole. The sum of its offset and bytes may be
 // above 2^64, so the two are held against the entry's size one after the other.
 fn create_backed(
-    entries: &[u64; 256],
+    entries: &Entries,
     n: usize,
-    rooms: &mut [u64; 640],
+    rooms: &mut Resources,
     live: usize,
-    records: &mut [u64; 320],
+    records: &mut Records,
     made: usize,
     r: Resource,
 ) -> Applied
@@ -109,11 +112,11 @@ fn create_backed(
 
 // What buffers and textures share, once it is known whether the shape is good.
 pub fn create(
-    entries: &[u64; 256],
+    entries: &Entries,
     n: usize,
-    rooms: &mut [u64; 640],
+    rooms: &mut Resources,
     live: usize,
-    records: &mut [u64; 320],
+    records: &mut Records,
     made: usize,
     good: bool,
     r: Resource,

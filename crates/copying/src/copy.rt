@@ -1,10 +1,13 @@
 // The copy packet: bytes of one live buffer into another; with writeback the range of the destination is handed to the host.
+use entry_rows::Entries;
 use ranges::applied::Applied;
 use ranges::applied::refuse;
 use ranges::handout::Resolved;
 use ranges::handout::beyond;
 use ranges::handout::hand_out;
 use ranges::handout::resolve;
+use records::Records;
+use rooms::resources::Resources;
 use rooms::resources::find_resource;
 use rooms::resources::resource_row;
 use rules::CopyBuffer;
@@ -40,7 +43,7 @@ enum Sought {
 }
 
 // Looks for the live buffer that has a handle.
-fn live_buffer(rooms: &[u64; 640], live: usize, handle: u32) -> Sought
+fn live_buffer(rooms: &Resources, live: usize, handle: u32) -> Sought
     requires { ⌜ live ≤ most ⌝ }
     ensures { λ x. ⌜ x ≡ bufferOf (lookup handle-of handle (resourcesOf live (now (rooms .entry)))) ⌝ }
 {
@@ -58,9 +61,9 @@ fn live_buffer(rooms: &[u64; 640], live: usize, handle: u32) -> Sought
 
 // Hands the range of the destination to the host, to be written.
 fn write_back(
-    entries: &[u64; 256],
+    entries: &Entries,
     n: usize,
-    records: &mut [u64; 320],
+    records: &mut Records,
     made: usize,
     live: usize,
     c: CopyBuffer,
@@ -86,9 +89,9 @@ fn write_back(
 
 // Judges a copy between two live buffers, of which the destination and the bytes of both are known.
 fn copy_between(
-    entries: &[u64; 256],
+    entries: &Entries,
     n: usize,
-    records: &mut [u64; 320],
+    records: &mut Records,
     made: usize,
     live: usize,
     c: CopyBuffer,
@@ -123,11 +126,11 @@ fn copy_between(
 
 // Applies a copy packet, in place.
 pub fn on_copy(
-    entries: &[u64; 256],
+    entries: &Entries,
     n: usize,
-    rooms: &[u64; 640],
+    rooms: &Resources,
     live: usize,
-    records: &mut [u64; 320],
+    records: &mut Records,
     made: usize,
     c: CopyBuffer,
 ) -> Applied

@@ -1,7 +1,10 @@
 // Create: a new resource, host-backed or within an entry of the table; a backed one is handed out as a record.
 // The handle is looked up by one scan, the entry by another; nothing is copied.
 use backing::create;
+use entry_rows::Entries;
 use ranges::applied::Applied;
+use records::Records;
+use rooms::resources::Resources;
 use rules::CreateBuffer;
 use rules::CreateTexture;
 use rules::Kind;
@@ -23,11 +26,11 @@ fn backed_only(backing: u32, x: u32) -> u32
 
 // A new buffer.
 pub fn on_buffer(
-    entries: &[u64; 256],
+    entries: &Entries,
     n: usize,
-    rooms: &mut [u64; 640],
+    rooms: &mut Resources,
     live: usize,
-    records: &mut [u64; 320],
+    records: &mut Records,
     made: usize,
     c: CreateBuffer,
 ) -> Applied
@@ -58,11 +61,11 @@ fn good_texture(c: CreateTexture) -> bool
 
 // A new texture.
 pub fn on_texture(
-    entries: &[u64; 256],
+    entries: &Entries,
     n: usize,
-    rooms: &mut [u64; 640],
+    rooms: &mut Resources,
     live: usize,
-    records: &mut [u64; 320],
+    records: &mut Records,
     made: usize,
     c: CreateTexture,
 ) -> Applied

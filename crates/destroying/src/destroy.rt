@@ -3,6 +3,7 @@
 use placing::storing::remove_resource;
 use ranges::applied::Applied;
 use ranges::applied::refuse;
+use rooms::resources::Resources;
 use rooms::resources::find_resource;
 use rules::DestroyResource;
 use rules::Verdict;
@@ -12,7 +13,7 @@ ghost use Rattle.rules.specs.Numbers.{most};
 ghost use Rattle.destroying.specs.Destroy.{Destroys};
 
 // Applies a destroy packet, in place.
-pub fn on_destroy(rooms: &mut [u64; 640], live: usize, made: usize, c: DestroyResource) -> Applied
+pub fn on_destroy(rooms: &mut Resources, live: usize, made: usize, c: DestroyResource) -> Applied
     requires { ⌜ (live ≤ most) × (made ≤ most) ⌝ }
     ensures { λ r. ⌜ Destroys c live made (now (rooms .entry)) r (now (rooms .exit)) ⌝ }
 {

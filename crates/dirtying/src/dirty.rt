@@ -1,4 +1,5 @@
 // The dirty packet: a range of a backed resource that the host is to read again.
+use entry_rows::Entries;
 use ranges::applied::Applied;
 use ranges::applied::refuse;
 use ranges::bytes::resource_bytes;
@@ -6,6 +7,8 @@ use ranges::handout::Resolved;
 use ranges::handout::beyond;
 use ranges::handout::hand_out;
 use ranges::handout::resolve;
+use records::Records;
+use rooms::resources::Resources;
 use rooms::resources::find_resource;
 use rooms::resources::resource_row;
 use rules::DirtyRange;
@@ -22,11 +25,11 @@ ghost use Rattle.ranges.specs.Views.{Applies, Room};
 
 // Applies a dirty packet, in place. The entry is this submission's, whatever table the resource was created with.
 pub fn on_dirty(
-    entries: &[u64; 256],
+    entries: &Entries,
     n: usize,
-    rooms: &[u64; 640],
+    rooms: &Resources,
     live: usize,
-    records: &mut [u64; 320],
+    records: &mut Records,
     made: usize,
     c: DirtyRange,
 ) -> Applied

@@ -10,6 +10,9 @@ ghost use Rattle.rules.specs.Table.{entry-id};
 ghost use Rattle.rows.specs.Rows.{rowAt};
 ghost use Rattle.entry_rows.specs.Views.{RowRead, entriesOf};
 
+// A table of entries, 64 rows.
+pub type Entries = [u64; 256];
+
 // The words of a kept entry.
 pub const WORDS: usize = 4;
 
@@ -21,7 +24,7 @@ fn up_to(from: u64, to: u64) -> u64
 }
 
 // The kept entry of row i. Its range ends below 2^64, whatever words stand there.
-pub fn entry_row(kept: &[u64; 256], i: usize) -> Entry
+pub fn entry_row(kept: &Entries, i: usize) -> Entry
     requires { ⌜ i < most ⌝ }
     ensures { λ r. ⌜ RowRead (rowAt 4 (now (kept .entry)) i) r ⌝ }
 {
@@ -36,7 +39,7 @@ pub fn entry_row(kept: &[u64; 256], i: usize) -> Entry
 }
 
 // The place of the kept entry that has an id, or `n`.
-pub fn find_entry(kept: &[u64; 256], n: usize, id: u32) -> usize
+pub fn find_entry(kept: &Entries, n: usize, id: u32) -> usize
     requires { ⌜ n ≤ most ⌝ }
     ensures { λ r. ⌜ r ≡ indexOf entry-id id (entriesOf n (now (kept .entry))) ⌝ }
 {

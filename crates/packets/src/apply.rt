@@ -4,7 +4,10 @@ use creating::create::on_buffer;
 use creating::create::on_texture;
 use destroying::destroy::on_destroy;
 use dirtying::dirty::on_dirty;
+use entry_rows::Entries;
 use ranges::applied::Applied;
+use records::Records;
+use rooms::resources::Resources;
 use rules::Packet;
 use rules::Verdict;
 ghost use Rattle.rules.specs.Packets.{apply};
@@ -14,11 +17,11 @@ ghost use Rattle.ranges.specs.Views.{Applies, Room};
 
 // What a packet does to the resources and records that a submission holds, by the entries of its table.
 pub fn apply_packet(
-    entries: &[u64; 256],
+    entries: &Entries,
     n: usize,
-    rooms: &mut [u64; 640],
+    rooms: &mut Resources,
     live: usize,
-    records: &mut [u64; 320],
+    records: &mut Records,
     made: usize,
     p: Packet,
 ) -> Applied

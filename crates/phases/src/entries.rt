@@ -1,6 +1,7 @@
 // The phase of entries: one a unit, each over the memory lent at that unit.
 use crate::ending::Ending;
 use crate::ending::goes;
+use entry_rows::Entries;
 use rules::Table;
 use rules::Verdict;
 ghost use mathlib.Core.Path.{_≡_};
@@ -26,7 +27,7 @@ fn size(x: u32) -> usize
 }
 
 // One unit: the entry after those that are kept.
-fn step_entry(mem: &[u8], t: Table, kept: &mut [u64; 256], p: EntriesPlace) -> EntriesPlace
+fn step_entry(mem: &[u8], t: Table, kept: &mut Entries, p: EntriesPlace) -> EntriesPlace
     requires { ⌜ p .n ≤ most ⌝ }
     ensures { λ r. ⌜ EntryStepped (now (mem .entry)) t p (now (kept .entry)) r (now (kept .exit)) ⌝ }
 {
@@ -57,7 +58,7 @@ fn step_entry(mem: &[u8], t: Table, kept: &mut [u64; 256], p: EntriesPlace) -> E
 pub fn read_entries(
     mem: &[u8],
     t: Table,
-    kept: &mut [u64; 256],
+    kept: &mut Entries,
     n: usize,
     allowance: u16,
 ) -> EntriesRun

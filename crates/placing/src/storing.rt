@@ -1,5 +1,6 @@
 // Resources stored, removed and copied, each a row of ten words.
 use rooms::resources::BUFFER;
+use rooms::resources::Resources;
 use rooms::resources::WORDS;
 use rules::Kind;
 use rules::Resource;
@@ -47,7 +48,7 @@ fn flat(kind: Kind) -> FlatKind
 }
 
 // One resource more, after `n` others.
-pub fn push_resource(rooms: &mut [u64; 640], n: usize, r: Resource)
+pub fn push_resource(rooms: &mut Resources, n: usize, r: Resource)
     requires { ⌜ n < most ⌝ }
     ensures { λ _. ⌜ resourcesOf (n + 1) (now (rooms .exit)) ≡ pushed (resourcesOf n (now (rooms .entry))) r ⌝ }
 {
@@ -68,7 +69,7 @@ pub fn push_resource(rooms: &mut [u64; 640], n: usize, r: Resource)
 }
 
 // The resource of row i is gone: the last of `n` takes its place.
-pub fn remove_resource(rooms: &mut [u64; 640], n: usize, i: usize)
+pub fn remove_resource(rooms: &mut Resources, n: usize, i: usize)
     requires { ⌜ (n ≤ most) × (i < n) ⌝ }
     ensures { λ _. ⌜ resourcesOf (n - 1) (now (rooms .exit)) ≡ removed i (resourcesOf n (now (rooms .entry))) ⌝ }
 {
@@ -76,7 +77,7 @@ pub fn remove_resource(rooms: &mut [u64; 640], n: usize, i: usize)
 }
 
 // The first `n` resources of one table over another's.
-pub fn copy_resources(from: &[u64; 640], to: &mut [u64; 640], n: usize)
+pub fn copy_resources(from: &Resources, to: &mut Resources, n: usize)
     requires { ⌜ n ≤ most ⌝ }
     ensures { λ _. ⌜ resourcesOf n (now (to .exit)) ≡ resourcesOf n (now (from .entry)) ⌝ }
 {

@@ -1,8 +1,11 @@
 // The phase of packets: one a unit, from the stream's own part of the memory lent at that unit.
+use entry_rows::Entries;
 use packets::apply::apply_packet;
 use phases::ending::Ending;
 use phases::ending::goes;
 use ranges::applied::Applied;
+use records::Records;
+use rooms::resources::Resources;
 use rules::Frame;
 use rules::Verdict;
 use stream::framing::frame_at;
@@ -61,10 +64,10 @@ fn place_after(at: usize, next: usize, end: usize, a: Applied) -> PacketsPlace
 fn step_packet(
     stream: &[u8],
     end: usize,
-    entries: &[u64; 256],
+    entries: &Entries,
     n: usize,
-    rooms: &mut [u64; 640],
-    records: &mut [u64; 320],
+    rooms: &mut Resources,
+    records: &mut Records,
     p: PacketsPlace,
 ) -> PacketsPlace
     requires { ⌜ Room n (p .live) (p .made) ⌝ }
@@ -90,10 +93,10 @@ fn step_packet(
 pub fn read_packets(
     stream: &[u8],
     end: usize,
-    entries: &[u64; 256],
+    entries: &Entries,
     n: usize,
-    rooms: &mut [u64; 640],
-    records: &mut [u64; 320],
+    rooms: &mut Resources,
+    records: &mut Records,
     from: PacketsPlace,
     allowance: u16,
 ) -> PacketsRun

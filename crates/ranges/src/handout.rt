@@ -2,8 +2,10 @@
 // Dirty ranges and copies share these checks; sums are those of plain numbers and never wrap.
 use crate::applied::Applied;
 use crate::applied::refuse;
+use entry_rows::Entries;
 use entry_rows::entry_row;
 use entry_rows::find_entry;
+use records::Records;
 use records::push_record;
 use rules::Record;
 use rules::Resource;
@@ -51,7 +53,7 @@ fn beyond_entry(offset: u64, from: u64, size: u64, bytes: u64) -> bool
 
 // Holds a range of a backed resource against the entry that this table has for it: the backing offset is added.
 pub fn resolve(
-    entries: &[u64; 256],
+    entries: &Entries,
     n: usize,
     kind: u32,
     r: Resource,
@@ -81,7 +83,7 @@ pub fn resolve(
 }
 
 // Hands a range to the host, if it has bytes: one record more, for which there must be room.
-pub fn hand_out(records: &mut [u64; 320], made: usize, live: usize, c: Record) -> Applied
+pub fn hand_out(records: &mut Records, made: usize, live: usize, c: Record) -> Applied
     requires { ⌜ (live ≤ most) × (made ≤ most) ⌝ }
     ensures { λ r. ⌜ Hands (hand-out c) live made (now (records .entry)) r (now (records .exit)) ⌝ }
 {

@@ -8,11 +8,14 @@ ghost use Rattle.rules.specs.Lists.{pushed};
 ghost use Rattle.rows.specs.Rows.{rowAt};
 ghost use Rattle.rooms.specs.Views.{recordOf, recordsOf};
 
+// A table of records, 64 rows.
+pub type Records = [u64; 320];
+
 // The words of a record.
 pub const WORDS: usize = 5;
 
 // The record of row i.
-pub fn record_row(records: &[u64; 320], i: usize) -> Record
+pub fn record_row(records: &Records, i: usize) -> Record
     requires { ⌜ i < most ⌝ }
     ensures { λ r. ⌜ r ≡ recordOf (rowAt 5 (now (records .entry)) i) ⌝ }
 {
@@ -27,7 +30,7 @@ pub fn record_row(records: &[u64; 320], i: usize) -> Record
 }
 
 // One record more, after `n` others.
-pub fn push_record(records: &mut [u64; 320], n: usize, c: Record)
+pub fn push_record(records: &mut Records, n: usize, c: Record)
     requires { ⌜ n < most ⌝ }
     ensures { λ _. ⌜ recordsOf (n + 1) (now (records .exit)) ≡ pushed (recordsOf n (now (records .entry))) c ⌝ }
 {

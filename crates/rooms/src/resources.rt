@@ -11,13 +11,16 @@ ghost use Rattle.rules.specs.Packets.{handle-of};
 ghost use Rattle.rows.specs.Rows.{rowAt};
 ghost use Rattle.rooms.specs.Views.{resourceOf, resourcesOf, kindIn};
 
+// A table of resources, 64 rows.
+pub type Resources = [u64; 640];
+
 // The words of a resource.
 pub const WORDS: usize = 10;
 
 pub const BUFFER: u64 = 0;
 
 // What the resource of a row is.
-fn kind_at(rooms: &[u64; 640], b: usize) -> Kind
+fn kind_at(rooms: &Resources, b: usize) -> Kind
     requires { ⌜ b + 10 ≤ 640 ⌝ }
     ensures { λ r. ⌜ r ≡ kindIn (now (rooms .entry)) b ⌝ }
 {
@@ -36,7 +39,7 @@ fn kind_at(rooms: &[u64; 640], b: usize) -> Kind
 }
 
 // The resource of row i.
-pub fn resource_row(rooms: &[u64; 640], i: usize) -> Resource
+pub fn resource_row(rooms: &Resources, i: usize) -> Resource
     requires { ⌜ i < most ⌝ }
     ensures { λ r. ⌜ r ≡ resourceOf (rowAt 10 (now (rooms .entry)) i) ⌝ }
 {
@@ -52,7 +55,7 @@ pub fn resource_row(rooms: &[u64; 640], i: usize) -> Resource
 }
 
 // The place of the live resource that has a handle, or `n`.
-pub fn find_resource(rooms: &[u64; 640], n: usize, handle: u32) -> usize
+pub fn find_resource(rooms: &Resources, n: usize, handle: u32) -> usize
     requires { ⌜ n ≤ most ⌝ }
     ensures { λ r. ⌜ r ≡ indexOf handle-of handle (resourcesOf n (now (rooms .entry))) ⌝ }
 {

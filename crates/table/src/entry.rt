@@ -1,5 +1,6 @@
 // One entry of a table: read once, judged, and kept as a row of four words: id, flags, gpa, end.
 // The kept rows are what later packets resolve their ids against.
+use entry_rows::Entries;
 use entry_rows::WORDS;
 use entry_rows::entry_at;
 use entry_rows::find_entry;
@@ -42,7 +43,7 @@ pub fn sound(memory: u64, e: Entry) -> bool
 }
 
 // Judges an entry that was read, after `n` that were kept.
-pub fn judge_entry(memory: u64, e: Entry, kept: &[u64; 256], n: usize) -> Verdict
+pub fn judge_entry(memory: u64, e: Entry, kept: &Entries, n: usize) -> Verdict
     requires { ⌜ n ≤ most ⌝ }
     ensures { λ r. ⌜ r ≡ entry-rules memory (entriesOf n (now (kept .entry))) e ⌝ }
 {
@@ -59,7 +60,7 @@ pub fn judge_entry(memory: u64, e: Entry, kept: &[u64; 256], n: usize) -> Verdic
 }
 
 // Keeps an entry after `n` others.
-fn push_entry(kept: &mut [u64; 256], n: usize, e: Entry)
+fn push_entry(kept: &mut Entries, n: usize, e: Entry)
     requires { ⌜ (n < most) × (e .gpa + e .size < 18446744073709551616) ⌝ }
     ensures { λ _. ⌜ entriesOf (n + 1) (now (kept .exit)) ≡ pushed (entriesOf n (now (kept .entry))) e ⌝ }
 {
@@ -73,7 +74,7 @@ fn push_entry(kept: &mut [u64; 256], n: usize, e: Entry)
 }
 
 // One step: judges the entry after the `n` kept ones, over the memory lent at this step, and keeps it if it is fine.
-pub fn take_entry(mem: &[u8], t: Table, kept: &mut [u64; 256], n: usize) -> Verdict
+pub fn take_entry(mem: &[u8], t: Table, kept: &mut Entries, n: usize) -> Verdict
     requires { ⌜ n ≤ most ⌝ }
     ensures { λ r. ⌜ takenOf r n (now (kept .exit)) ≡ take-entry (now (mem .entry)) t (entriesOf n (now (kept .entry))) ⌝ }
 {
