@@ -1,0 +1,93 @@
+-- What the reading of a device's words asks. Assumes nothing.
+use mathlib.Core.Path.{_≡_, refl, sym, _∙_}
+use mathlib.Core.Bool.{Bool, true, false, not}
+use mathlib.Core.List.{List}
+use Prim.Native.Nat.{ℕ, _≤_, _<_}
+use native.Mathlib.Omega.{arith}
+use native.Mathlib.Nat.{mod-eq-of-lt}
+use borrow.Author.Needs.{needs}
+use borrow.Author.Tests.{eq-eqb, ne-eqb, lt-ltb, le-ltb, ltb-false}
+use lib.Dec.{eqb, ltb}
+use lib.ListN.{getD}
+use Rattle.machine.specs.Machine.{pick}
+use Rattle.rules.specs.Numbers.{most}
+use Rattle.rules.specs.declared.Registers.{Registers}
+use Rattle.rules.specs.declared.Job.{Job}
+use Rattle.rules.specs.declared.Table.{Table}
+use Rattle.rules.specs.declared.Stream.{Stream}
+use Rattle.run_state.specs.Views.{setIn, flagOf, smallIn, countIn, registersIn, jobIn, tableIn, streamIn}
+
+-- ---- one word
+
+pub unset : (x : ℕ) → x ≡ 0 → setIn x ≡ false
+unset x h = rw (eq-eqb x 0 h)
+
+pub is-set : (x : ℕ) → (x ≡ 0 → ⊥) → setIn x ≡ true
+is-set x h = rw (ne-eqb x 0 h)
+
+pub set-test : (x : ℕ) (b : Bool) → b ≡ not (eqb x 0) → b ≡ setIn x
+set-test x b p = p ∙ by (eqb x 0)
+  where
+    by : (v : Bool) → not v ≡ pick v false true
+    by true = refl
+    by false = refl
+
+pub flagged : (b : Bool) → b ≡ true → 1 ≡ flagOf b
+flagged b e = rw e
+
+pub unflagged : (b : Bool) → b ≡ false → 0 ≡ flagOf b
+unflagged b e = rw e
+
+-- a flag that was stored is read
+pub flag-as : (n : ℕ) (b : Bool) → n ≡ flagOf b → setIn n ≡ b
+flag-as n b p = rw p (by b)
+  where
+    by : (v : Bool) → setIn (flagOf v) ≡ v
+    by true = refl
+    by false = refl
+
+-- and so is a number of four bytes
+pub small-as : (x y : ℕ) → (x ≡ y) × (x < 4294967296) → smallIn x ≡ y
+small-as x y p = mod-eq-of-lt (p .1) ∙ p .0
+
+pub many : (x : ℕ) → 64 < x → (64 ≡ countIn x) × (64 ≤ most)
+unfolding countIn
+many x h = (rw (lt-ltb most x h), omega arith)
+
+pub few : (x : ℕ) → x ≤ 64 → (x ≡ countIn x) × (x ≤ most)
+unfolding countIn
+few x h = (rw (le-ltb most x h), h)
+
+pub ruleset reading-word = (unset, is-set, set-test, flagged, unflagged, many, few, needs)
+
+-- a count that was stored is read
+pub count-as : (x n : ℕ) → (x ≡ n) × (x < 18446744073709551616) → n ≤ most → countIn x ≡ n
+count-as x n p h = sym (few x (omega arith) .0) ∙ p .0
+
+pub count-low : (x : ℕ) → countIn x ≤ most
+unfolding countIn
+count-low x = by-test (ltb most x) refl
+  where
+    by-test : (v : Bool) → ltb most x ≡ v → pick v most x ≤ most
+    by-test true h = omega arith
+    by-test false h = ltb-false most x h
+
+-- ---- some words
+
+pub registers-are : (s : List ℕ) (size irq code errors : ℕ) (enabled fenced failed rung : Bool)
+    → size ≡ smallIn (getD s 2 0) → enabled ≡ setIn (getD s 3 0) → fenced ≡ setIn (getD s 6 0) → failed ≡ setIn (getD s 7 0) → irq ≡ smallIn (getD s 8 0) → code ≡ smallIn (getD s 9 0) → errors ≡ smallIn (getD s 11 0) → rung ≡ setIn (getD s 12 0)
+    → _≡_ {A = Registers} (record { ring = getD s 1 0; ringsize = size; enabled = enabled; page = getD s 4 0; completed = getD s 5 0; fenced = fenced; failed = failed; irqenable = irq; code = code; fence = getD s 10 0; errors = errors; rung = rung }) (registersIn s)
+registers-are s size irq code errors enabled fenced failed rung a b c d e f g h = rw (a, b, c, d, e, f, g, h)
+
+pub job-is : (s : List ℕ) (head : ℕ) (silent : Bool) → head ≡ smallIn (getD s 15 0) → silent ≡ setIn (getD s 17 0)
+    → _≡_ {A = Job} (record { ring = getD s 14 0; head = head; signal = getD s 16 0; silent = silent }) (jobIn s)
+job-is s head silent a b = rw (a, b)
+
+pub table-is : (s : List ℕ) (count stride : ℕ) → count ≡ smallIn (getD s 19 0) → stride ≡ smallIn (getD s 20 0)
+    → _≡_ {A = Table} (record { gpa = getD s 18 0; count = count; stride = stride }) (tableIn s)
+table-is s count stride a b = rw (a, b)
+
+pub stream-is : (s : List ℕ) (size : ℕ) → size ≡ smallIn (getD s 22 0) → _≡_ {A = Stream} (record { gpa = getD s 21 0; size = size }) (streamIn s)
+stream-is s size a = rw a
+
+pub ruleset reading = (registers-are, job-is, table-is, stream-is, needs)

@@ -1,0 +1,121 @@
+-- A device's words and tables as the rules' state: word 0 the memory's length, 1 to 12 the registers in the order of `Registers`, 13 the
+-- tag of what is in work, 14 to 23 its numbers, 24 to 27 how many rows of each table are live, 28 which table of resources is the device's,
+-- 29 whether the submission has the other for its own; 30 and 31 say nothing. Any words mean some state.
+use mathlib.Core.Bool.{Bool, true, false}
+use mathlib.Core.List.{List}
+use Prim.Native.Nat.{ℕ, _%_}
+use lib.Dec.{eqb, ltb}
+use lib.ListN.{getD}
+use Rattle.machine.specs.Machine.{pick}
+use Rattle.rules.specs.Numbers.{most}
+use Rattle.rules.specs.Packets.{Holdings}
+use Rattle.rules.specs.State.{Work, World}
+use Rattle.rules.specs.State.Work.{resting, entries, packets, waiting}
+use Rattle.rules.specs.declared.Registers.{Registers}
+use Rattle.rules.specs.declared.Entry.{Entry}
+use Rattle.rules.specs.declared.Resource.{Resource}
+use Rattle.rules.specs.declared.Job.{Job}
+use Rattle.rules.specs.declared.Table.{Table}
+use Rattle.rules.specs.declared.Stream.{Stream}
+use Rattle.rules.specs.declared.Opened.{Opened}
+use Rattle.entry_rows.specs.Views.{entriesOf}
+use Rattle.rooms.specs.Views.{resourcesOf, holdingsOf}
+
+-- ---- one word
+
+abbrev pub setIn : ℕ → Bool
+setIn x = pick (eqb x 0) false true
+
+abbrev pub flagOf : Bool → ℕ
+flagOf b = pick b 1 0
+
+abbrev pub smallIn : ℕ → ℕ
+smallIn x = x % 4294967296
+
+-- a count above the rows that there are means all of them
+unfoldable pub countIn : ℕ → ℕ
+countIn x = pick (ltb most x) most x
+
+-- ---- some words
+
+abbrev pub registersIn : List ℕ → Registers
+registersIn s =
+    record {
+      ring = getD s 1 0;
+      ringsize = smallIn (getD s 2 0);
+      enabled = setIn (getD s 3 0);
+      page = getD s 4 0;
+      completed = getD s 5 0;
+      fenced = setIn (getD s 6 0);
+      failed = setIn (getD s 7 0);
+      irqenable = smallIn (getD s 8 0);
+      code = smallIn (getD s 9 0);
+      fence = getD s 10 0;
+      errors = smallIn (getD s 11 0);
+      rung = setIn (getD s 12 0);
+    }
+
+abbrev pub tagIn : List ℕ → ℕ
+tagIn s = getD s 13 0
+
+abbrev pub jobIn : List ℕ → Job
+jobIn s = record { ring = getD s 14 0; head = smallIn (getD s 15 0); signal = getD s 16 0; silent = setIn (getD s 17 0) }
+
+abbrev pub tableIn : List ℕ → Table
+tableIn s = record { gpa = getD s 18 0; count = smallIn (getD s 19 0); stride = smallIn (getD s 20 0) }
+
+abbrev pub streamIn : List ℕ → Stream
+streamIn s = record { gpa = getD s 21 0; size = smallIn (getD s 22 0) }
+
+abbrev pub openedIn : List ℕ → Opened
+openedIn s = record { job = jobIn s; table = tableIn s; stream = streamIn s }
+
+abbrev pub placeIn : List ℕ → ℕ
+placeIn s = getD s 23 0
+
+-- ---- words with the rows of tables
+
+abbrev pub keptIn : List ℕ → List ℕ → List Entry
+keptIn s e = entriesOf (countIn (getD s 24 0)) e
+
+-- the device's resources, by the rows of its table
+abbrev pub resourcesIn : List ℕ → List ℕ → List Resource
+resourcesIn s r = resourcesOf (countIn (getD s 25 0)) r
+
+-- what the submission holds: its resources are rows of the device's table until it has its own
+abbrev pub heldIn : List ℕ → List ℕ → List ℕ → List ℕ → Holdings
+heldIn s r h c = holdingsOf (countIn (getD s 26 0)) (pick (setIn (getD s 29 0)) h r) (countIn (getD s 27 0)) c
+
+-- what is in work, by its tag: none 0, entries 1, packets 2; any other waits for the host
+abbrev pub workIn : List ℕ → List ℕ → List ℕ → List ℕ → List ℕ → Work
+workIn s e r h c =
+    pick (eqb (tagIn s) 0) resting
+    (pick (eqb (tagIn s) 1) (entries (openedIn s) (keptIn s e))
+    (pick (eqb (tagIn s) 2) (packets (jobIn s) (streamIn s) (placeIn s) (keptIn s e) (heldIn s r h c))
+    (waiting (jobIn s) (keptIn s e) (heldIn s r h c))))
+
+-- words, the rows of entries, of the device's resources, of the submission's own, of records; and the memory
+unfoldable pub worldIn : List ℕ → List ℕ → List ℕ → List ℕ → List ℕ → List ℕ → World
+worldIn s e r h c m =
+    record {
+      state = record { memory = getD s 0 0; regs = registersIn s; resources = resourcesIn s r; work = workIn s e r h c };
+      mem = m;
+    }
+
+-- the same with nothing in work
+abbrev pub bareIn : List ℕ → List ℕ → List ℕ → World
+bareIn s r m =
+    record {
+      state = record { memory = getD s 0 0; regs = registersIn s; resources = resourcesIn s r; work = resting };
+      mem = m;
+    }
+
+-- ---- the two tables of resources, as a host lends them
+
+-- which of them is the device's: the second, where this is set
+abbrev pub sideIn : List ℕ → Bool
+sideIn s = setIn (getD s 28 0)
+
+-- words, entries, the first and the second table of resources, records; and the memory
+abbrev pub deskIn : List ℕ → List ℕ → List ℕ → List ℕ → List ℕ → List ℕ → World
+deskIn s e a b c m = worldIn s e (pick (sideIn s) b a) (pick (sideIn s) a b) c m

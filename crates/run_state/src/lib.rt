@@ -1,0 +1,167 @@
+// The words of a device: what each means, and how it is read. They are the ones that a host can lend; any words mean some device, so
+// nothing is ever asked of them. What changes is set in place by the crates above.
+use rules::Job;
+use rules::Registers;
+use rules::Stream;
+use rules::Table;
+use words::low32;
+ghost use mathlib.Core.Path.{_≡_};
+ghost use Prim.Native.Nat.{_≤_};
+ghost use Rattle.rules.specs.Numbers.{most};
+ghost use Rattle.run_state.specs.Views.{setIn, flagOf, countIn, registersIn, jobIn, tableIn, streamIn};
+
+// A device's words: its memory's length, its registers, what is in work, how many rows of each table are live, and which of the two
+// tables of resources is the device's.
+pub type Words = [u64; 32];
+
+pub const MEMORY: usize = 0;
+
+pub const RING: usize = 1;
+
+pub const RING_SIZE: usize = 2;
+
+pub const ENABLED: usize = 3;
+
+pub const PAGE: usize = 4;
+
+pub const COMPLETED: usize = 5;
+
+// The two bits of the IRQ status.
+pub const FENCED: usize = 6;
+
+pub const FAILED: usize = 7;
+
+pub const IRQ_ENABLE: usize = 8;
+
+pub const ERROR_CODE: usize = 9;
+
+pub const ERROR_FENCE: usize = 10;
+
+pub const ERROR_COUNT: usize = 11;
+
+pub const DOORBELL: usize = 12;
+
+// What is in work: nothing, entries, packets; any other number waits for the host.
+pub const TAG: usize = 13;
+
+pub const NOTHING: u64 = 0;
+
+pub const ENTRIES: u64 = 1;
+
+pub const PACKETS: u64 = 2;
+
+pub const WAITING: u64 = 3;
+
+// What settling needs of the submission in work.
+pub const JOB_RING: usize = 14;
+
+pub const JOB_HEAD: usize = 15;
+
+pub const JOB_SIGNAL: usize = 16;
+
+pub const JOB_SILENT: usize = 17;
+
+// The numbers kept of its table and of its stream, and the place in the stream.
+pub const TABLE_GPA: usize = 18;
+
+pub const TABLE_COUNT: usize = 19;
+
+pub const TABLE_STRIDE: usize = 20;
+
+pub const STREAM_GPA: usize = 21;
+
+pub const STREAM_SIZE: usize = 22;
+
+pub const PLACE: usize = 23;
+
+// How many rows are live: of the entries kept, the device's resources, the submission's, and its records.
+pub const KEPT: usize = 24;
+
+pub const LIVE: usize = 25;
+
+pub const HELD: usize = 26;
+
+pub const MADE: usize = 27;
+
+// Which table of resources is the device's: 0 the first, else the second.
+pub const SIDE: usize = 28;
+
+// Whether the submission in work has changed its resources, and so has the other table for its own.
+pub const OWN: usize = 29;
+
+// A flag as a word says it: any word but 0 is set.
+pub fn is_set(word: u64) -> bool
+    ensures { λ r. ⌜ r ≡ setIn word ⌝ }
+{
+    word != 0
+}
+
+// A flag as a word.
+pub fn flag(b: bool) -> u64
+    ensures { λ r. ⌜ r ≡ flagOf b ⌝ }
+{
+    if b { 1 } else { 0 }
+}
+
+// How many rows a word says; a count above 64 is 64.
+pub fn rows_in(word: u64) -> usize
+    ensures { λ r. ⌜ (r ≡ countIn word) × (r ≤ most) ⌝ }
+{
+    if 64 < word {
+        return 64;
+    }
+    word as usize
+}
+
+// The registers that stand in the words.
+pub fn registers_in(words: &Words) -> Registers
+    ensures { λ r. ⌜ r ≡ registersIn (now (words .entry)) ⌝ }
+{
+    Registers {
+        ring: words[RING],
+        ringsize: low32(words[RING_SIZE]),
+        enabled: is_set(words[ENABLED]),
+        page: words[PAGE],
+        completed: words[COMPLETED],
+        fenced: is_set(words[FENCED]),
+        failed: is_set(words[FAILED]),
+        irqenable: low32(words[IRQ_ENABLE]),
+        code: low32(words[ERROR_CODE]),
+        fence: words[ERROR_FENCE],
+        errors: low32(words[ERROR_COUNT]),
+        rung: is_set(words[DOORBELL]),
+    }
+}
+
+// What settling needs of the submission in work.
+pub fn job_in(words: &Words) -> Job
+    ensures { λ r. ⌜ r ≡ jobIn (now (words .entry)) ⌝ }
+{
+    Job {
+        ring: words[JOB_RING],
+        head: low32(words[JOB_HEAD]),
+        signal: words[JOB_SIGNAL],
+        silent: is_set(words[JOB_SILENT]),
+    }
+}
+
+// The numbers kept of its table.
+pub fn table_in(words: &Words) -> Table
+    ensures { λ r. ⌜ r ≡ tableIn (now (words .entry)) ⌝ }
+{
+    Table {
+        gpa: words[TABLE_GPA],
+        count: low32(words[TABLE_COUNT]),
+        stride: low32(words[TABLE_STRIDE]),
+    }
+}
+
+// The numbers kept of its stream.
+pub fn stream_in(words: &Words) -> Stream
+    ensures { λ r. ⌜ r ≡ streamIn (now (words .entry)) ⌝ }
+{
+    Stream {
+        gpa: words[STREAM_GPA],
+        size: low32(words[STREAM_SIZE]),
+    }
+}
