@@ -13,11 +13,10 @@ use Rattle.rules.specs.Numbers.{page-magic, version}
 use Rattle.rules.specs.Bytes.{bytesOf}
 use Rattle.rules.specs.Lists.{over}
 use Rattle.rules.specs.Layouts.{head-offset, page-bytes}
-use Rattle.rules.specs.Settle.{ended-by, written, next-head, head-written, page-written, marked}
+use Rattle.rules.specs.Settle.{written, next-head, head-written, page-written, marked}
 use Rattle.rules.specs.declared.Registers.{Registers}
 use Rattle.rules.specs.declared.Job.{Job}
-use Rattle.rules.specs.declared.Verdict.{Verdict}
-use Rattle.settle.specs.Settling.{Settled, head-size, head-end, page-size}
+use Rattle.settle.specs.Settling.{head-size, head-end, page-size, page-put}
 
 -- ---- put_page
 
@@ -81,35 +80,36 @@ module _ (j : Job) (m : List ℕ) (ring : ℕ) (same : ring ≡ j .ring) where
       put-part head-size at end next m last (omega arith) (omega arith) l
       ∙ rw (n, there) (sym (written-within (j .ring + head-offset) (bytesOf head-size (next-head (j .head))) m (rw length-bytesOf (omega arith))))
 
-module _ (r : Registers) (m : List ℕ) (page : ℕ) (same : page ≡ r .page) where
-  pub page-none : page ≡ 0 → m ≡ page-written r m
-  unfolding page-written
-  page-none z = rw (eq-eqb (r .page) 0 (omega arith))
+module _ (gpa completed : ℕ) (m : List ℕ) (page : ℕ) (same : page ≡ gpa) where
+  pub page-none : page ≡ 0 → m ≡ page-put gpa completed m
+  page-none z = rw (eq-eqb gpa 0 (omega arith))
 
   module _ (some : page ≡ 0 → ⊥) where
-    there : page-written r m ≡ written (r .page) (page-bytes (r .completed)) m
-    unfolding page-written
-    there = rw (ne-eqb (r .page) 0 (λ z. some (same ∙ z)))
+    there : page-put gpa completed m ≡ written gpa (page-bytes completed) m
+    there = rw (ne-eqb gpa 0 (λ z. some (same ∙ z)))
 
-    pub page-short : length m < page-size → m ≡ page-written r m
-    page-short h = sym (there ∙ written-past (r .page) (page-bytes (r .completed)) m (rw length-page-bytes (omega arith)))
+    pub page-short : length m < page-size → m ≡ page-put gpa completed m
+    page-short h = sym (there ∙ written-past gpa (page-bytes completed) m (rw length-page-bytes (omega arith)))
 
-    pub page-far : page-size ≤ length m → length m - page-size < page → m ≡ page-written r m
-    page-far k h = sym (there ∙ written-past (r .page) (page-bytes (r .completed)) m (rw length-page-bytes (omega arith)))
+    pub page-far : page-size ≤ length m → length m - page-size < page → m ≡ page-put gpa completed m
+    page-far k h = sym (there ∙ written-past gpa (page-bytes completed) m (rw length-page-bytes (omega arith)))
 
     pub page-in : (end : ℕ) (last : List ℕ) → page-size ≤ length m → page ≤ length m - page-size → end ≡ page + page-size
-        → last ≡ over 0 (page-bytes (r .completed)) (take (end - page) (drop page m)) → take page m ++ (last ++ drop (end - page) (drop page m)) ≡ page-written r m
+        → last ≡ over 0 (page-bytes completed) (take (end - page) (drop page m)) → take page m ++ (last ++ drop (end - page) (drop page m)) ≡ page-put gpa completed m
     page-in end last k h e l =
-        part-over page end m last (page-bytes (r .completed)) (rw length-page-bytes e) (omega arith) l
-        ∙ rw same (sym (there ∙ written-within (r .page) (page-bytes (r .completed)) m (rw length-page-bytes (omega arith))))
+        part-over page end m last (page-bytes completed) (rw length-page-bytes e) (omega arith) l
+        ∙ rw same (sym (there ∙ written-within gpa (page-bytes completed) m (rw length-page-bytes (omega arith))))
 
 pub ruleset writing = (page-puts, head-short, head-far, head-in, page-none, page-short, page-far, page-in, needs)
 
--- ---- settle
+-- ---- mark
 
-pub settles : (r : Registers) (m : List ℕ) (j : Job) (v : Verdict) (r′ : Registers) (m₁ m₂ : List ℕ)
-    → r′ ≡ ended-by j v r → m₁ ≡ head-written j m → m₂ ≡ page-written r′ m₁ → Settled r m j v r′ m₂
-unfolding marked
-settles r m j v r′ m₁ m₂ a b c = record { regs = a; mem = rw (← a, ← b) c }
+pub marks : (gpa completed : ℕ) (j : Job) (m m₁ m₂ : List ℕ) → m₁ ≡ head-written j m → m₂ ≡ page-put gpa completed m₁ → m₂ ≡ page-put gpa completed (head-written j m)
+marks gpa completed j m m₁ m₂ b c = c ∙ ap (page-put gpa completed) b
 
-pub ruleset settling = (settles, needs)
+-- and with the numbers of some registers it is what the rules write
+pub marks-as : (r : Registers) (j : Job) (m : List ℕ) → page-put (r .page) (r .completed) (head-written j m) ≡ marked j r m
+unfolding marked page-written
+marks-as r j m = refl
+
+pub ruleset marking = (marks, needs)

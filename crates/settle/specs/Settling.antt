@@ -1,13 +1,10 @@
--- What settling comes to: the contract of `settle`, and the sizes of what it writes.
--- Assumes nothing.
-use mathlib.Core.Path.{_≡_}
+-- What settling writes, and the sizes of it.
 use mathlib.Core.List.{List}
 use Prim.Native.Nat.{ℕ, _+_}
-use Rattle.rules.specs.Layouts.{head-offset}
-use Rattle.rules.specs.Settle.{ended-by, marked}
-use Rattle.rules.specs.declared.Registers.{Registers}
-use Rattle.rules.specs.declared.Job.{Job}
-use Rattle.rules.specs.declared.Verdict.{Verdict}
+use lib.Dec.{eqb}
+use Rattle.machine.specs.Machine.{pick}
+use Rattle.rules.specs.Layouts.{head-offset, page-bytes}
+use Rattle.rules.specs.Settle.{written}
 
 -- "Fence page, 16 bytes"
 abbrev pub page-size : ℕ
@@ -21,7 +18,6 @@ head-size = 4
 abbrev pub head-end : ℕ
 head-end = head-offset + head-size
 
--- registers and memory before, the submission and its verdict, registers and memory after
-pub record Settled (before : Registers) (m : List ℕ) (j : Job) (v : Verdict) (after : Registers) (m′ : List ℕ) : Type 0 where
-  pub regs : after ≡ ended-by j v before
-  pub mem : m′ ≡ marked j (ended-by j v before) m
+-- the page written at an address, with a completed fence: the rules' `page-written` of registers that have these
+abbrev pub page-put : ℕ → ℕ → List ℕ → List ℕ
+page-put page completed m = pick (eqb page 0) m (written page (page-bytes completed) m)

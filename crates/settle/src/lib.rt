@@ -1,19 +1,15 @@
-// How a submission is settled: the registers, the head of its ring and the fence page, in this order.
-// Guest memory is lent, and no more than the head and the page is written.
+// What settling writes to guest memory: the head of the opened ring, then the fence page, and no byte more.
 use rules::Job;
-use rules::Registers;
-use rules::Verdict;
 use rules::numbers::PAGE_MAGIC;
 use rules::numbers::VERSION;
-use signals::ended_by;
 use widths::place;
 ghost use mathlib.Core.Path.{_≡_};
 ghost use Prim.Native.Nat.{_≤_};
 ghost use lib.ListN.{length};
 ghost use Rattle.rules.specs.Lists.{over};
 ghost use Rattle.rules.specs.Layouts.{page-bytes};
-ghost use Rattle.rules.specs.Settle.{head-written, page-written};
-ghost use Rattle.settle.specs.Settling.{Settled, page-size};
+ghost use Rattle.rules.specs.Settle.{head-written};
+ghost use Rattle.settle.specs.Settling.{page-size, page-put};
 
 // Where the head stands in a ring's header, and where it ends.
 const HEAD_OFFSET: usize = 24;
@@ -51,11 +47,11 @@ pub fn write_head(mem: &mut [u8], job: Job)
 }
 
 // Writes the fence page; at 0, and where it does not lie within memory, nothing is written.
-pub fn write_page(mem: &mut [u8], regs: Registers)
-    ensures { λ _. ⌜ now (mem .exit) ≡ page-written regs (now (mem .entry)) ⌝ }
+pub fn write_page(mem: &mut [u8], gpa: u64, completed: u64)
+    ensures { λ _. ⌜ now (mem .exit) ≡ page-put gpa completed (now (mem .entry)) ⌝ }
 {
     let size = mem.len();
-    let page = place(regs.page);
+    let page = place(gpa);
     if page == 0 {
         return;
     }
@@ -66,15 +62,13 @@ pub fn write_page(mem: &mut [u8], regs: Registers)
         return;
     }
     let end = page + PAGE_SIZE;
-    put_page(&mut mem[page..end], regs.completed);
+    put_page(&mut mem[page..end], completed);
 }
 
-// Settles a submission with a verdict.
-pub fn settle(regs: Registers, mem: &mut [u8], job: Job, v: Verdict) -> Registers
-    ensures { λ r. ⌜ Settled regs (now (mem .entry)) job v r (now (mem .exit)) ⌝ }
+// The head, then the page, with the completed fence as it now is.
+pub fn mark(mem: &mut [u8], job: Job, gpa: u64, completed: u64)
+    ensures { λ _. ⌜ now (mem .exit) ≡ page-put gpa completed (head-written job (now (mem .entry))) ⌝ }
 {
-    let r = ended_by(regs, job, v);
     write_head(mem, job);
-    write_page(mem, r);
-    r
+    write_page(mem, gpa, completed);
 }

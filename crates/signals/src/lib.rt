@@ -1,64 +1,42 @@
-// What the end of a submission does to the registers: its error, its fence, the IRQ status, in this order. Registers go by value.
-use rules::Job;
-use rules::Registers;
-use rules::Verdict;
+// What the end of a submission makes of the numbers in the registers: the completed fence, its status bit and the count of errors.
 ghost use mathlib.Core.Path.{_≡_};
-ghost use Rattle.rules.specs.Settle.{quieted as quietedOf, faulted as faultedOf, signalled as signalledOf, ended-by};
+ghost use mathlib.Core.Bool.{not, _&&_, _||_};
+ghost use lib.Dec.{ltb};
+ghost use Rattle.rules.specs.Shapes.{larger};
+ghost use Rattle.rules.specs.Settle.{one-more};
 
 // The count of errors stops here.
 const MOST_ERRORS: u32 = 4294967295;
 
-// The registers with the doorbell flag cleared.
-pub fn quieted(regs: Registers) -> Registers
-    ensures { λ r. ⌜ r ≡ quietedOf regs ⌝ }
+// The completed fence after one is signalled: it never falls.
+pub fn completed_after(completed: u64, signal: u64) -> u64
+    ensures { λ r. ⌜ r ≡ larger completed signal ⌝ }
 {
-    let mut r = regs;
-    r.rung = false;
-    r
+    if completed < signal {
+        return signal;
+    }
+    completed
 }
 
-// The registers with an error set.
-pub fn faulted(regs: Registers, code: u32, fence: u64) -> Registers
-    ensures { λ r. ⌜ r ≡ faultedOf code fence regs ⌝ }
+// The fence's status bit after one is signalled: set if the completed fence rose and the submission is not silent.
+pub fn fenced_after(fenced: bool, completed: u64, signal: u64, silent: bool) -> bool
+    ensures { λ r. ⌜ r ≡ (fenced || (ltb completed signal && not silent)) ⌝ }
 {
-    let errors = regs.errors;
-    let mut r = regs;
-    r.failed = true;
-    r.code = code;
-    r.fence = fence;
-    if errors >= MOST_ERRORS {
-        return r;
+    if fenced {
+        return true;
     }
-    r.errors = errors + 1;
-    r
-}
-
-// The registers with a fence signalled: the completed fence never falls, and a silent submission raises no status.
-fn signalled(regs: Registers, fence: u64, silent: bool) -> Registers
-    ensures { λ r. ⌜ r ≡ signalledOf fence silent regs ⌝ }
-{
-    let completed = regs.completed;
-    if completed >= fence {
-        return regs;
-    }
-    let mut r = regs;
-    r.completed = fence;
     if silent {
-        return r;
+        return false;
     }
-    r.fenced = true;
-    r
+    completed < signal
 }
 
-// A submission's last word to the registers: its error, if any, then its fence.
-pub fn ended_by(regs: Registers, job: Job, v: Verdict) -> Registers
-    ensures { λ r. ⌜ r ≡ ended-by job v regs ⌝ }
+// One error more, as far as they are counted.
+pub fn one_more(errors: u32) -> u32
+    ensures { λ r. ⌜ r ≡ one-more errors ⌝ }
 {
-    match v {
-        Verdict::Fine => signalled(regs, job.signal, job.silent),
-        Verdict::Broken(refusal) => {
-            let r = faulted(regs, refusal.code, job.signal);
-            signalled(r, job.signal, job.silent)
-        }
+    if errors >= MOST_ERRORS {
+        return errors;
     }
+    errors + 1
 }

@@ -1,6 +1,6 @@
--- `write_page` meets its contract, by the laws of `writing`. Assumes nothing.
-use borrow.Author.Needs.{needs}
+-- `write_page` meets its contract. Assumes nothing.
 use Rattle.settle.specs.Laws.{writing}
+use borrow.Author.Needs.{needs}
 use Rattle.settle.proofs.write_page.Statement.{statement}
 use Rattle.settle.proofs.write_page.Tie as tie
 

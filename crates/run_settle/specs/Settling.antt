@@ -1,0 +1,103 @@
+-- What the settling of a submission asks: a law for each function, by the words spelled out. Assumes nothing.
+use mathlib.Core.Path.{_≡_, refl, sym, ap, _∙_}
+use mathlib.Core.Bool.{Bool, true, false, not, _&&_, _||_}
+use mathlib.Core.List.{List}
+use Prim.Native.Nat.{ℕ, _<_}
+use borrow.Author.Needs.{needs}
+use borrow.Author.Tests.{eq-eqb, ne-eqb}
+use lib.Dec.{ltb}
+use lib.ListN.{length, getD, set}
+use Rattle.machine.specs.Machine.{pick}
+use Rattle.rules.specs.Shapes.{larger}
+use Rattle.rules.specs.Settle.{one-more, faulted, signalled, ended-by, head-written, marked, settled}
+use Rattle.rules.specs.declared.Job.{Job}
+use Rattle.rules.specs.declared.Refusal.{Refusal}
+use Rattle.rooms.specs.Views.{resourcesOf}
+use Rattle.settle.specs.Settling.{page-put}
+use Rattle.settle.specs.Laws.{marks-as}
+use Rattle.run_state.specs.Views.{setIn, flagOf, smallIn, countIn, registersIn, jobIn, worldIn, bareIn, deskIn}
+use Rattle.run_state.specs.Reading.{small-as}
+use Rattle.run_state.specs.Spelled.{spell}
+use Rattle.run_settle.specs.Views.{signalled-words, Signals, Finishes, Refuses, turnedIf, Accepts}
+
+-- ---- signal
+
+pub signals-words : (s : List ℕ) (silent set′ fenced : Bool) (completed flag : ℕ) → silent ≡ setIn (getD s 17 0) → set′ ≡ setIn (getD s 6 0)
+    → fenced ≡ (set′ || (ltb (getD s 5 0) (getD s 16 0) && not silent)) → completed ≡ larger (getD s 5 0) (getD s 16 0) → flag ≡ flagOf fenced
+    → Signals s (set (set (set s 5 completed) 6 flag) 13 0)
+unfolding signalled-words
+signals-words s silent set′ fenced completed flag a b c d e = record { words = rw (d, e, c, b, a) }
+
+pub ruleset signalling = (signals-words, needs)
+
+-- ---- finish
+
+pub finishes : (s s′ m m′ : List ℕ) (j : Job) → j ≡ jobIn s → Signals s s′ → m′ ≡ page-put (getD s′ 4 0) (getD s′ 5 0) (head-written j m) → Finishes s m s′ m′
+finishes s s′ m m′ j is w p =
+    record {
+      words = w .words;
+      mem = p ∙ (rw (w .words, is) (marks-as (registersIn (signalled-words s)) (jobIn s) m));
+    }
+
+pub ruleset finishing = (finishes, needs)
+
+-- ---- settle_refused
+
+set-flag : (b : Bool) → setIn (flagOf b) ≡ b
+set-flag true = refl
+set-flag false = refl
+
+-- the words with an error set
+abbrev faulted-words : ℕ → ℕ → List ℕ → List ℕ
+faulted-words code errors s = set (set (set (set s 7 1) 9 code) 10 (getD s 16 0)) 11 errors
+
+pub refuses : (s s′ m m′ : List ℕ) (why : Refusal) (code low more errors : ℕ) → length s ≡ 32 → low ≡ smallIn (getD s 11 0) → more ≡ one-more low → (errors ≡ more) × (errors < 4294967296)
+    → (code ≡ why .code) × (code < 4294967296) → Finishes (set (set (set (set s 7 1) 9 code) 10 (getD s 16 0)) 11 errors) m s′ m′ → Refuses s m why s′ m′
+unfolding worldIn settled ended-by signalled faulted signalled-words
+refuses s s′ m m′ why code low more errors long is-low is-more is-errors is-code f =
+    record {
+      world = λ e r h c.
+          rw (f .words, f .mem)
+          (spell (λ w. worldIn (signalled-words (faulted-words code errors w)) e r h c (marked (jobIn (faulted-words code errors w)) (registersIn (signalled-words (faulted-words code errors w))) m)) s long
+          ∙ rw (set-flag (setIn (getD s 6 0) || (ltb (getD s 5 0) (getD s 16 0) && not (setIn (getD s 17 0)))), small-as code (why .code) is-code, small-as errors more is-errors, is-more, is-low));
+      side = rw (f .words) (spell (λ w. getD (signalled-words (faulted-words code errors w)) 28 0) s long);
+    }
+
+pub ruleset refusing = (refuses, needs)
+
+-- ---- settle_accepted
+
+module _ (side own : ℕ) where
+  pub turned-none : own ≡ 0 → setIn side ≡ turnedIf (setIn side) (setIn own)
+  turned-none e = rw (eq-eqb own 0 e)
+
+  pub turned-first : (own ≡ 0 → ⊥) → side ≡ 0 → setIn 1 ≡ turnedIf (setIn side) (setIn own)
+  turned-first n e = rw (ne-eqb own 0 n, eq-eqb side 0 e)
+
+  pub turned-second : (own ≡ 0 → ⊥) → (side ≡ 0 → ⊥) → setIn 0 ≡ turnedIf (setIn side) (setIn own)
+  turned-second n e = rw (ne-eqb own 0 n, ne-eqb side 0 e)
+
+pub ruleset turning = (turned-none, turned-first, turned-second, needs)
+
+-- after the turn the device's rows are those that the submission held
+turned-rows : (side own : Bool) (a b : List ℕ) → pick (turnedIf side own) b a ≡ pick own (pick side a b) (pick side b a)
+turned-rows true true a b = refl
+turned-rows true false a b = refl
+turned-rows false true a b = refl
+turned-rows false false a b = refl
+
+abbrev turned-words : ℕ → List ℕ → List ℕ
+turned-words side s = set (set s 28 side) 25 (getD s 26 0)
+
+pub accepts : (s s′ m m′ : List ℕ) (side : ℕ) → length s ≡ 32 → setIn side ≡ turnedIf (setIn (getD s 28 0)) (setIn (getD s 29 0))
+    → Finishes (set (set s 28 side) 25 (getD s 26 0)) m s′ m′ → Accepts s m s′ m′
+unfolding worldIn settled ended-by signalled signalled-words
+accepts s s′ m m′ side long turned f =
+    record {
+      world = λ e a b c.
+          rw (f .words, f .mem)
+          (spell (λ w. deskIn (signalled-words (turned-words side w)) e a b c (marked (jobIn (turned-words side w)) (registersIn (signalled-words (turned-words side w))) m)) s long
+          ∙ rw (set-flag (setIn (getD s 6 0) || (ltb (getD s 5 0) (getD s 16 0) && not (setIn (getD s 17 0)))), turned, turned-rows (setIn (getD s 28 0)) (setIn (getD s 29 0)) a b));
+    }
+
+pub ruleset accepting = (accepts, needs)

@@ -1,0 +1,91 @@
+// How the submission in work is settled, on the device's words: its error if it has one, its fence, then head and page in guest memory.
+// Nothing is in work afterwards. Resources are not touched: a good answer only says which table of them is the device's from now on.
+use rules::Refusal;
+use run_state::COMPLETED;
+use run_state::ERROR_CODE;
+use run_state::ERROR_COUNT;
+use run_state::ERROR_FENCE;
+use run_state::FAILED;
+use run_state::FENCED;
+use run_state::HELD;
+use run_state::JOB_SIGNAL;
+use run_state::JOB_SILENT;
+use run_state::LIVE;
+use run_state::NOTHING;
+use run_state::OWN;
+use run_state::PAGE;
+use run_state::SIDE;
+use run_state::TAG;
+use run_state::Words;
+use run_state::flag;
+use run_state::is_set;
+use run_state::job_in;
+use settle::mark;
+use signals::completed_after;
+use signals::fenced_after;
+use signals::one_more;
+use widths::wide;
+use words::low32;
+ghost use mathlib.Core.Path.{_≡_};
+ghost use Rattle.run_state.specs.Views.{setIn};
+ghost use Rattle.run_settle.specs.Views.{Signals, turnedIf, Finishes, Refuses, Accepts};
+
+// The fence of the submission in work is signalled, and nothing is in work.
+fn signal(words: &mut Words)
+    ensures { λ _. ⌜ Signals (now (words .entry)) (now (words .exit)) ⌝ }
+{
+    let fence = words[JOB_SIGNAL];
+    let silent = is_set(words[JOB_SILENT]);
+    let before = words[COMPLETED];
+    let fenced = flag(fenced_after(is_set(words[FENCED]), before, fence, silent));
+    let completed = completed_after(before, fence);
+    words[COMPLETED] = completed;
+    words[FENCED] = fenced;
+    words[TAG] = NOTHING;
+}
+
+// The fence, then head and page in guest memory.
+fn finish(words: &mut Words, mem: &mut [u8])
+    ensures { λ _. ⌜ Finishes (now (words .entry)) (now (mem .entry)) (now (words .exit)) (now (mem .exit)) ⌝ }
+{
+    let job = job_in(words);
+    signal(words);
+    mark(mem, job, words[PAGE], words[COMPLETED]);
+}
+
+// Settles the submission in work with an error; the device's resources stay.
+pub fn settle_refused(words: &mut Words, mem: &mut [u8], why: Refusal)
+    ensures { λ _. ⌜ Refuses (now (words .entry)) (now (mem .entry)) why (now (words .exit)) (now (mem .exit)) ⌝ }
+{
+    let errors = wide(one_more(low32(words[ERROR_COUNT])));
+    let code = wide(why.code);
+    let fence = words[JOB_SIGNAL];
+    let all = &words[..];
+    words[FAILED] = 1;
+    words[ERROR_CODE] = code;
+    words[ERROR_FENCE] = fence;
+    words[ERROR_COUNT] = errors;
+    finish(words, mem);
+}
+
+// Which table is the device's after a good answer: the other one, if the submission had it for its own.
+fn turned_if(side: u64, own: u64) -> u64
+    ensures { λ r. ⌜ setIn r ≡ turnedIf (setIn side) (setIn own) ⌝ }
+{
+    if own == 0 {
+        return side;
+    }
+    if side == 0 { 1 } else { 0 }
+}
+
+// Settles the submission in work without an error: its resources become the device's, and none is copied.
+pub fn settle_accepted(words: &mut Words, mem: &mut [u8])
+    ensures { λ _. ⌜ Accepts (now (words .entry)) (now (mem .entry)) (now (words .exit)) (now (mem .exit)) ⌝ }
+{
+    let side = turned_if(words[SIDE], words[OWN]);
+    let held = words[HELD];
+    let all = &words[..];
+    words[SIDE] = side;
+    words[LIVE] = held;
+    finish(words, mem);
+}
