@@ -1,0 +1,66 @@
+-- `begin_packets` meets its contract. Assumes nothing.
+use Rattle.run_begin.specs.Beginning.{beginning}
+use borrow.Author.Needs.{needs}
+use Rattle.run_begin.proofs.begin_packets.Statement.{statement}
+use Rattle.run_begin.proofs.begin_packets.Tie as tie
+
+element-copy-out-live : tie.Need-element-copy-out-live
+element-copy-out-live c = search needs
+
+element-copy-out-low32 : tie.Need-element-copy-out-low32
+element-copy-out-low32 c = search needs
+
+low32-requires : tie.Need-low32-requires
+low32-requires c κs = search needs
+
+long-requires : tie.Need-long-requires
+long-requires c κs = search needs
+
+element-write-words : tie.Need-element-write-words
+element-write-words c = search needs
+
+element-write-words-2 : tie.Need-element-write-words-2
+element-write-words-2 c = search needs
+
+element-write-words-3 : tie.Need-element-write-words-3
+element-write-words-3 c = search needs
+
+element-write-words-4 : tie.Need-element-write-words-4
+element-write-words-4 c = search needs
+
+cast-words : tie.Need-cast-words
+cast-words c = search needs
+
+element-write-words-5 : tie.Need-element-write-words-5
+element-write-words-5 c = search needs
+
+element-write-words-6 : tie.Need-element-write-words-6
+element-write-words-6 c = search needs
+
+returns : tie.Need-returns
+returns c = search beginning
+
+element-write-words-7 : tie.Need-element-write-words-7
+element-write-words-7 c = search needs
+
+returns-2 : tie.Need-returns-2
+returns-2 c = search beginning
+
+pub begin-packets-spec : {M : Type 1} → statement M
+begin-packets-spec =
+    tie.close
+    (tie.spec
+    element-copy-out-live
+    element-copy-out-low32
+    low32-requires
+    long-requires
+    element-write-words
+    element-write-words-2
+    element-write-words-3
+    element-write-words-4
+    cast-words
+    element-write-words-5
+    element-write-words-6
+    returns
+    element-write-words-7
+    returns-2)
