@@ -1,2 +1,2 @@
+pub mod Views
 pub mod Writing
-pub mod Changes

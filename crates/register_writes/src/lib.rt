@@ -1,19 +1,28 @@
-// What a write makes of the registers. Registers go by value; the meaning of each write stands in the rule book.
+// What a write to a register does to a device's words: only those that change are set.
 use registers::HALF;
 use registers::offsets;
-use rules::Registers;
+use rules::numbers::DONE;
+use rules::numbers::NO_REGISTER;
+use run_state::COMPLETED;
+use run_state::DOORBELL;
+use run_state::ENABLED;
+use run_state::FAILED;
+use run_state::FENCED;
+use run_state::IRQ_ENABLE;
+use run_state::LIVE;
+use run_state::NOTHING;
+use run_state::PAGE;
+use run_state::RING;
+use run_state::RING_SIZE;
+use run_state::TAG;
+use run_state::Words;
+use run_state::flag;
 use widths::wide;
 ghost use mathlib.Core.Path.{_≡_};
 ghost use mathlib.Core.Bool.{not, _&&_};
-ghost use Rattle.rules.specs.Registers.{with-low, with-high, bit-of, with-ring, with-ringsize, with-page, with-irqenable, with-doorbell, acknowledged as acknowledgedOf, reset-registers};
-ghost use Rattle.register_writes.specs.Writing.{controls, Writes};
-
-// What a write makes of the registers. At a reset, resources and the submission in work are to be dropped as well.
-pub enum Written {
-    Kept(Registers),
-    Reset(Registers),
-    NoRegister,
-}
+ghost use Rattle.rules.specs.Registers.{with-low, with-high, bit-of};
+ghost use Rattle.run_state.specs.Views.{setIn};
+ghost use Rattle.register_writes.specs.Views.{Controls, Acks, Writes};
 
 fn with_low(v: u32, x: u64) -> u64
     ensures { λ r. ⌜ r ≡ with-low v x ⌝ }
@@ -39,107 +48,83 @@ fn bit_1(v: u32) -> bool
     v / 2 % 2 == 1
 }
 
-fn with_ring(regs: Registers, ring: u64) -> Registers
-    ensures { λ r. ⌜ r ≡ with-ring ring regs ⌝ }
+// A status word after an ack of it, or of others.
+fn left(status: u64, acked: bool) -> u64
+    ensures { λ r. ⌜ setIn r ≡ (setIn status && not acked) ⌝ }
 {
-    let mut r = regs;
-    r.ring = ring;
-    r
-}
-
-fn with_ringsize(regs: Registers, size: u32) -> Registers
-    ensures { λ r. ⌜ r ≡ with-ringsize size regs ⌝ }
-{
-    let mut r = regs;
-    r.ringsize = size;
-    r
-}
-
-fn with_page(regs: Registers, page: u64) -> Registers
-    ensures { λ r. ⌜ r ≡ with-page page regs ⌝ }
-{
-    let mut r = regs;
-    r.page = page;
-    r
-}
-
-fn with_irqenable(regs: Registers, value: u32) -> Registers
-    ensures { λ r. ⌜ r ≡ with-irqenable value regs ⌝ }
-{
-    let mut r = regs;
-    r.irqenable = value;
-    r
-}
-
-// Any number written rings, enabled or not.
-fn with_doorbell(regs: Registers) -> Registers
-    ensures { λ r. ⌜ r ≡ with-doorbell regs ⌝ }
-{
-    let mut r = regs;
-    r.rung = true;
-    r
-}
-
-// A status bit after an ack of it, or of others.
-fn left(status: bool, acked: bool) -> bool
-    ensures { λ r. ⌜ r ≡ (status && not acked) ⌝ }
-{
-    if acked { false } else { status }
-}
-
-// The status bits written as 1 are cleared.
-fn acknowledged(regs: Registers, value: u32) -> Registers
-    ensures { λ r. ⌜ r ≡ acknowledgedOf value regs ⌝ }
-{
-    let fenced = left(regs.fenced, bit_0(value));
-    let failed = left(regs.failed, bit_1(value));
-    let mut r = regs;
-    r.fenced = fenced;
-    r.failed = failed;
-    r
-}
-
-// The registers after a reset: error registers and what the guest wrote stay.
-fn reset_registers(regs: Registers, enabled: bool) -> Registers
-    ensures { λ r. ⌜ r ≡ reset-registers enabled regs ⌝ }
-{
-    let mut r = regs;
-    r.enabled = enabled;
-    r.completed = 0;
-    r.fenced = false;
-    r.failed = false;
-    r.rung = false;
-    r
+    if acked { 0 } else { status }
 }
 
 // Bit 0 enables, bit 1 resets; a reset takes bit 0 from the same write.
-fn control(regs: Registers, value: u32) -> Written
-    ensures { λ r. ⌜ r ≡ controls value regs ⌝ }
+fn control(words: &mut Words, value: u32)
+    ensures { λ _. ⌜ Controls (now (words .entry)) value (now (words .exit)) ⌝ }
 {
-    let on = bit_0(value);
-    let resets = bit_1(value);
-    if resets {
-        return Written::Reset(reset_registers(regs, on));
+    let on = flag(bit_0(value));
+    let all = &words[..];
+    words[ENABLED] = on;
+    if bit_1(value) {
+        words[COMPLETED] = 0;
+        words[FENCED] = 0;
+        words[FAILED] = 0;
+        words[DOORBELL] = 0;
+        words[TAG] = NOTHING;
+        words[LIVE] = 0;
     }
-    let mut r = regs;
-    r.enabled = on;
-    Written::Kept(r)
 }
 
-// A write to the register at an offset.
-pub fn write(regs: Registers, offset: u32, value: u32) -> Written
-    ensures { λ r. ⌜ Writes regs offset value r ⌝ }
+// The status bits written as 1 are cleared.
+fn acknowledge(words: &mut Words, value: u32)
+    ensures { λ _. ⌜ Acks (now (words .entry)) value (now (words .exit)) ⌝ }
 {
+    let fenced = left(words[FENCED], bit_0(value));
+    let failed = left(words[FAILED], bit_1(value));
+    let all = &words[..];
+    words[FENCED] = fenced;
+    words[FAILED] = failed;
+}
+
+// Writes a register: the call's answer.
+pub fn write(words: &mut Words, offset: u32, value: u32) -> u32
+    ensures { λ r. ⌜ Writes (now (words .entry)) offset value r (now (words .exit)) ⌝ }
+{
+    let all = &words[..];
     match offset {
-        offsets::RING_LOW => Written::Kept(with_ring(regs, with_low(value, regs.ring))),
-        offsets::RING_HIGH => Written::Kept(with_ring(regs, with_high(value, regs.ring))),
-        offsets::RING_SIZE => Written::Kept(with_ringsize(regs, value)),
-        offsets::CONTROL => control(regs, value),
-        offsets::PAGE_LOW => Written::Kept(with_page(regs, with_low(value, regs.page))),
-        offsets::PAGE_HIGH => Written::Kept(with_page(regs, with_high(value, regs.page))),
-        offsets::DOORBELL => Written::Kept(with_doorbell(regs)),
-        offsets::IRQ_ENABLE => Written::Kept(with_irqenable(regs, value)),
-        offsets::IRQ_ACK => Written::Kept(acknowledged(regs, value)),
-        _ => Written::NoRegister,
+        offsets::RING_LOW => {
+            words[RING] = with_low(value, words[RING]);
+            DONE
+        }
+        offsets::RING_HIGH => {
+            words[RING] = with_high(value, words[RING]);
+            DONE
+        }
+        offsets::RING_SIZE => {
+            words[RING_SIZE] = wide(value);
+            DONE
+        }
+        offsets::CONTROL => {
+            control(words, value);
+            DONE
+        }
+        offsets::PAGE_LOW => {
+            words[PAGE] = with_low(value, words[PAGE]);
+            DONE
+        }
+        offsets::PAGE_HIGH => {
+            words[PAGE] = with_high(value, words[PAGE]);
+            DONE
+        }
+        offsets::DOORBELL => {
+            words[DOORBELL] = 1;
+            DONE
+        }
+        offsets::IRQ_ENABLE => {
+            words[IRQ_ENABLE] = wide(value);
+            DONE
+        }
+        offsets::IRQ_ACK => {
+            acknowledge(words, value);
+            DONE
+        }
+        _ => NO_REGISTER,
     }
 }

@@ -2,14 +2,17 @@
 -- Assumes nothing.
 use mathlib.Core.Path.{_≡_, refl, sym}
 use mathlib.Core.List.{List, [], _∷_}
-use Prim.Native.Nat.{ℕ}
+use Prim.Native.Nat.{ℕ, _+_, _*_, _≤_}
+use native.Mathlib.Omega.{arith}
 use borrow.Author.Needs.{needs}
-use borrow.Author.Tests.{ne-eqb}
+use borrow.Author.Tests.{eq-eqb, ne-eqb}
+use lib.ListN.{getD}
 use Rattle.rules.specs.Lists.{lookup}
 use Rattle.rules.specs.Lists.Found.{none}
-use Rattle.rules.specs.Registers.{read-offset, readable, register}
+use Rattle.rules.specs.Registers.{bit, status, read-offset, readable, register}
 use Rattle.rules.specs.declared.Registers.{Registers}
 use Rattle.registers.specs.declared.Shown.the-variants.{Value, NoRegister as shows-none}
+use Rattle.run_state.specs.Views.{setIn, registersIn}
 use Rattle.registers.specs.Map.{shown}
 
 -- ---- a key that no member has
@@ -46,3 +49,16 @@ pub same-value : (v w : ℕ) → v ≡ w → Value v ≡ Value w
 same-value v w e = rw e
 
 pub ruleset reading = (shows-at, shows-nothing, same-value, needs)
+
+-- ---- bit, status
+
+pub bit-clear : (x : ℕ) → x ≡ 0 → 0 ≡ bit (setIn x)
+bit-clear x e = rw (eq-eqb x 0 e)
+
+pub bit-set : (x : ℕ) → (x ≡ 0 → ⊥) → 1 ≡ bit (setIn x)
+bit-set x n = rw (ne-eqb x 0 n)
+
+pub status-is : (s : List ℕ) (x y : ℕ) → (x ≡ bit (setIn (getD s 6 0))) × (x ≤ 1) → (y ≡ bit (setIn (getD s 7 0))) × (y ≤ 1) → x + 2 * y ≡ status (registersIn s)
+status-is s x y a b = rw (a .0, b .0)
+
+pub ruleset bits = (bit-clear, bit-set, status-is, needs)

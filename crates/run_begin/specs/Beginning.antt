@@ -19,9 +19,8 @@ use Rattle.rules.specs.declared.Job.{Job}
 use Rattle.rules.specs.declared.Opened.{Opened}
 use Rattle.rows.specs.Rows.{table-zero}
 use Rattle.entry_rows.specs.Views.{entryOf, entriesOf}
-use Rattle.rooms.specs.Views.{recordOf, resourcesOf}
 use Rattle.run_state.specs.Views.{setIn, flagOf, smallIn, countIn, jobIn, streamIn, openedIn, resourcesIn, worldIn, bareIn}
-use Rattle.run_state.specs.Reading.{flag-as, small-as, count-as}
+use Rattle.run_state.specs.Reading.{flag-as, small-as, count-as, none-kept, none-made}
 use Rattle.run_state.specs.Spelled.{spell}
 use Rattle.run_begin.specs.Views.{Begins, StoresJob, StoresOpened, Starts}
 
@@ -35,7 +34,7 @@ module _ (s : List ℕ) (kept size n : ℕ) (long : length s ≡ 32) (few : kept
   unfolding worldIn
   begins-more h =
       record {
-        world = λ e r x c m. spell (λ w. worldIn (begun 2 w) e r x c m) s long ∙ rw (count-as n kept is-n few, count-as 0 0 (refl, omega arith) (omega arith), table-zero recordOf 5 c, ← is-size, lt-ltb 24 size h);
+        world = λ e r x c m. spell (λ w. worldIn (begun 2 w) e r x c m) s long ∙ rw (count-as n kept is-n few, none-made c, ← is-size, lt-ltb 24 size h);
         side = spell (λ w. getD (begun 2 w) 28 0) s long;
       }
 
@@ -43,7 +42,7 @@ module _ (s : List ℕ) (kept size n : ℕ) (long : length s ≡ 32) (few : kept
   unfolding worldIn
   begins-none h =
       record {
-        world = λ e r x c m. spell (λ w. worldIn (begun 3 w) e r x c m) s long ∙ rw (count-as n kept is-n few, count-as 0 0 (refl, omega arith) (omega arith), table-zero recordOf 5 c, ← is-size, le-ltb 24 size h);
+        world = λ e r x c m. spell (λ w. worldIn (begun 3 w) e r x c m) s long ∙ rw (count-as n kept is-n few, none-made c, ← is-size, le-ltb 24 size h);
         side = spell (λ w. getD (begun 3 w) 28 0) s long;
       }
 
@@ -81,7 +80,7 @@ module _ (o : Opened) (n stride size : ℕ) where
         bare = λ r m. spell (λ w. bareIn (opened w) r m) s₁ long ∙ k .bare r m;
         world = λ x r h y m.
             spell (λ w. worldIn (opened w) x r h y m) s₁ long
-            ∙ rw (small-as n (o .table .count) c, small-as stride (o .table .stride) d, small-as size (o .stream .size) e, k .job, count-as 0 0 (refl, omega arith) (omega arith), table-zero entryOf 4 x)
+            ∙ rw (small-as n (o .table .count) c, small-as stride (o .table .stride) d, small-as size (o .stream .size) e, k .job, none-kept x)
             (ap (working (entries o [])) (k .bare r m));
         side = spell (λ w. getD (opened w) 28 0) s₁ long ∙ k .side;
       }

@@ -1,7 +1,7 @@
 -- What the reading of a device's words asks. Assumes nothing.
 use mathlib.Core.Path.{_≡_, refl, sym, _∙_}
 use mathlib.Core.Bool.{Bool, true, false, not}
-use mathlib.Core.List.{List}
+use mathlib.Core.List.{List, []}
 use Prim.Native.Nat.{ℕ, _≤_, _<_}
 use native.Mathlib.Omega.{arith}
 use native.Mathlib.Nat.{mod-eq-of-lt}
@@ -15,6 +15,9 @@ use Rattle.rules.specs.declared.Registers.{Registers}
 use Rattle.rules.specs.declared.Job.{Job}
 use Rattle.rules.specs.declared.Table.{Table}
 use Rattle.rules.specs.declared.Stream.{Stream}
+use Rattle.rows.specs.Rows.{table-zero}
+use Rattle.entry_rows.specs.Views.{entriesOf}
+use Rattle.rooms.specs.Views.{resourcesOf, recordsOf}
 use Rattle.run_state.specs.Views.{setIn, flagOf, smallIn, countIn, registersIn, jobIn, tableIn, streamIn}
 
 -- ---- one word
@@ -71,6 +74,20 @@ count-low x = by-test (ltb most x) refl
     by-test : (v : Bool) → ltb most x ≡ v → pick v most x ≤ most
     by-test true h = omega arith
     by-test false h = ltb-false most x h
+
+-- a count of 0 is no row
+module _ (l : List ℕ) where
+  pub none-kept : entriesOf (countIn 0) l ≡ []
+  unfolding countIn
+  none-kept = table-zero _ _ l
+
+  pub none-live : resourcesOf (countIn 0) l ≡ []
+  unfolding countIn
+  none-live = table-zero _ _ l
+
+  pub none-made : recordsOf (countIn 0) l ≡ []
+  unfolding countIn
+  none-made = table-zero _ _ l
 
 -- ---- some words
 

@@ -1,15 +1,16 @@
 -- A device's words and tables as the rules' state: word 0 the memory's length, 1 to 12 the registers in the order of `Registers`, 13 the
 -- tag of what is in work, 14 to 23 its numbers, 24 to 27 how many rows of each table are live, 28 which table of resources is the device's,
 -- 29 whether the submission has the other for its own; 30 and 31 say nothing. Any words mean some state.
+use mathlib.Core.Path.{_≡_}
 use mathlib.Core.Bool.{Bool, true, false}
-use mathlib.Core.List.{List}
+use mathlib.Core.List.{List, []}
 use Prim.Native.Nat.{ℕ, _%_}
 use lib.Dec.{eqb, ltb}
 use lib.ListN.{getD}
 use Rattle.machine.specs.Machine.{pick}
-use Rattle.rules.specs.Numbers.{most}
+use Rattle.rules.specs.Numbers.{most, done}
 use Rattle.rules.specs.Packets.{Holdings}
-use Rattle.rules.specs.State.{Work, World}
+use Rattle.rules.specs.State.{Work, State, World}
 use Rattle.rules.specs.State.Work.{resting, entries, packets, waiting}
 use Rattle.rules.specs.declared.Registers.{Registers}
 use Rattle.rules.specs.declared.Entry.{Entry}
@@ -119,3 +120,11 @@ sideIn s = setIn (getD s 28 0)
 -- words, entries, the first and the second table of resources, records; and the memory
 abbrev pub deskIn : List ℕ → List ℕ → List ℕ → List ℕ → List ℕ → List ℕ → World
 deskIn s e a b c m = worldIn s e (pick (sideIn s) b a) (pick (sideIn s) a b) c m
+
+-- the state alone
+abbrev pub stateIn : List ℕ → List ℕ → List ℕ → List ℕ → List ℕ → State
+stateIn s e a b c = deskIn s e a b c [] .state
+
+-- a call's answer that refuses it
+abbrev pub Refused : ℕ → Type 0
+Refused answer = answer ≡ done → ⊥

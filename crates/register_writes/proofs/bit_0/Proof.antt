@@ -1,5 +1,5 @@
--- `bit_0` meets its contract, by the laws of `bits`. Assumes nothing.
-use Rattle.register_writes.specs.Changes.{bits}
+-- `bit_0` meets its contract. Assumes nothing.
+use Rattle.register_writes.specs.Writing.{bits}
 use Rattle.register_writes.proofs.bit_0.Statement.{statement}
 use Rattle.register_writes.proofs.bit_0.Tie as tie
 

@@ -1,28 +1,55 @@
--- `read` meets its contract, by the laws of `reading`. Assumes nothing.
-use borrow.Author.Needs.{needs}
+-- `read` meets its contract. Assumes nothing.
 use Rattle.rules.specs.Lists.{lookup}
 use Rattle.rules.specs.Registers.{register}
 use Rattle.registers.specs.Laws.{reading}
+use borrow.Author.Needs.{needs}
 use Rattle.registers.proofs.read.Statement.{statement}
 use Rattle.registers.proofs.read.Tie as tie
+
+element-copy-out-low32 : tie.Need-element-copy-out-low32
+element-copy-out-low32 c = search needs
 
 low32-requires : tie.Need-low32-requires
 low32-requires c κs = search needs
 
+element-copy-out-high : tie.Need-element-copy-out-high
+element-copy-out-high c = search needs
+
 high-requires : tie.Need-high-requires
 high-requires c κs = search needs
 
-bit-requires : tie.Need-bit-requires
-bit-requires c κs = search needs
+element-copy-out-low32-2 : tie.Need-element-copy-out-low32-2
+element-copy-out-low32-2 c = search needs
 
 low32-requires-2 : tie.Need-low32-requires-2
 low32-requires-2 c κs = search needs
 
-high-requires-2 : tie.Need-high-requires-2
-high-requires-2 c κs = search needs
+element-copy-out-bit : tie.Need-element-copy-out-bit
+element-copy-out-bit c = search needs
+
+bit-requires : tie.Need-bit-requires
+bit-requires c κs = search needs
+
+element-copy-out-low32-3 : tie.Need-element-copy-out-low32-3
+element-copy-out-low32-3 c = search needs
 
 low32-requires-3 : tie.Need-low32-requires-3
 low32-requires-3 c κs = search needs
+
+element-copy-out-high-2 : tie.Need-element-copy-out-high-2
+element-copy-out-high-2 c = search needs
+
+high-requires-2 : tie.Need-high-requires-2
+high-requires-2 c κs = search needs
+
+element-copy-out-low32-4 : tie.Need-element-copy-out-low32-4
+element-copy-out-low32-4 c = search needs
+
+low32-requires-4 : tie.Need-low32-requires-4
+low32-requires-4 c κs = search needs
+
+element-copy-out-high-3 : tie.Need-element-copy-out-high-3
+element-copy-out-high-3 c = search needs
 
 high-requires-3 : tie.Need-high-requires-3
 high-requires-3 c κs = search needs
@@ -30,11 +57,35 @@ high-requires-3 c κs = search needs
 status-requires : tie.Need-status-requires
 status-requires c κs = search needs
 
-low32-requires-4 : tie.Need-low32-requires-4
-low32-requires-4 c κs = search needs
+element-copy-out-low32-5 : tie.Need-element-copy-out-low32-5
+element-copy-out-low32-5 c = search needs
+
+low32-requires-5 : tie.Need-low32-requires-5
+low32-requires-5 c κs = search needs
+
+element-copy-out-low32-6 : tie.Need-element-copy-out-low32-6
+element-copy-out-low32-6 c = search needs
+
+low32-requires-6 : tie.Need-low32-requires-6
+low32-requires-6 c κs = search needs
+
+element-copy-out-low32-7 : tie.Need-element-copy-out-low32-7
+element-copy-out-low32-7 c = search needs
+
+low32-requires-7 : tie.Need-low32-requires-7
+low32-requires-7 c κs = search needs
+
+element-copy-out-high-4 : tie.Need-element-copy-out-high-4
+element-copy-out-high-4 c = search needs
 
 high-requires-4 : tie.Need-high-requires-4
 high-requires-4 c κs = search needs
+
+element-copy-out-low32-8 : tie.Need-element-copy-out-low32-8
+element-copy-out-low32-8 c = search needs
+
+low32-requires-8 : tie.Need-low32-requires-8
+low32-requires-8 c κs = search needs
 
 returns : tie.Need-returns
 unfolding register lookup
@@ -116,16 +167,33 @@ pub read-spec : {M : Type 1} → statement M
 read-spec =
     tie.close
     (tie.spec
+    element-copy-out-low32
     low32-requires
+    element-copy-out-high
     high-requires
-    bit-requires
+    element-copy-out-low32-2
     low32-requires-2
-    high-requires-2
+    element-copy-out-bit
+    bit-requires
+    element-copy-out-low32-3
     low32-requires-3
+    element-copy-out-high-2
+    high-requires-2
+    element-copy-out-low32-4
+    low32-requires-4
+    element-copy-out-high-3
     high-requires-3
     status-requires
-    low32-requires-4
+    element-copy-out-low32-5
+    low32-requires-5
+    element-copy-out-low32-6
+    low32-requires-6
+    element-copy-out-low32-7
+    low32-requires-7
+    element-copy-out-high-4
     high-requires-4
+    element-copy-out-low32-8
+    low32-requires-8
     returns
     returns-2
     returns-3
