@@ -1,3 +1,4 @@
 pub mod Views
 pub mod Spelled
 pub mod Reading
+pub mod Stages

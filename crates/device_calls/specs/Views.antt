@@ -1,0 +1,29 @@
+-- What the calls that are lent no guest memory give: the rules' own call of the device that stands in the words, whatever stands in the
+-- tables that they are not lent.
+use mathlib.Core.Path.{_≡_}
+use mathlib.Core.List.{List}
+use Prim.Native.Nat.{ℕ}
+use Rattle.rules.specs.Numbers.{no-record}
+use Rattle.rules.specs.State.{made}
+use Rattle.rules.specs.Calls.{Value, no-range, Handed as HandedBy, call-read, call-record}
+use Rattle.run_state.specs.Views.{stateIn}
+use Rattle.device_calls.specs.declared.ValueRead.{ValueRead}
+use Rattle.device_calls.specs.declared.Handed.{Handed}
+
+abbrev pub valueOf : ValueRead → Value
+valueOf x = record { answer = x .answer; value = x .value }
+
+abbrev pub handedOf : Handed → HandedBy
+handedOf x = record { answer = x .answer; range = x .range }
+
+abbrev pub noneHanded : Handed
+noneHanded = record { answer = no-record; range = no-range }
+
+pub record Makes (memory : ℕ) (s′ : List ℕ) : Type 0 where
+  pub new : (e a b c : List ℕ) → stateIn s′ e a b c ≡ made memory
+
+pub record Reads (s : List ℕ) (offset : ℕ) (x : ValueRead) : Type 0 where
+  pub value : (e a b c : List ℕ) → valueOf x ≡ call-read (stateIn s e a b c) offset
+
+pub record Hands (s c : List ℕ) (i : ℕ) (x : Handed) : Type 0 where
+  pub hands : (e a b : List ℕ) → handedOf x ≡ call-record (stateIn s e a b c) i

@@ -1,0 +1,119 @@
+// The calls on a device's words that are lent no guest memory: make, read, record (write is register_writes'). None asks anything of its
+// caller; a refused one gives its number and zeros.
+use records::Records;
+use records::record_row;
+use registers::Shown;
+use rules::Record;
+use rules::numbers::DONE;
+use rules::numbers::NO_RECORD;
+use rules::numbers::NO_REGISTER;
+use run_state::COMPLETED;
+use run_state::DOORBELL;
+use run_state::ENABLED;
+use run_state::ERROR_CODE;
+use run_state::ERROR_COUNT;
+use run_state::ERROR_FENCE;
+use run_state::FAILED;
+use run_state::FENCED;
+use run_state::IRQ_ENABLE;
+use run_state::LIVE;
+use run_state::MADE;
+use run_state::MEMORY;
+use run_state::NOTHING;
+use run_state::PAGE;
+use run_state::RING;
+use run_state::RING_SIZE;
+use run_state::TAG;
+use run_state::WAITING;
+use run_state::Words;
+use run_state::rows_in;
+use widths::index;
+use widths::long;
+ghost use mathlib.Core.Path.{_≡_};
+ghost use Rattle.device_calls.specs.Views.{noneHanded, Makes, Reads, Hands};
+
+// What a read answers, and the register's value.
+pub struct ValueRead {
+    pub answer: u32,
+    pub value: u32,
+}
+
+// What a record call answers, and the record.
+pub struct Handed {
+    pub answer: u32,
+    pub range: Record,
+}
+
+// Makes a device for a memory of so many bytes. Its tables may hold anything.
+pub fn make(words: &mut Words, memory: usize)
+    ensures { λ _. ⌜ Makes memory (now (words .exit)) ⌝ }
+{
+    let bytes = long(memory);
+    let all = &words[..];
+    words[MEMORY] = bytes;
+    words[RING] = 0;
+    words[RING_SIZE] = 0;
+    words[ENABLED] = 0;
+    words[PAGE] = 0;
+    words[COMPLETED] = 0;
+    words[FENCED] = 0;
+    words[FAILED] = 0;
+    words[IRQ_ENABLE] = 0;
+    words[ERROR_CODE] = 0;
+    words[ERROR_FENCE] = 0;
+    words[ERROR_COUNT] = 0;
+    words[DOORBELL] = 0;
+    words[TAG] = NOTHING;
+    words[LIVE] = 0;
+}
+
+// Reads a register.
+pub fn read(words: &Words, offset: u32) -> ValueRead
+    ensures { λ r. ⌜ Reads (now (words .entry)) offset r ⌝ }
+{
+    match registers::read(words, offset) {
+        Shown::NoRegister => ValueRead {
+            answer: NO_REGISTER,
+            value: 0,
+        },
+        Shown::Value(value) => ValueRead {
+            answer: DONE,
+            value,
+        },
+    }
+}
+
+// No record: every value beside the refusal is zero.
+fn none_handed() -> Handed
+    ensures { λ r. ⌜ r ≡ noneHanded ⌝ }
+{
+    let range = Record {
+        kind: 0,
+        handle: 0,
+        id: 0,
+        gpa: 0,
+        length: 0,
+    };
+    Handed {
+        answer: NO_RECORD,
+        range,
+    }
+}
+
+// Record i of the submission that waits.
+pub fn record(words: &Words, records: &Records, i: u32) -> Handed
+    ensures { λ r. ⌜ Hands (now (words .entry)) (now (records .entry)) i r ⌝ }
+{
+    let at = index(i);
+    if words[TAG] < WAITING {
+        return none_handed();
+    }
+    if at >= rows_in(words[MADE]) {
+        return none_handed();
+    }
+    let range = record_row(records, at);
+    Handed {
+        answer: DONE,
+        range,
+    }
+}
