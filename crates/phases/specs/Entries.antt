@@ -8,7 +8,7 @@ use borrow.Author.Needs.{needs}
 use borrow.Author.Tests.{lt-ltb, le-ltb, ltb-true}
 use lib.Dec.{ltb}
 use lib.ListN.{length}
-use Rattle.machine.specs.Machine.{pick, Out, runFor}
+use Rattle.machine.specs.Machine.{pick, Out, spent, runFor, loop-start}
 use Rattle.rules.specs.Numbers.{most, bad-entry}
 use Rattle.rules.specs.Judging.{refusal}
 use Rattle.rules.specs.Layouts.{entry}
@@ -21,9 +21,8 @@ use Rattle.rules.specs.declared.Verdict.the-variants.{Fine, Broken as BrokenRul
 use Rattle.laws.specs.Fine.{both-left}
 use Rattle.rows.specs.Rows.{length-table}
 use Rattle.entry_rows.specs.Views.{entryOf, entriesOf, takenOf}
-use Rattle.phases.specs.Ending.{onward, ending-at}
-use Rattle.phases.specs.declared.ending.Ending.{Ending}
-use Rattle.phases.specs.declared.ending.Ending.the-variants.{Going, Done, Broken}
+use Rattle.phases.specs.Ending.{Ending, onward, ending-at, endingOf, is-going, is-done, is-broken, phasing}
+use Rattle.phases.specs.Ending.Ending.{Going, Done, Broken}
 use Rattle.phases.specs.declared.entries.EntriesPlace.{EntriesPlace}
 use Rattle.phases.specs.declared.entries.EntriesRun.{EntriesRun}
 
@@ -44,17 +43,17 @@ read-step m t s = read-on (t .count) (take-entry m t (s .kept) .verdict) (take-e
 -- ---- views
 
 abbrev pub readingOf : EntriesPlace → List ℕ → Reading
-readingOf p l = record { kept = entriesOf (p .n) l; ending = p .ending }
+readingOf p l = record { kept = entriesOf (p .n) l; ending = endingOf (p .ending) (p .why) }
 
 abbrev pub outOf : EntriesRun → List ℕ → Out Reading
 outOf r l = record { state = readingOf (r .place) l; units = r .units }
 
+abbrev pub from-row : ℕ → List ℕ → Reading
+from-row n l = record { kept = entriesOf n l; ending = Going }
+
 pub record EntryStepped (m : List ℕ) (t : Table) (p : EntriesPlace) (l : List ℕ) (r : EntriesPlace) (l′ : List ℕ) : Type 0 where
   pub step : readingOf r l′ ≡ read-step m t (readingOf p l)
   pub room : r .n ≤ most
-
-abbrev pub from-row : ℕ → List ℕ → Reading
-from-row n l = record { kept = entriesOf n l; ending = Going }
 
 pub record EntriesRan (m : List ℕ) (t : Table) (n : ℕ) (l : List ℕ) (allowance : ℕ) (r : EntriesRun) (l′ : List ℕ) : Type 0 where
   pub run : outOf r l′ ≡ runFor reading-goes (read-step m t) allowance (from-row n l)
@@ -74,11 +73,11 @@ fine-room m t kept h = by-reach (in-reach m t (length kept)) refl h
     by-reach false e f = absurd (let z : _≡_ {A = ℕ} 0 1 = cc in omega arith)
 
 module _ (m : List ℕ) (t : Table) (p : EntriesPlace) (l l′ : List ℕ) (v : Verdict) (took : takenOf v (p .n) l′ ≡ take-entry m t (entriesOf (p .n) l)) where
-  pub step-broken : (r : Refusal) → p .n ≤ most → v ≡ BrokenRule r → EntryStepped m t p l (record { n = p .n; ending = Broken r }) l′
+  pub step-broken : (r : Refusal) → p .n ≤ most → v ≡ BrokenRule r → EntryStepped m t p l (record { n = p .n; ending = 2; why = r .code }) l′
   unfolding read-step
   step-broken r h e =
       let taken : takenOf (BrokenRule r) (p .n) l′ ≡ take-entry m t (entriesOf (p .n) l) = rw e at took in
-      record { step = rw (← taken); room = h }
+      record { step = rw (is-broken 2 (r .code) (omega arith) (omega arith), ← taken); room = h }
 
   module _ (e : v ≡ Fine) where
     taken-fine : takenOf Fine (p .n) l′ ≡ take-entry m t (entriesOf (p .n) l)
@@ -91,14 +90,22 @@ module _ (m : List ℕ) (t : Table) (p : EntriesPlace) (l l′ : List ℕ) (v : 
     step-next-fits = omega (arith, step-room)
 
     module _ (c : ℕ) (same : c ≡ t .count) where
-      pub step-going : p .n + 1 < c → EntryStepped m t p l (record { n = p .n + 1; ending = Going }) l′
+      pub step-going : p .n + 1 < c → EntryStepped m t p l (record { n = p .n + 1; ending = 0; why = 0 }) l′
       unfolding read-step
       step-going h =
-          record { step = rw (← taken-fine, length-table entryOf 4 (p .n + 1) l′, ← same, lt-ltb _ _ h); room = omega (arith, step-room) }
+          record { step = rw (is-going 0 0 refl, ← taken-fine, length-table entryOf 4 (p .n + 1) l′, ← same, lt-ltb _ _ h); room = omega (arith, step-room) }
 
-      pub step-done : c ≤ p .n + 1 → EntryStepped m t p l (record { n = p .n + 1; ending = Done }) l′
+      pub step-done : c ≤ p .n + 1 → EntryStepped m t p l (record { n = p .n + 1; ending = 1; why = 0 }) l′
       unfolding read-step
       step-done h =
-          record { step = rw (← taken-fine, length-table entryOf 4 (p .n + 1) l′, ← same, le-ltb _ _ h); room = omega (arith, step-room) }
+          record { step = rw (is-done 1 0 refl, ← taken-fine, length-table entryOf 4 (p .n + 1) l′, ← same, le-ltb _ _ h); room = omega (arith, step-room) }
 
 pub ruleset stepping-entry = (step-broken, step-room, step-next-fits, step-going, step-done, needs)
+
+-- ---- read_entries
+
+pub reading-starts : (m : List ℕ) (t : Table) (n a : ℕ) (l : List ℕ)
+    → runFor reading-goes (read-step m t) a (from-row n l) ≡ spent 0 (runFor reading-goes (read-step m t) (a - 0) (readingOf (record { n = n; ending = 0; why = 0 }) l))
+reading-starts m t n a l = rw (is-going 0 0 refl) (loop-start reading-goes (read-step m t) a (from-row n l))
+
+pub ruleset reading-on = (reading-starts, phasing)

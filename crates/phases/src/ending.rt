@@ -1,21 +1,10 @@
-// How a phase stands: more of it is left, all of it is done, or a rule was broken.
-use rules::Refusal;
-ghost use mathlib.Core.Path.{_≡_};
-ghost use Rattle.phases.specs.Ending.{onward};
+// How a phase stands, as a number: the loop that reads it is left as soon as it is not GOING.
 
-pub enum Ending {
-    Going,
-    Done,
-    Broken(Refusal),
-}
+// More of the phase is left.
+pub const GOING: u32 = 0;
 
-// Whether another unit of the phase is due.
-pub fn goes(e: Ending) -> bool
-    ensures { λ r. ⌜ r ≡ onward e ⌝ }
-{
-    match e {
-        Ending::Going => true,
-        Ending::Done => false,
-        Ending::Broken(_) => false,
-    }
-}
+// All of it is done.
+pub const DONE: u32 = 1;
+
+// A rule was broken; its number stands beside.
+pub const BROKEN: u32 = 2;

@@ -1,6 +1,7 @@
 // The phase of entries: one a unit, each over the memory lent at that unit.
-use crate::ending::Ending;
-use crate::ending::goes;
+use crate::ending::BROKEN;
+use crate::ending::DONE;
+use crate::ending::GOING;
 use entry_rows::Entries;
 use rules::Table;
 use rules::Verdict;
@@ -9,10 +10,11 @@ ghost use Prim.Native.Nat.{_+_, _≤_};
 ghost use Rattle.rules.specs.Numbers.{most};
 ghost use Rattle.phases.specs.Entries.{EntryStepped, EntriesRan};
 
-// Where the entries stand: how many are kept.
+// Where the entries stand: how many are kept, how the phase stands, and the number of a rule that is broken, 0 otherwise.
 pub struct EntriesPlace {
     pub n: usize,
-    pub ending: Ending,
+    pub ending: u32,
+    pub why: u32,
 }
 
 pub struct EntriesRun {
@@ -35,20 +37,22 @@ fn step_entry(mem: &[u8], t: Table, kept: &mut Entries, p: EntriesPlace) -> Entr
     match table::entry::take_entry(mem, t, kept, n) {
         Verdict::Broken(why) => EntriesPlace {
             n,
-            ending: Ending::Broken(why),
+            ending: BROKEN,
+            why: why.code,
         },
         Verdict::Fine => {
             let next = n + 1;
             if next < size(t.count) {
-                EntriesPlace {
+                return EntriesPlace {
                     n: next,
-                    ending: Ending::Going,
-                }
-            } else {
-                EntriesPlace {
-                    n: next,
-                    ending: Ending::Done,
-                }
+                    ending: GOING,
+                    why: 0,
+                };
+            }
+            EntriesPlace {
+                n: next,
+                ending: DONE,
+                why: 0,
             }
         }
     }
@@ -67,16 +71,16 @@ pub fn read_entries(
 {
     let mut p = EntriesPlace {
         n,
-        ending: Ending::Going,
+        ending: GOING,
+        why: 0,
     };
     let mut units: u16 = 0;
     while units < allowance {
-        let e = p.ending;
-        if !goes(e) {
-            return EntriesRun { place: p, units };
-        }
         p = step_entry(mem, t, kept, p);
         units += 1;
+        if p.ending != GOING {
+            return EntriesRun { place: p, units };
+        }
     }
     EntriesRun { place: p, units }
 }

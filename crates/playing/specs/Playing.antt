@@ -1,15 +1,16 @@
 -- The phase of packets as a machine over the place and what is held; and what its code asks. Assumes nothing.
 use mathlib.Core.Path.{_≡_, refl, sym, ap, _∙_}
-use mathlib.Core.Bool.{Bool}
+use mathlib.Core.Bool.{Bool, true, false}
 use mathlib.Core.List.{List}
 use Prim.Native.Nat.{ℕ, _+_, _-_, _^_, _≤_, _<_}
 use native.Mathlib.Omega.{arith}
 use borrow.Author.Needs.{needs}
 use borrow.Author.Tests.{lt-ltb, le-ltb}
+use lib.Dec.{ltb}
 use lib.ListN.{length, take, drop, length-drop}
 use mir.Syntax.{w64}
 use mir.Val.{Fits}
-use Rattle.machine.specs.Machine.{Out, runFor}
+use Rattle.machine.specs.Machine.{pick, Out, runFor}
 use Rattle.rules.specs.Numbers.{most}
 use Rattle.rules.specs.Stream.{frame-of, packet-of}
 use Rattle.rules.specs.Packets.{Holdings, Outcome, apply, take-packet}
@@ -24,11 +25,11 @@ use Rattle.rules.specs.declared.Verdict.the-variants.{Fine, Broken as BrokenRul
 use Rattle.entry_rows.specs.Views.{entriesOf}
 use Rattle.rooms.specs.Views.{holdingsOf}
 use Rattle.stream.specs.Framing.{Sound, frame-sound}
-use Rattle.ranges.specs.Views.{Applies, Room}
-use Rattle.ranges.specs.declared.applied.Applied.{Applied}
-use Rattle.phases.specs.Ending.{onward, ending-at}
-use Rattle.phases.specs.declared.ending.Ending.{Ending}
-use Rattle.phases.specs.declared.ending.Ending.the-variants.{Going, Done, Broken}
+use Rattle.ranges.specs.Views.{Room}
+use Rattle.packets.specs.Apply.{Changes}
+use Rattle.packets.specs.declared.apply.Changed.{Changed}
+use Rattle.phases.specs.Ending.{Ending, onward, ending-at, endingOf, is-going, is-done, is-broken}
+use Rattle.phases.specs.Ending.Ending.{Going, Done, Broken}
 use Rattle.playing.specs.declared.PacketsPlace.{PacketsPlace}
 use Rattle.playing.specs.declared.PacketsRun.{PacketsRun}
 
@@ -51,39 +52,41 @@ play-step es b end s =
 
 -- ---- views
 
-abbrev pub playingOf : PacketsPlace → List ℕ → List ℕ → Playing
-playingOf p l c = record { at = p .at; held = holdingsOf (p .live) l (p .made) c; ending = p .ending }
+-- the place, the device's rows, the submission's own rows, its records
+abbrev pub playingOf : PacketsPlace → List ℕ → List ℕ → List ℕ → Playing
+playingOf p r l c = record { at = p .at; held = holdingsOf (p .live) (pick (p .own) l r) (p .made) c; ending = endingOf (p .ending) (p .why) }
 
-abbrev pub outOf : PacketsRun → List ℕ → List ℕ → Out Playing
-outOf r l c = record { state = playingOf (r .place) l c; units = r .units }
+abbrev pub outOf : PacketsRun → List ℕ → List ℕ → List ℕ → Out Playing
+outOf x r l c = record { state = playingOf (x .place) r l c; units = x .units }
 
-pub record PacketStepped (b : List ℕ) (end n : ℕ) (e : List ℕ) (p : PacketsPlace) (l c : List ℕ) (r : PacketsPlace) (l′ c′ : List ℕ) : Type 0 where
-  pub step : playingOf r l′ c′ ≡ play-step (entriesOf n e) b end (playingOf p l c)
-  pub room : Room n (r .live) (r .made)
+pub record PacketStepped (b : List ℕ) (end n : ℕ) (e : List ℕ) (p : PacketsPlace) (r l c : List ℕ) (q : PacketsPlace) (l′ c′ : List ℕ) : Type 0 where
+  pub step : playingOf q r l′ c′ ≡ play-step (entriesOf n e) b end (playingOf p r l c)
+  pub room : Room n (q .live) (q .made)
 
-pub record PacketsRan (b : List ℕ) (end n : ℕ) (e : List ℕ) (p : PacketsPlace) (l c : List ℕ) (allowance : ℕ) (r : PacketsRun) (l′ c′ : List ℕ) : Type 0 where
-  pub run : outOf r l′ c′ ≡ runFor playing-goes (play-step (entriesOf n e) b end) allowance (playingOf p l c)
-  pub room : Room n (r .place .live) (r .place .made)
+pub record PacketsRan (b : List ℕ) (end n : ℕ) (e : List ℕ) (p : PacketsPlace) (r l c : List ℕ) (allowance : ℕ) (x : PacketsRun) (l′ c′ : List ℕ) : Type 0 where
+  pub run : outOf x r l′ c′ ≡ runFor playing-goes (play-step (entriesOf n e) b end) allowance (playingOf p r l c)
+  pub room : Room n (x .place .live) (x .place .made)
 
 -- ---- place_after
 
-abbrev pub after-by : ℕ → ℕ → ℕ → Applied → Verdict → PacketsPlace
-after-by at next end a Fine = record { at = next; live = a .live; made = a .made; ending = ending-at next end }
-after-by at next end a (BrokenRule r) = record { at = at; live = a .live; made = a .made; ending = Broken r }
+abbrev pub after-by : ℕ → ℕ → ℕ → Changed → Verdict → PacketsPlace
+after-by at next end x Fine = record { at = next; live = x .live; made = x .made; own = x .own; ending = pick (ltb next end) 0 1; why = 0 }
+after-by at next end x (BrokenRule r) = record { at = at; live = x .live; made = x .made; own = x .own; ending = 2; why = r .code }
 
-unfoldable pub placeAfter : ℕ → ℕ → ℕ → Applied → PacketsPlace
-placeAfter at next end a = after-by at next end a (a .verdict)
+unfoldable pub placeAfter : ℕ → ℕ → ℕ → Changed → PacketsPlace
+placeAfter at next end x = after-by at next end x (x .verdict)
 
-module _ (at next end : ℕ) (a : Applied) where
-  pub after-broken : (r : Refusal) → a .verdict ≡ BrokenRule r → record { at = at; live = a .live; made = a .made; ending = Broken r } ≡ placeAfter at next end a
+module _ (at next end : ℕ) (x : Changed) where
+  pub after-broken : (r : Refusal) → x .verdict ≡ BrokenRule r
+      → record { at = at; live = x .live; made = x .made; own = x .own; ending = 2; why = r .code } ≡ placeAfter at next end x
   unfolding placeAfter
   after-broken r e = rw e
 
-  pub after-going : a .verdict ≡ Fine → next < end → record { at = next; live = a .live; made = a .made; ending = Going } ≡ placeAfter at next end a
+  pub after-going : x .verdict ≡ Fine → next < end → record { at = next; live = x .live; made = x .made; own = x .own; ending = 0; why = 0 } ≡ placeAfter at next end x
   unfolding placeAfter
   after-going e h = rw (e, lt-ltb _ _ h)
 
-  pub after-done : a .verdict ≡ Fine → end ≤ next → record { at = next; live = a .live; made = a .made; ending = Done } ≡ placeAfter at next end a
+  pub after-done : x .verdict ≡ Fine → end ≤ next → record { at = next; live = x .live; made = x .made; own = x .own; ending = 1; why = 0 } ≡ placeAfter at next end x
   unfolding placeAfter
   after-done e h = rw (e, le-ltb _ _ h)
 
@@ -91,11 +94,15 @@ pub ruleset going-after = (after-broken, after-going, after-done, needs)
 
 -- ---- step_packet
 
-module _ (b : List ℕ) (end n : ℕ) (e : List ℕ) (p : PacketsPlace) (l c : List ℕ) (f : Frame) (framed : f ≡ frame-of (drop (p .at) b)) where
-  pub step-misframed : (r : Refusal) → Room n (p .live) (p .made) → f ≡ Misframed r
-      → PacketStepped b end n e p l c (record { at = p .at; live = p .live; made = p .made; ending = Broken r }) l c
+by-end : (t : Bool) → endingOf (pick t 0 1) 0 ≡ pick t Going Done
+by-end true = is-going 0 0 refl
+by-end false = is-done 1 0 refl
+
+module _ (b : List ℕ) (end n : ℕ) (e : List ℕ) (p : PacketsPlace) (r l c : List ℕ) (f : Frame) (framed : f ≡ frame-of (drop (p .at) b)) where
+  pub step-misframed : (why : Refusal) → Room n (p .live) (p .made) → f ≡ Misframed why
+      → PacketStepped b end n e p r l c (record { at = p .at; live = p .live; made = p .made; own = p .own; ending = 2; why = why .code }) l c
   unfolding play-step take-packet
-  step-misframed r room q = record { step = rw (← framed, q); room = room }
+  step-misframed why room q = record { step = rw (is-broken 2 (why .code) (omega arith) (omega arith), ← framed, q); room = room }
 
   module _ (op size : ℕ) (q : f ≡ Whole op size) where
     whole : frame-of (drop (p .at) b) ≡ Whole op size
@@ -109,31 +116,33 @@ module _ (b : List ℕ) (end n : ℕ) (e : List ℕ) (p : PacketsPlace) (l c : L
         let s : Sound (drop (p .at) b) op size = frame-sound (drop (p .at) b) op size whole in
         record { fits = omega (arith, s .inside, s .header, length-drop (p .at) b) }
 
-    applied-as : (x : Packet) → x ≡ packet-of op (take size (drop (p .at) b)) → take-packet (entriesOf n e) (holdingsOf (p .live) l (p .made) c) (drop (p .at) b) ≡ apply (entriesOf n e) (holdingsOf (p .live) l (p .made) c) x
+    applied-as : (k : Packet) → k ≡ packet-of op (take size (drop (p .at) b))
+        → take-packet (entriesOf n e) (holdingsOf (p .live) (pick (p .own) l r) (p .made) c) (drop (p .at) b) ≡ apply (entriesOf n e) (holdingsOf (p .live) (pick (p .own) l r) (p .made) c) k
     unfolding take-packet
-    applied-as x same = rw (whole, same)
+    applied-as k same = rw (whole, same)
 
-    after-verdict : (o : Outcome) (a : Applied) (l′ c′ : List ℕ) (next : ℕ) (v : Verdict) → record { verdict = a .verdict; held = holdingsOf (a .live) l′ (a .made) c′ } ≡ o → a .verdict ≡ v
-        → playingOf (after-by (p .at) next end a v) l′ c′ ≡ play-on (p .at) next end (o .held) v
-    after-verdict o a l′ c′ next Fine h g = ap (λ (y : Outcome). record { at = next; held = y .held; ending = ending-at next end }) h
-    after-verdict o a l′ c′ next (BrokenRule r) h g = ap (λ (y : Outcome). record { at = p .at; held = y .held; ending = Broken r }) h
+    after-verdict : (o : Outcome) (x : Changed) (l′ c′ : List ℕ) (next : ℕ) (v : Verdict) → record { verdict = x .verdict; held = holdingsOf (x .live) (pick (x .own) l′ r) (x .made) c′ } ≡ o
+        → playingOf (after-by (p .at) next end x v) r l′ c′ ≡ play-on (p .at) next end (o .held) v
+    after-verdict o x l′ c′ next Fine h = rw (by-end (ltb next end)) (ap (λ (y : Outcome). record { at = next; held = y .held; ending = ending-at next end }) h)
+    after-verdict o x l′ c′ next (BrokenRule why) h =
+        rw (is-broken 2 (why .code) (omega arith) (omega arith)) (ap (λ (y : Outcome). record { at = p .at; held = y .held; ending = Broken why }) h)
 
-    after-room : (a : Applied) (next : ℕ) (v : Verdict) → n ≤ most → a .live ≤ most → a .made ≤ most → Room n (after-by (p .at) next end a v .live) (after-by (p .at) next end a v .made)
-    after-room a next Fine h i j = record { entries = h; live = i; made = j }
-    after-room a next (BrokenRule r) h i j = record { entries = h; live = i; made = j }
+    after-room : (x : Changed) (next : ℕ) (v : Verdict) → n ≤ most → x .live ≤ most → x .made ≤ most → Room n (after-by (p .at) next end x v .live) (after-by (p .at) next end x v .made)
+    after-room x next Fine h i j = record { entries = h; live = i; made = j }
+    after-room x next (BrokenRule why) h i j = record { entries = h; live = i; made = j }
 
-    pub step-applied : (x : Packet) (a : Applied) (k : ℕ) (r : PacketsPlace) (l′ c′ : List ℕ) → Room n (p .live) (p .made) → k ≡ size → x ≡ packet-of op (take size (drop (p .at) b))
-        → Applies (apply (entriesOf n e) (holdingsOf (p .live) l (p .made) c) x) a l′ c′ → r ≡ placeAfter (p .at) (p .at + k) end a → PacketStepped b end n e p l c r l′ c′
+    pub step-applied : (k : Packet) (x : Changed) (i : ℕ) (y : PacketsPlace) (l′ c′ : List ℕ) → Room n (p .live) (p .made) → i ≡ size → k ≡ packet-of op (take size (drop (p .at) b))
+        → Changes (apply (entriesOf n e) (holdingsOf (p .live) (pick (p .own) l r) (p .made) c) k) r x l′ c′ → y ≡ placeAfter (p .at) (p .at + i) end x → PacketStepped b end n e p r l c y l′ c′
     unfolding play-step placeAfter
-    step-applied x a k r l′ c′ room same read ap′ is =
-        let o : Outcome = apply (entriesOf n e) (holdingsOf (p .live) l (p .made) c) x in
-        let verdict : a .verdict ≡ o .verdict = ap (λ (y : Outcome). y .verdict) (ap′ .outcome) in
+    step-applied k x i y l′ c′ room same read change is =
+        let o : Outcome = apply (entriesOf n e) (holdingsOf (p .live) (pick (p .own) l r) (p .made) c) k in
+        let verdict : x .verdict ≡ o .verdict = ap (λ (z : Outcome). z .verdict) (change .outcome) in
         record {
           step =
-              ap (λ (y : PacketsPlace). playingOf y l′ c′) is
-              ∙ (after-verdict o a l′ c′ (p .at + k) (a .verdict) (ap′ .outcome) refl
-              ∙ rw (applied-as x read, whole, ← verdict, same));
-          room = rw is (after-room a (p .at + k) (a .verdict) (room .entries) (ap′ .live) (ap′ .made));
+              ap (λ (z : PacketsPlace). playingOf z r l′ c′) is
+              ∙ (after-verdict o x l′ c′ (p .at + i) (x .verdict) (change .outcome)
+              ∙ rw (applied-as k read, whole, ← verdict, same));
+          room = rw is (after-room x (p .at + i) (x .verdict) (room .entries) (change .live) (change .made));
         }
 
 pub ruleset stepping-packet = (step-misframed, is-framed, next-fits, step-applied, needs)

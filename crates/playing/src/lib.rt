@@ -1,9 +1,10 @@
 // The phase of packets: one a unit, from the stream's own part of the memory lent at that unit.
 use entry_rows::Entries;
+use packets::apply::Changed;
 use packets::apply::apply_packet;
-use phases::ending::Ending;
-use phases::ending::goes;
-use ranges::applied::Applied;
+use phases::ending::BROKEN;
+use phases::ending::DONE;
+use phases::ending::GOING;
 use records::Records;
 use rooms::resources::Resources;
 use rules::Frame;
@@ -16,12 +17,15 @@ ghost use Prim.Native.Nat.{_+_, _≤_, _^_, _<_};
 ghost use Rattle.ranges.specs.Views.{Room};
 ghost use Rattle.playing.specs.Playing.{placeAfter, PacketStepped, PacketsRan};
 
-// Where the packets stand: the place in the stream, how many resources and records are held.
+// Where the packets stand: the place in the stream, how many resources and records are held, whether the resources are in the
+// submission's own table, how the phase stands, and the number of a rule that is broken, 0 otherwise.
 pub struct PacketsPlace {
     pub at: usize,
     pub live: usize,
     pub made: usize,
-    pub ending: Ending,
+    pub own: bool,
+    pub ending: u32,
+    pub why: u32,
 }
 
 pub struct PacketsRun {
@@ -30,31 +34,37 @@ pub struct PacketsRun {
 }
 
 // The place after a packet of the stream: the next one, the end, or where it was refused.
-fn place_after(at: usize, next: usize, end: usize, a: Applied) -> PacketsPlace
-    ensures { λ r. ⌜ r ≡ placeAfter at next end a ⌝ }
+fn place_after(at: usize, next: usize, end: usize, x: Changed) -> PacketsPlace
+    ensures { λ r. ⌜ r ≡ placeAfter at next end x ⌝ }
 {
-    let verdict = a.verdict;
+    let verdict = x.verdict;
     match verdict {
         Verdict::Broken(why) => PacketsPlace {
             at,
-            live: a.live,
-            made: a.made,
-            ending: Ending::Broken(why),
+            live: x.live,
+            made: x.made,
+            own: x.own,
+            ending: BROKEN,
+            why: why.code,
         },
         Verdict::Fine => {
             if next < end {
                 return PacketsPlace {
                     at: next,
-                    live: a.live,
-                    made: a.made,
-                    ending: Ending::Going,
+                    live: x.live,
+                    made: x.made,
+                    own: x.own,
+                    ending: GOING,
+                    why: 0,
                 };
             }
             PacketsPlace {
                 at: next,
-                live: a.live,
-                made: a.made,
-                ending: Ending::Done,
+                live: x.live,
+                made: x.made,
+                own: x.own,
+                ending: DONE,
+                why: 0,
             }
         }
     }
@@ -66,12 +76,13 @@ fn step_packet(
     end: usize,
     entries: &Entries,
     n: usize,
-    rooms: &mut Resources,
+    rooms: &Resources,
+    held: &mut Resources,
     records: &mut Records,
     p: PacketsPlace,
 ) -> PacketsPlace
     requires { ⌜ Room n (p .live) (p .made) ⌝ }
-    ensures { λ r. ⌜ PacketStepped (now (stream .entry)) end n (now (entries .entry)) p (now (rooms .entry)) (now (records .entry)) r (now (rooms .exit)) (now (records .exit)) ⌝ }
+    ensures { λ r. ⌜ PacketStepped (now (stream .entry)) end n (now (entries .entry)) p (now (rooms .entry)) (now (held .entry)) (now (records .entry)) r (now (held .exit)) (now (records .exit)) ⌝ }
 {
     let at = p.at;
     match frame_at(stream, at) {
@@ -79,39 +90,52 @@ fn step_packet(
             at,
             live: p.live,
             made: p.made,
-            ending: Ending::Broken(why),
+            own: p.own,
+            ending: BROKEN,
+            why: why.code,
         },
         Frame::Whole(op, size) => {
             let packet = packet_at(stream, at, op, size);
-            let a = apply_packet(entries, n, rooms, p.live, records, p.made, packet);
-            place_after(at, at + index(size), end, a)
+            let x = apply_packet(
+                entries,
+                n,
+                rooms,
+                held,
+                p.own,
+                p.live,
+                records,
+                p.made,
+                packet,
+            );
+            place_after(at, at + index(size), end, x)
         }
     }
 }
 
-// Packets, one a unit, until the allowance is spent, the stream is done or a rule is broken.
+// Packets, one a unit, until the allowance is spent, the stream is done or a rule is broken. `rooms` is the device's table of
+// resources, `held` the submission's own.
 pub fn read_packets(
     stream: &[u8],
     end: usize,
     entries: &Entries,
     n: usize,
-    rooms: &mut Resources,
+    rooms: &Resources,
+    held: &mut Resources,
     records: &mut Records,
     from: PacketsPlace,
     allowance: u16,
 ) -> PacketsRun
-    requires { ⌜ Room n (from .live) (from .made) ⌝ }
-    ensures { λ r. ⌜ PacketsRan (now (stream .entry)) end n (now (entries .entry)) from (now (rooms .entry)) (now (records .entry)) allowance r (now (rooms .exit)) (now (records .exit)) ⌝ }
+    requires { ⌜ Room n (from .live) (from .made) × (from .ending ≡ 0) ⌝ }
+    ensures { λ r. ⌜ PacketsRan (now (stream .entry)) end n (now (entries .entry)) from (now (rooms .entry)) (now (held .entry)) (now (records .entry)) allowance r (now (held .exit)) (now (records .exit)) ⌝ }
 {
     let mut p = from;
     let mut units: u16 = 0;
     while units < allowance {
-        let e = p.ending;
-        if !goes(e) {
+        p = step_packet(stream, end, entries, n, rooms, held, records, p);
+        units += 1;
+        if p.ending != GOING {
             return PacketsRun { place: p, units };
         }
-        p = step_packet(stream, end, entries, n, rooms, records, p);
-        units += 1;
     }
     PacketsRun { place: p, units }
 }

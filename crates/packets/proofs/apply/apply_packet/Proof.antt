@@ -6,32 +6,32 @@ use Rattle.packets.proofs.apply.apply_packet.Tie as tie
 enum-known-p : tie.Need-enum-known-p
 enum-known-p c = search needs
 
-on-buffer-requires : tie.Need-on-buffer-requires
-on-buffer-requires c κs = search needs
+make-buffer-requires : tie.Need-make-buffer-requires
+make-buffer-requires c κs = search needs
 
 enum-known-p-2 : tie.Need-enum-known-p-2
 enum-known-p-2 c = search needs
 
-on-texture-requires : tie.Need-on-texture-requires
-on-texture-requires c κs = search needs
+make-texture-requires : tie.Need-make-texture-requires
+make-texture-requires c κs = search needs
 
 enum-known-p-3 : tie.Need-enum-known-p-3
 enum-known-p-3 c = search needs
 
-on-destroy-requires : tie.Need-on-destroy-requires
-on-destroy-requires c κs = search needs
+destroy-requires : tie.Need-destroy-requires
+destroy-requires c κs = search needs
 
 enum-known-p-4 : tie.Need-enum-known-p-4
 enum-known-p-4 c = search needs
 
-on-dirty-requires : tie.Need-on-dirty-requires
-on-dirty-requires c κs = search needs
+dirty-requires : tie.Need-dirty-requires
+dirty-requires c κs = search needs
 
 enum-known-p-5 : tie.Need-enum-known-p-5
 enum-known-p-5 c = search needs
 
-on-copy-requires : tie.Need-on-copy-requires
-on-copy-requires c κs = search needs
+copy-requires : tie.Need-copy-requires
+copy-requires c κs = search needs
 
 enum-told : tie.Need-enum-told
 enum-told c = search needs
@@ -59,15 +59,15 @@ apply-packet-spec =
     tie.close
     (tie.spec
     enum-known-p
-    on-buffer-requires
+    make-buffer-requires
     enum-known-p-2
-    on-texture-requires
+    make-texture-requires
     enum-known-p-3
-    on-destroy-requires
+    destroy-requires
     enum-known-p-4
-    on-dirty-requires
+    dirty-requires
     enum-known-p-5
-    on-copy-requires
+    copy-requires
     enum-told
     returns
     returns-2
