@@ -12,7 +12,7 @@ use Rattle.rules.specs.Numbers.{bad-handle, too-many, bad-shape, not-in-table, 
 use Rattle.rules.specs.Lists.{pushed, indexOf}
 use Rattle.rules.specs.Lists.Found.{found}
 use Rattle.rules.specs.Table.{entry-id, matching}
-use Rattle.rules.specs.Packets.{Holdings, Outcome, accepted, refused, refuse, full, handle-of, kind-bytes, range-of, recorded, stored, create-hosted, create-backed, create}
+use Rattle.rules.specs.Packets.{Holdings, Outcome, accepted, refused, refuse, full, handle-of, range-of, recorded, stored, create-hosted, create-backed, create}
 use Rattle.rules.specs.declared.Entry.{Entry}
 use Rattle.rules.specs.declared.Resource.{Resource}
 use Rattle.rules.specs.declared.Record.{Record}
@@ -38,13 +38,13 @@ module _ (live made : ℕ) (rooms : List ℕ) (r : Resource) (room : (live ≤ m
       → (l : List ℕ) → Applies (create-hosted (holdingsOf live rooms made l) r) a rooms l
   unfolding create-hosted
   hosted-full a h e l =
-      stays live made too-many rooms l _ a (room .0) (room .1) e (rw (length-table resourceOf 10 live rooms, le-leb _ _ h))
+      stays live made too-many rooms l _ a (room .0) (room .1) e (rw (length-table resourceOf 11 live rooms, le-leb _ _ h))
 
   pub hosted-stored : (m : List ℕ) → live < most → resourcesOf (live + 1) m ≡ pushed (resourcesOf live rooms) r
       → (l : List ℕ) → Applies (create-hosted (holdingsOf live rooms made l) r) (record { verdict = Fine; live = live + 1; made = made }) m l
   unfolding create-hosted
   hosted-stored m h e l =
-      record { outcome = rw (length-table resourceOf 10 live rooms, lt-leb _ _ h, e); live = omega arith; made = room .1 }
+      record { outcome = rw (length-table resourceOf 11 live rooms, lt-leb _ _ h, e); live = omega arith; made = room .1 }
 
 pub ruleset hosting = (hosted-full, hosted-stored, needs)
 
@@ -62,7 +62,7 @@ module _ (live made : ℕ) (rooms records : List ℕ) (r : Resource) (c : Record
       → Applies (store-backed (holdingsOf live rooms made records) r c) a rooms records
   unfolding store-backed
   no-room a h told =
-      stays live made too-many rooms records _ a (room .0) (room .1) told (rw (length-table resourceOf 10 live rooms, le-leb _ _ h))
+      stays live made too-many rooms records _ a (room .0) (room .1) told (rw (length-table resourceOf 11 live rooms, le-leb _ _ h))
 
   module _ (h : live < most) where
     pub no-record-room : (a : Applied) → most ≤ made → a ≡ refusedWith too-many live made
@@ -70,14 +70,14 @@ module _ (live made : ℕ) (rooms records : List ℕ) (r : Resource) (c : Record
     unfolding store-backed
     no-record-room a p told =
         stays live made too-many rooms records _ a (room .0) (room .1) told
-        (rw (length-table resourceOf 10 live rooms, lt-leb _ _ h, length-table recordOf 5 made records, le-leb _ _ p))
+        (rw (length-table resourceOf 11 live rooms, lt-leb _ _ h, length-table recordOf 5 made records, le-leb _ _ p))
 
     pub both-stored : (rooms′ records′ : List ℕ) → made < most → resourcesOf (live + 1) rooms′ ≡ pushed (resourcesOf live rooms) r → recordsOf (made + 1) records′ ≡ pushed (recordsOf made records) c
         → Applies (store-backed (holdingsOf live rooms made records) r c) (record { verdict = Fine; live = live + 1; made = made + 1 }) rooms′ records′
     unfolding store-backed
     both-stored rooms′ records′ p s t =
         record {
-          outcome = rw (length-table resourceOf 10 live rooms, lt-leb _ _ h, length-table recordOf 5 made records, lt-leb _ _ p, s, t);
+          outcome = rw (length-table resourceOf 11 live rooms, lt-leb _ _ h, length-table recordOf 5 made records, lt-leb _ _ p, s, t);
           live = omega arith;
           made = omega arith;
         }
@@ -93,36 +93,36 @@ module _ (n live made : ℕ) (es rooms records : List ℕ) (r : Resource) (room 
   backed-nowhere a h told =
       stays live made not-in-table rooms records _ a (room .live) (room .made) told (rw (entry-missing n i (r .backing) es place h))
 
-  module _ (h : i < n) (e : Entry) (read : RowRead (rowAt 4 es i) e) (bytes : ℕ) (weighed : bytes ≡ kind-bytes (r .kind) (r .pitch)) where
+  module _ (h : i < n) (e : Entry) (read : RowRead (rowAt 4 es i) e) where
     matched : matching (r .backing) (entriesOf n es) ≡ found e
     matched = entry-found n i (r .backing) es place h ∙ ap found (sym (read .entry))
 
     -- what the rules ask once the entry is found
     in-entry : create-backed (entriesOf n es) (holdingsOf live rooms made records) r
-        ≡ refuse past-entry (ltb (e .size) (r .offset + bytes)) (holdingsOf live rooms made records)
-        (store-backed (holdingsOf live rooms made records) r (range-of backs r e 0 bytes))
+        ≡ refuse past-entry (ltb (e .size) (r .offset + r .bytes)) (holdingsOf live rooms made records)
+        (store-backed (holdingsOf live rooms made records) r (range-of backs r e 0 (r .bytes)))
     unfolding create-backed store-backed
-    in-entry = rw (matched, weighed)
+    in-entry = rw matched
 
-    past : (a : Applied) → e .size < r .offset + bytes → a ≡ refusedWith past-entry live made
+    past : (a : Applied) → e .size < r .offset + r .bytes → a ≡ refusedWith past-entry live made
         → Applies (create-backed (entriesOf n es) (holdingsOf live rooms made records) r) a rooms records
     past a p told =
         stays live made past-entry rooms records _ a (room .live) (room .made) told (rw (in-entry, lt-ltb _ _ p))
 
-    pub backed-long : (a : Applied) → e .size < bytes → a ≡ refusedWith past-entry live made
+    pub backed-long : (a : Applied) → e .size < r .bytes → a ≡ refusedWith past-entry live made
         → Applies (create-backed (entriesOf n es) (holdingsOf live rooms made records) r) a rooms records
     backed-long a p told = past a (omega arith) told
 
-    module _ (p : bytes ≤ e .size) where
-      pub backed-past : (a : Applied) → e .size - bytes < r .offset → a ≡ refusedWith past-entry live made
+    module _ (p : r .bytes ≤ e .size) where
+      pub backed-past : (a : Applied) → e .size - r .bytes < r .offset → a ≡ refusedWith past-entry live made
           → Applies (create-backed (entriesOf n es) (holdingsOf live rooms made records) r) a rooms records
       backed-past a q told = past a (omega arith) told
 
-      pub backed-inside : (a : Applied) (rooms′ records′ : List ℕ) → r .offset ≤ e .size - bytes
-          → Applies (store-backed (holdingsOf live rooms made records) r (record { kind = backs; handle = r .handle; id = r .backing; gpa = e .gpa + r .offset; length = bytes })) a rooms′ records′
+      pub backed-inside : (a : Applied) (rooms′ records′ : List ℕ) → r .offset ≤ e .size - r .bytes
+          → Applies (store-backed (holdingsOf live rooms made records) r (record { kind = backs; handle = r .handle; id = r .backing; gpa = e .gpa + r .offset; length = r .bytes })) a rooms′ records′
           → Applies (create-backed (entriesOf n es) (holdingsOf live rooms made records) r) a rooms′ records′
       backed-inside a rooms′ records′ q s =
-          let fits : r .offset + bytes ≤ e .size = omega arith in
+          let fits : r .offset + r .bytes ≤ e .size = omega arith in
           rw (in-entry, le-ltb _ _ fits, add-zero) s
 
 pub ruleset backing = (backed-nowhere, backed-long, backed-past, backed-inside, needs)

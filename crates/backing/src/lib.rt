@@ -5,7 +5,6 @@ use entry_rows::find_entry;
 use placing::storing::push_resource;
 use ranges::applied::Applied;
 use ranges::applied::refuse;
-use ranges::bytes::resource_bytes;
 use records::Records;
 use records::push_record;
 use rooms::resources::Resources;
@@ -91,13 +90,11 @@ fn create_backed(
         return refuse(NOT_IN_TABLE, live, made);
     }
     let e = entry_row(entries, place);
-    let kind = r.kind;
-    let bytes = resource_bytes(kind, r.pitch);
     let offset = r.offset as u64;
-    if bytes > e.size {
+    if r.bytes > e.size {
         return refuse(PAST_ENTRY, live, made);
     }
-    if offset > e.size - bytes {
+    if offset > e.size - r.bytes {
         return refuse(PAST_ENTRY, live, made);
     }
     let c = Record {
@@ -105,7 +102,7 @@ fn create_backed(
         handle: r.handle,
         id: r.backing,
         gpa: e.gpa + offset,
-        length: bytes,
+        length: r.bytes,
     };
     store_backed(rooms, live, records, made, r, c)
 }

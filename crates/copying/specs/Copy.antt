@@ -12,14 +12,14 @@ use Rattle.rules.specs.Numbers.{bad-handle, not-in-table, past-entry, read-only
 use Rattle.rules.specs.Lists.{Found, indexOf, lookup}
 use Rattle.rules.specs.Lists.Found.{none, found}
 use Rattle.rules.specs.Table.{matching}
-use Rattle.rules.specs.Packets.{Holdings, Outcome, accepted, refused, refuse, handle-of, resource-bytes, on-buffer, on-kind, hand-out, write-back, on-copy-packet}
+use Rattle.rules.specs.Packets.{Holdings, Outcome, accepted, refused, refuse, handle-of, on-buffer, on-kind, hand-out, write-back, on-copy-packet}
 use Rattle.rules.specs.declared.Entry.{Entry}
 use Rattle.rules.specs.declared.Resource.{Resource}
 use Rattle.rules.specs.declared.Shape.{Shape}
 use Rattle.rules.specs.declared.Record.{Record}
 use Rattle.rules.specs.declared.CopyBuffer.{CopyBuffer}
 use Rattle.rules.specs.declared.Kind.{Kind}
-use Rattle.rules.specs.declared.Kind.the-variants.{Bytes, Picture}
+use Rattle.rules.specs.declared.Kind.the-variants.{Buffer, Texture}
 use Rattle.rows.specs.Rows.{rowAt}
 use Rattle.entry_rows.specs.Views.{entriesOf}
 use Rattle.rooms.specs.Views.{resourceOf, resourcesOf, holdingsOf}
@@ -35,8 +35,8 @@ use Rattle.copying.specs.declared.copy.Sought.the-variants.{NoBuffer, Li
 -- ---- live_buffer
 
 abbrev kind-sought : Resource → Kind → Sought
-kind-sought r (Bytes n) = Live r n
-kind-sought r (Picture s) = NoBuffer
+kind-sought r Buffer = Live r
+kind-sought r (Texture s) = NoBuffer
 
 -- what a handle names, by the live resource that has it
 unfoldable pub bufferOf : Found Resource → Sought
@@ -48,55 +48,41 @@ module _ (live i k : ℕ) (l : List ℕ) (place : i ≡ indexOf handle-of k (res
   unfolding bufferOf
   seeks-nothing p = rw (resource-missing live i k l place p)
 
-  module _ (p : i < live) (r : Resource) (row : r ≡ resourceOf (rowAt 10 l i)) where
+  module _ (p : i < live) (r : Resource) (row : r ≡ resourceOf (rowAt 11 l i)) where
     here : lookup handle-of k (resourcesOf live l) ≡ found r
     here = resource-found live i k l place p ∙ ap found (sym row)
 
-    pub seeks-buffer : (n : ℕ) → r .kind ≡ Bytes n → Live r n ≡ bufferOf (lookup handle-of k (resourcesOf live l))
+    pub seeks-buffer : r .kind ≡ Buffer → Live r ≡ bufferOf (lookup handle-of k (resourcesOf live l))
     unfolding bufferOf
-    seeks-buffer n e = rw (here, e)
+    seeks-buffer e = rw (here, e)
 
-    pub seeks-texture : (s : Shape) → r .kind ≡ Picture s → NoBuffer ≡ bufferOf (lookup handle-of k (resourcesOf live l))
+    pub seeks-texture : (s : Shape) → r .kind ≡ Texture s → NoBuffer ≡ bufferOf (lookup handle-of k (resourcesOf live l))
     unfolding bufferOf
     seeks-texture s e = rw (here, e)
 
 pub ruleset seeking = (seeks-nothing, seeks-buffer, seeks-texture, needs)
 
-live-not-none : (r : Resource) (n : ℕ) → NoBuffer ≡ Live r n → ⊥
-live-not-none r n e = let z : _≡_ {A = ℕ} 0 1 = cc in omega arith
+live-not-none : (r : Resource) → NoBuffer ≡ Live r → ⊥
+live-not-none r e = let z : _≡_ {A = ℕ} 0 1 = cc in omega arith
 
 -- "18 .. not a live buffer"
 kind-refused : (r : Resource) (k : Kind) (h : Holdings) (later : Outcome) → kind-sought r k ≡ NoBuffer → on-kind k h later ≡ refused bad-handle h
-kind-refused r (Bytes n) h later e = absurd (live-not-none r n (sym e))
-kind-refused r (Picture s) h later e = refl
+kind-refused r Buffer h later e = absurd (live-not-none r (sym e))
+kind-refused r (Texture s) h later e = refl
 
 no-buffer : (f : Found Resource) (h : Holdings) (later : Resource → Outcome) → bufferOf f ≡ NoBuffer → on-buffer f h later ≡ refused bad-handle h
 unfolding bufferOf
 no-buffer none h later e = refl
 no-buffer (found r) h later e = kind-refused r (r .kind) h (later r) e
 
-kind-live : (r d : Resource) (k : Kind) (n : ℕ) → kind-sought r k ≡ Live d n → (r ≡ d) × (k ≡ Bytes n)
-kind-live r d (Bytes m) n e = (cc, cc)
-kind-live r d (Picture s) n e = absurd (live-not-none d n e)
+kind-then : (r d : Resource) (k : Kind) (h : Holdings) (later : Resource → Outcome) → kind-sought r k ≡ Live d → on-kind k h (later r) ≡ later d
+kind-then r d Buffer h later e = let same : r ≡ d = cc in rw same
+kind-then r d (Texture s) h later e = absurd (live-not-none d e)
 
-live-kind : (f : Found Resource) (d : Resource) (n : ℕ) → bufferOf f ≡ Live d n → (f ≡ found d) × (d .kind ≡ Bytes n)
+buffer-then : (f : Found Resource) (d : Resource) (h : Holdings) (later : Resource → Outcome) → bufferOf f ≡ Live d → on-buffer f h later ≡ later d
 unfolding bufferOf
-live-kind none d n e = absurd (live-not-none d n e)
-live-kind (found r) d n e =
-    let both = kind-live r d (r .kind) n e in
-    (ap found (both .0), ap (λ x. x .kind) (sym (both .0)) ∙ both .1)
-
-buffer-then : (f : Found Resource) (d : Resource) (n : ℕ) (h : Holdings) (later : Resource → Outcome) → bufferOf f ≡ Live d n → on-buffer f h later ≡ later d
-buffer-then f d n h later e =
-    let both = live-kind f d n e in
-    let place : f ≡ found d = both .0 in
-    let kind : d .kind ≡ Bytes n = both .1 in
-    rw (place, kind)
-
-buffer-bytes : (f : Found Resource) (d : Resource) (n : ℕ) → bufferOf f ≡ Live d n → resource-bytes d ≡ n
-buffer-bytes f d n e =
-    let kind : d .kind ≡ Bytes n = live-kind f d n e .1 in
-    rw kind
+buffer-then none d h later e = absurd (live-not-none d e)
+buffer-then (found r) d h later e = kind-then r d (r .kind) h later e
 
 -- ---- write_back
 
@@ -140,44 +126,44 @@ pub ruleset writing-back =
 -- ---- copy_between
 
 -- "26 same handle, or flags above 1; 24 dst, then src; with writeback on dst: .."
-unfoldable pub between : List Entry → CopyBuffer → Resource → ℕ → ℕ → Holdings → Outcome
-between es c d dstbytes srcbytes h =
+unfoldable pub between : List Entry → CopyBuffer → Resource → Resource → Holdings → Outcome
+between es c d s h =
     refuse bad-copy (eqb (c .dst) (c .src) || ltb 1 (c .flags)) h
-    (refuse past-resource (ltb dstbytes (c .dstoffset + c .size)) h
-    (refuse past-resource (ltb srcbytes (c .srcoffset + c .size)) h
+    (refuse past-resource (ltb (d .bytes) (c .dstoffset + c .size)) h
+    (refuse past-resource (ltb (s .bytes) (c .srcoffset + c .size)) h
     (pick (eqb (c .flags) 1) (write-back es h c d) (accepted h))))
 
-module _ (n : ℕ) (entries : List ℕ) (live made : ℕ) (records : List ℕ) (c : CopyBuffer) (d : Resource) (dstbytes srcbytes : ℕ) (room : Room n live made) where
-  pub copies-onto-itself : (a : Applied) → c .dst ≡ c .src → a ≡ refusedWith bad-copy live made → Hands (between (entriesOf n entries) c d dstbytes srcbytes) live made records a records
+module _ (n : ℕ) (entries : List ℕ) (live made : ℕ) (records : List ℕ) (c : CopyBuffer) (d s : Resource) (room : Room n live made) where
+  pub copies-onto-itself : (a : Applied) → c .dst ≡ c .src → a ≡ refusedWith bad-copy live made → Hands (between (entriesOf n entries) c d s) live made records a records
   unfolding between
   copies-onto-itself a p e = refused-hands bad-copy n live made records a room e _ (λ h. rw (eq-eqb _ _ p))
 
   module _ (p : c .dst ≡ c .src → ⊥) where
-    pub copies-other-flags : (a : Applied) → 1 < c .flags → a ≡ refusedWith bad-copy live made → Hands (between (entriesOf n entries) c d dstbytes srcbytes) live made records a records
+    pub copies-other-flags : (a : Applied) → 1 < c .flags → a ≡ refusedWith bad-copy live made → Hands (between (entriesOf n entries) c d s) live made records a records
     unfolding between
     copies-other-flags a q e = refused-hands bad-copy n live made records a room e _ (λ h. rw (ne-eqb _ _ p, lt-ltb _ _ q))
 
-    module _ (q : c .flags ≤ 1) (b : Bool) (is : b ≡ ltb dstbytes (c .dstoffset + c .size)) where
-      pub copies-past-dst : (a : Applied) → b ≡ true → a ≡ refusedWith past-resource live made → Hands (between (entriesOf n entries) c d dstbytes srcbytes) live made records a records
+    module _ (q : c .flags ≤ 1) (b : Bool) (is : b ≡ ltb (d .bytes) (c .dstoffset + c .size)) where
+      pub copies-past-dst : (a : Applied) → b ≡ true → a ≡ refusedWith past-resource live made → Hands (between (entriesOf n entries) c d s) live made records a records
       unfolding between
       copies-past-dst a t e = refused-hands past-resource n live made records a room e _ (λ h. rw (ne-eqb _ _ p, le-ltb _ _ q, ← is, t))
 
-      module _ (t : b ≡ false) (b′ : Bool) (is′ : b′ ≡ ltb srcbytes (c .srcoffset + c .size)) where
-        pub copies-past-src : (a : Applied) → b′ ≡ true → a ≡ refusedWith past-resource live made → Hands (between (entriesOf n entries) c d dstbytes srcbytes) live made records a records
+      module _ (t : b ≡ false) (b′ : Bool) (is′ : b′ ≡ ltb (s .bytes) (c .srcoffset + c .size)) where
+        pub copies-past-src : (a : Applied) → b′ ≡ true → a ≡ refusedWith past-resource live made → Hands (between (entriesOf n entries) c d s) live made records a records
         unfolding between
-        copies-past-src a s e = refused-hands past-resource n live made records a room e _ (λ h. rw (ne-eqb _ _ p, le-ltb _ _ q, ← is, t, ← is′, s))
+        copies-past-src a u e = refused-hands past-resource n live made records a room e _ (λ h. rw (ne-eqb _ _ p, le-ltb _ _ q, ← is, t, ← is′, u))
 
-        module _ (s : b′ ≡ false) where
-          passes : (h : Holdings) → between (entriesOf n entries) c d dstbytes srcbytes h ≡ pick (eqb (c .flags) 1) (written-back (entriesOf n entries) c d h) (accepted h)
+        module _ (u : b′ ≡ false) where
+          passes : (h : Holdings) → between (entriesOf n entries) c d s h ≡ pick (eqb (c .flags) 1) (written-back (entriesOf n entries) c d h) (accepted h)
           unfolding written-back between
-          passes h = rw (ne-eqb _ _ p, le-ltb _ _ q, ← is, t, ← is′, s)
+          passes h = rw (ne-eqb _ _ p, le-ltb _ _ q, ← is, t, ← is′, u)
 
           pub copies-back : (a : Applied) (after : List ℕ) → c .flags ≡ 1 → Hands (written-back (entriesOf n entries) c d) live made records a after
-              → Hands (between (entriesOf n entries) c d dstbytes srcbytes) live made records a after
+              → Hands (between (entriesOf n entries) c d s) live made records a after
           copies-back a after f hands =
               record { applies = λ rooms. rw (passes (holdingsOf live rooms made records), eq-eqb _ _ f) (hands .applies rooms) }
 
-          pub copies-only : (c .flags ≡ 1 → ⊥) → Hands (between (entriesOf n entries) c d dstbytes srcbytes) live made records (acceptedWith live made) records
+          pub copies-only : (c .flags ≡ 1 → ⊥) → Hands (between (entriesOf n entries) c d s) live made records (acceptedWith live made) records
           copies-only f =
               record { applies = λ rooms. record { outcome = sym (passes (holdingsOf live rooms made records) ∙ rw (ne-eqb _ _ f)); live = room .live; made = room .made } }
 
@@ -197,21 +183,21 @@ module _ (n : ℕ) (entries : List ℕ) (live : ℕ) (rooms : List ℕ) (made : 
   copies-no-dst a told e =
       refused-applies bad-handle n live made records a room e _ rooms (no-buffer _ _ _ (sym dst ∙ told))
 
-  module _ (d : Resource) (dstbytes : ℕ) (told : x ≡ Live d dstbytes) (y : Sought) (src : y ≡ bufferOf (lookup handle-of (c .src) (resourcesOf live rooms))) where
+  module _ (d : Resource) (told : x ≡ Live d) (y : Sought) (src : y ≡ bufferOf (lookup handle-of (c .src) (resourcesOf live rooms))) where
     pub copies-no-src : (a : Applied) → y ≡ NoBuffer → a ≡ refusedWith bad-handle live made → Copies n entries live rooms made records c a records
     unfolding on-copy-packet
     copies-no-src a gone e =
-        refused-applies bad-handle n live made records a room e _ rooms (buffer-then _ d dstbytes _ _ (sym dst ∙ told) ∙ no-buffer _ _ _ (sym src ∙ gone))
+        refused-applies bad-handle n live made records a room e _ rooms (buffer-then _ d _ _ (sym dst ∙ told) ∙ no-buffer _ _ _ (sym src ∙ gone))
 
-    module _ (s : Resource) (srcbytes : ℕ) (some : y ≡ Live s srcbytes) where
+    module _ (s : Resource) (some : y ≡ Live s) where
       both-live : on-copy-packet (entriesOf n entries) (holdingsOf live rooms made records) c
-          ≡ between (entriesOf n entries) c d (resource-bytes d) (resource-bytes s) (holdingsOf live rooms made records)
+          ≡ between (entriesOf n entries) c d s (holdingsOf live rooms made records)
       unfolding on-copy-packet between
-      both-live = buffer-then _ d dstbytes _ _ (sym dst ∙ told) ∙ buffer-then _ s srcbytes _ _ (sym src ∙ some)
+      both-live = buffer-then _ d _ _ (sym dst ∙ told) ∙ buffer-then _ s _ _ (sym src ∙ some)
 
-      pub copies-between : (a : Applied) (after : List ℕ) → Hands (between (entriesOf n entries) c d dstbytes srcbytes) live made records a after
+      pub copies-between : (a : Applied) (after : List ℕ) → Hands (between (entriesOf n entries) c d s) live made records a after
           → Copies n entries live rooms made records c a after
       copies-between a after hands =
-          rw (both-live, buffer-bytes _ d dstbytes (sym dst ∙ told), buffer-bytes _ s srcbytes (sym src ∙ some)) (hands .applies rooms)
+          rw both-live (hands .applies rooms)
 
 pub ruleset copying = (copies-no-dst, copies-no-src, copies-between, needs)

@@ -36,10 +36,10 @@ ghost use Rattle.copying.specs.Copy.{bufferOf, written-back, between};
 // The one flag of a copy, which asks for writeback.
 const WRITEBACK: u32 = 1;
 
-// What a handle names: no live buffer, or one and its bytes.
+// What a handle names: no live buffer, or one.
 enum Sought {
     NoBuffer,
-    Live(Resource, u64),
+    Live(Resource),
 }
 
 // Looks for the live buffer that has a handle.
@@ -54,8 +54,8 @@ fn live_buffer(rooms: &Resources, live: usize, handle: u32) -> Sought
     let r = resource_row(rooms, place);
     let kind = r.kind;
     match kind {
-        Kind::Bytes(bytes) => Sought::Live(r, bytes),
-        Kind::Picture(_) => Sought::NoBuffer,
+        Kind::Buffer => Sought::Live(r),
+        Kind::Texture(_) => Sought::NoBuffer,
     }
 }
 
@@ -87,7 +87,7 @@ fn write_back(
     }
 }
 
-// Judges a copy between two live buffers, of which the destination and the bytes of both are known.
+// Judges a copy between two live buffers.
 fn copy_between(
     entries: &Entries,
     n: usize,
@@ -96,11 +96,10 @@ fn copy_between(
     live: usize,
     c: CopyBuffer,
     dst: Resource,
-    dstbytes: u64,
-    srcbytes: u64,
+    src: Resource,
 ) -> Applied
     requires { ⌜ Room n live made ⌝ }
-    ensures { λ r. ⌜ Hands (between (entriesOf n (now (entries .entry))) c dst dstbytes srcbytes) live made (now (records .entry)) r (now (records .exit)) ⌝ }
+    ensures { λ r. ⌜ Hands (between (entriesOf n (now (entries .entry))) c dst src) live made (now (records .entry)) r (now (records .exit)) ⌝ }
 {
     if c.dst == c.src {
         return refuse(BAD_COPY, live, made);
@@ -108,10 +107,10 @@ fn copy_between(
     if c.flags > WRITEBACK {
         return refuse(BAD_COPY, live, made);
     }
-    if beyond(c.dstoffset, c.size, dstbytes) {
+    if beyond(c.dstoffset, c.size, dst.bytes) {
         return refuse(PAST_RESOURCE, live, made);
     }
-    if beyond(c.srcoffset, c.size, srcbytes) {
+    if beyond(c.srcoffset, c.size, src.bytes) {
         return refuse(PAST_RESOURCE, live, made);
     }
     if c.flags == WRITEBACK {
@@ -139,19 +138,9 @@ pub fn on_copy(
 {
     match live_buffer(rooms, live, c.dst) {
         Sought::NoBuffer => refuse(BAD_HANDLE, live, made),
-        Sought::Live(dst, dstbytes) => match live_buffer(rooms, live, c.src) {
+        Sought::Live(dst) => match live_buffer(rooms, live, c.src) {
             Sought::NoBuffer => refuse(BAD_HANDLE, live, made),
-            Sought::Live(_, srcbytes) => copy_between(
-                entries,
-                n,
-                records,
-                made,
-                live,
-                c,
-                dst,
-                dstbytes,
-                srcbytes,
-            ),
+            Sought::Live(src) => copy_between(entries, n, records, made, live, c, dst, src),
         },
     }
 }

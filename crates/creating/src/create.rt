@@ -11,11 +11,11 @@ use rules::Kind;
 use rules::Resource;
 ghost use mathlib.Core.Path.{_≡_};
 ghost use Rattle.machine.specs.Machine.{pick};
-ghost use Rattle.rules.specs.Shapes.{good-shape, good-backed};
 ghost use Rattle.rules.specs.Packets.{backed, on-buffer-packet, on-texture-packet};
 ghost use Rattle.entry_rows.specs.Views.{entriesOf};
 ghost use Rattle.rooms.specs.Views.{holdingsOf};
 ghost use Rattle.ranges.specs.Views.{Applies, Room};
+ghost use Rattle.creating.specs.Create.{weighed};
 
 // A number that a host-backed resource ignores, and keeps as 0.
 fn backed_only(backing: u32, x: u32) -> u32
@@ -40,7 +40,8 @@ pub fn on_buffer(
     let good = c.size != 0;
     let r = Resource {
         handle: c.handle,
-        kind: Kind::Bytes(c.size),
+        kind: Kind::Buffer,
+        bytes: c.size,
         pitch: 0,
         backing: c.backing,
         offset: backed_only(c.backing, c.offset),
@@ -48,15 +49,28 @@ pub fn on_buffer(
     create(entries, n, rooms, live, records, made, good, r)
 }
 
-// Whether a texture's shape is good; in guest memory its pitch is asked too.
-fn good_texture(c: CreateTexture) -> bool
-    ensures { λ r. ⌜ r ≡ pick (backed (c .backing)) (good-backed (c .shape) (c .pitch)) (good-shape (c .shape)) ⌝ }
+// Whether a texture is good, and the bytes that it takes in guest memory.
+struct Weighed {
+    good: bool,
+    bytes: u64,
+}
+
+// Weighs a texture. One in guest memory has bytes exactly if its shape and its pitch are good; a host-backed one has none.
+fn weigh(c: CreateTexture) -> Weighed
+    ensures { λ r. ⌜ r ≡ weighed c ⌝ }
 {
     let shape = c.shape;
     if c.backing == 0 {
-        return shapes::good_shape(shape);
+        return Weighed {
+            good: shapes::good_shape(shape),
+            bytes: 0,
+        };
     }
-    shapes::good_backed(shape, c.pitch)
+    let bytes = sizes::packed_size_of(shape, c.pitch);
+    Weighed {
+        good: bytes != 0,
+        bytes,
+    }
 }
 
 // A new texture.
@@ -72,14 +86,15 @@ pub fn on_texture(
     requires { ⌜ Room n live made ⌝ }
     ensures { λ r. ⌜ Applies (on-texture-packet (entriesOf n (now (entries .entry))) (holdingsOf live (now (rooms .entry)) made (now (records .entry))) c) r (now (rooms .exit)) (now (records .exit)) ⌝ }
 {
-    let good = good_texture(c);
+    let w = weigh(c);
     let shape = c.shape;
     let r = Resource {
         handle: c.handle,
-        kind: Kind::Picture(shape),
+        kind: Kind::Texture(shape),
+        bytes: w.bytes,
         pitch: backed_only(c.backing, c.pitch),
         backing: c.backing,
         offset: backed_only(c.backing, c.offset),
     };
-    create(entries, n, rooms, live, records, made, good, r)
+    create(entries, n, rooms, live, records, made, w.good, r)
 }

@@ -10,7 +10,7 @@ use Rattle.rules.specs.Numbers.{bad-handle, not-in-table, past-entry, past-reso
 use Rattle.rules.specs.Lists.{indexOf, lookup}
 use Rattle.rules.specs.Lists.Found.{found}
 use Rattle.rules.specs.Table.{matching}
-use Rattle.rules.specs.Packets.{handle-of, kind-bytes, resource-bytes, hand-out, on-dirty-packet}
+use Rattle.rules.specs.Packets.{handle-of, hand-out, on-dirty-packet}
 use Rattle.rules.specs.declared.Resource.{Resource}
 use Rattle.rules.specs.declared.Record.{Record}
 use Rattle.rules.specs.declared.DirtyRange.{DirtyRange}
@@ -35,7 +35,7 @@ module _ (n : ℕ) (entries : List ℕ) (live : ℕ) (rooms : List ℕ) (made : 
   dirties-not-live a p e =
       refused-applies bad-handle n live made records a room e _ rooms (rw (resource-missing live i (c .handle) rooms place p))
 
-  module _ (p : i < live) (r : Resource) (row : r ≡ resourceOf (rowAt 10 rooms i)) where
+  module _ (p : i < live) (r : Resource) (row : r ≡ resourceOf (rowAt 11 rooms i)) where
     here : lookup handle-of (c .handle) (resourcesOf live rooms) ≡ found r
     here = resource-found live i (c .handle) rooms place p ∙ ap found (sym row)
 
@@ -44,14 +44,11 @@ module _ (n : ℕ) (entries : List ℕ) (live : ℕ) (rooms : List ℕ) (made : 
     dirties-hosted a q e =
         refused-applies host-backed n live made records a room e _ rooms (rw (here, eq-eqb _ _ q))
 
-    module _ (q : r .backing ≡ 0 → ⊥) (bytes : ℕ) (size : bytes ≡ kind-bytes (r .kind) (r .pitch)) (b : Bool) (is : b ≡ ltb bytes (c .offset + c .size)) where
-      past : ltb (resource-bytes r) (c .offset + c .size) ≡ b
-      past = ap (λ k. ltb k (c .offset + c .size)) (sym size) ∙ sym is
-
+    module _ (q : r .backing ≡ 0 → ⊥) (b : Bool) (is : b ≡ ltb (r .bytes) (c .offset + c .size)) where
       pub dirties-past : (a : Applied) → b ≡ true → a ≡ refusedWith past-resource live made → Dirties n entries live rooms made records c a records
       unfolding on-dirty-packet
       dirties-past a t e =
-          refused-applies past-resource n live made records a room e _ rooms (rw (here, ne-eqb _ _ q, past, t))
+          refused-applies past-resource n live made records a room e _ rooms (rw (here, ne-eqb _ _ q, ← is, t))
 
       module _ (t : b ≡ false) where
         module _ (x : Resolved) (resolved : x ≡ resolvedOf reads r (c .offset) (c .size) (matching (r .backing) (entriesOf n entries))) where
@@ -59,7 +56,7 @@ module _ (n : ℕ) (entries : List ℕ) (live : ℕ) (rooms : List ℕ) (made : 
               ≡ judged x (holdingsOf live rooms made records) (λ _ range. hand-out range (holdingsOf live rooms made records))
           unfolding on-dirty-packet
           judges =
-              rw (here, ne-eqb _ _ q, past, t, resolved)
+              rw (here, ne-eqb _ _ q, ← is, t, resolved)
               (entry-judged reads r (c .offset) (c .size) (matching (r .backing) (entriesOf n entries)) (holdingsOf live rooms made records) (λ _ range. hand-out range (holdingsOf live rooms made records)))
 
           pub dirties-missing : (a : Applied) → x ≡ Missing → a ≡ refusedWith not-in-table live made → Dirties n entries live rooms made records c a records

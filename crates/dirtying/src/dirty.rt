@@ -2,7 +2,6 @@
 use entry_rows::Entries;
 use ranges::applied::Applied;
 use ranges::applied::refuse;
-use ranges::bytes::resource_bytes;
 use ranges::handout::Resolved;
 use ranges::handout::beyond;
 use ranges::handout::hand_out;
@@ -44,9 +43,7 @@ pub fn on_dirty(
     if r.backing == 0 {
         return refuse(HOST_BACKED, live, made);
     }
-    let kind = r.kind;
-    let bytes = resource_bytes(kind, r.pitch);
-    if beyond(c.offset, c.size, bytes) {
+    if beyond(c.offset, c.size, r.bytes) {
         return refuse(PAST_RESOURCE, live, made);
     }
     match resolve(entries, n, READS, r, c.offset, c.size) {

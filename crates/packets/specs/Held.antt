@@ -1,13 +1,13 @@
 -- What is true of a submission's resources and records, whatever packets came: handles are non-zero and each once, at most 64 of
--- each, and every record lies inside the one entry with its id. Assumes nothing.
+-- each, every resource keeps the bytes of its kind, and every record lies inside the one entry with its id. Assumes nothing.
 use mathlib.Core.Path.{_≡_, refl, sym, ap, subst, _∙_}
 use mathlib.Core.List.{List, [], _∷_, _++_}
 use mathlib.Core.Logic.{⊎-elim}
-use Prim.Native.Nat.{ℕ, _+_, _≤_, _<_}
+use Prim.Native.Nat.{ℕ, zero, suc, _+_, _-_, _≤_, _<_}
 use native.Mathlib.Omega.{arith}
-use lib.ListN.{length, length-append}
+use lib.ListN.{length, take, drop, length-append}
 use Rattle.rules.specs.Numbers.{most}
-use Rattle.rules.specs.Lists.{Found, lookup, indexOf, pushed, removed}
+use Rattle.rules.specs.Lists.{Found, lookup, indexOf, over, pushed, removed}
 use Rattle.rules.specs.Lists.Found.{none, found}
 use Rattle.rules.specs.Table.{matching}
 use Rattle.rules.specs.Packets.{Holdings, Outcome, at-first, handle-of, live, range-of, take-packet}
@@ -16,9 +16,9 @@ use Rattle.rules.specs.declared.Resource.{Resource}
 use Rattle.rules.specs.declared.Record.{Record}
 use Rattle.rules.specs.declared.Refusal.{Refusal}
 use Rattle.rules.specs.declared.Verdict.the-variants.{Fine, Broken}
-use Rattle.rows.specs.Keys.{Once, once-pushed, once-removed, lookup-pushed-other, lookup-removed-other, length-removed, lookup-none, index-bound}
+use Rattle.rows.specs.Keys.{Once, once-nil, once-pushed, once-removed, lookup-nil, lookup-pushed-other, lookup-removed-other, length-removed, lookup-none, index-bound}
 use Rattle.words.specs.Over.{below-or-not}
-use Rattle.packets.specs.Effects.{Fresh, InRange, take-or}
+use Rattle.packets.specs.Effects.{KeepsBytes, Fresh, InRange, take-or}
 
 -- ---- every member of a list
 
@@ -31,10 +31,34 @@ module _ {A : Type 0} (P : A → Type 0) where
   unfolding Every
   every-none = omega arith
 
+  every-both : (xs ys : List A) → Every xs → Every ys → Every (xs ++ ys)
+  unfolding Every
+  every-both [] ys h k = k
+  every-both (x ∷ xs) ys h k = (h .0, every-both xs ys (h .1) k)
+
+  every-take : (n : ℕ) (xs : List A) → Every xs → Every (take n xs)
+  unfolding Every
+  every-take zero xs h = omega arith
+  every-take (suc n) [] h = h
+  every-take (suc n) (x ∷ xs) h = (h .0, every-take n xs (h .1))
+
+  every-drop : (n : ℕ) (xs : List A) → Every xs → Every (drop n xs)
+  unfolding Every
+  every-drop zero xs h = h
+  every-drop (suc n) [] h = h
+  every-drop (suc n) (x ∷ xs) h = every-drop n xs (h .1)
+
   pub every-pushed : (xs : List A) (x : A) → Every xs → P x → Every (pushed xs x)
   unfolding Every
-  every-pushed [] x h p = (p, h)
-  every-pushed (y ∷ ys) x h p = (h .0, every-pushed ys x (h .1) p)
+  every-pushed xs x h p = every-both xs (x ∷ []) h (p, every-none)
+
+  every-over : (at : ℕ) (b m : List A) → Every b → Every m → Every (over at b m)
+  unfolding over
+  every-over at b m h k = every-both (take at m) _ (every-take at m k) (every-both b _ h (every-drop (at + length b) m k))
+
+  pub every-removed : (i : ℕ) (xs : List A) → Every xs → Every (removed i xs)
+  unfolding removed
+  every-removed i xs h = every-take (length xs - 1) _ (every-over i (drop (length xs - 1) xs) xs (every-drop (length xs - 1) xs h) h)
 
 -- ---- ranges
 
@@ -56,6 +80,12 @@ pub record SoundResources (rs : List Resource) : Type 0 where
   pub once : Once handle-of rs
   -- none is 0
   pub some : lookup handle-of 0 rs ≡ none
+  -- each keeps the bytes of its kind
+  pub bytes : Every KeepsBytes rs
+
+-- no resources are sound
+pub none-sound : SoundResources []
+none-sound = record { few = omega arith; once = once-nil handle-of; some = lookup-nil handle-of 0; bytes = every-none KeepsBytes }
 
 pub record Sound (es : List Entry) (h : Holdings) : Type 0 where
   pub resources : SoundResources (h .resources)
@@ -85,6 +115,7 @@ module _ (es : List Entry) (h : Holdings) (s : Sound es h) where
         few = simp length-append (omega (arith, f .room));
         once = once-pushed handle-of (h .resources) r (s .resources .once) (f .unused);
         some = lookup-pushed-other handle-of 0 (h .resources) r (f .some) ∙ s .resources .some;
+        bytes = every-pushed KeepsBytes (h .resources) r (s .resources .bytes) (f .bytes);
       }
 
   range-inside : (kind : ℕ) (r : Resource) (e : Entry) (from size : ℕ) → InRange es h kind r e from size → Inside es (range-of kind r e from size)
@@ -106,6 +137,7 @@ module _ (es : List Entry) (h : Holdings) (s : Sound es h) where
             lookup-removed-other handle-of k 0 (indexOf handle-of k (h .resources)) (h .resources) (s .resources .once) refl here
             (λ z. none-not-found r (sym (s .resources .some) ∙ (ap (λ n. live n h) z ∙ e)))
             ∙ s .resources .some;
+        bytes = every-removed KeepsBytes (indexOf handle-of k (h .resources)) (h .resources) (s .resources .bytes);
       }
 
   abbrev SoundAfter : Outcome → Type 0

@@ -1,4 +1,4 @@
-// Resources stored, removed and copied, each a row of ten words.
+// Resources stored, removed and copied, each a row of eleven words.
 use rooms::resources::BUFFER;
 use rooms::resources::Resources;
 use rooms::resources::WORDS;
@@ -13,10 +13,10 @@ ghost use Rattle.rooms.specs.Views.{resourcesOf, flatKind};
 
 const TEXTURE: u64 = 1;
 
-// The six words of a kind.
+// The six words of a kind: its tag and its shape.
 struct FlatKind {
     tag: u64,
-    first: u64,
+    format: u64,
     width: u64,
     height: u64,
     mips: u64,
@@ -25,20 +25,20 @@ struct FlatKind {
 
 // A kind as words; those that a buffer does not use are 0.
 fn flat(kind: Kind) -> FlatKind
-    ensures { λ r. ⌜ flatKind (r .tag) (r .first) (r .width) (r .height) (r .mips) (r .layers) ≡ kind ⌝ }
+    ensures { λ r. ⌜ flatKind (r .tag) (r .format) (r .width) (r .height) (r .mips) (r .layers) ≡ kind ⌝ }
 {
     match kind {
-        Kind::Bytes(size) => FlatKind {
+        Kind::Buffer => FlatKind {
             tag: BUFFER,
-            first: size,
+            format: 0,
             width: 0,
             height: 0,
             mips: 0,
             layers: 0,
         },
-        Kind::Picture(s) => FlatKind {
+        Kind::Texture(s) => FlatKind {
             tag: TEXTURE,
-            first: wide(s.format),
+            format: wide(s.format),
             width: wide(s.width),
             height: wide(s.height),
             mips: wide(s.mips),
@@ -58,14 +58,15 @@ pub fn push_resource(rooms: &mut Resources, n: usize, r: Resource)
     let b = WORDS * n;
     rooms[b] = wide(r.handle);
     rooms[b + 1] = f.tag;
-    rooms[b + 2] = f.first;
-    rooms[b + 3] = f.width;
-    rooms[b + 4] = f.height;
-    rooms[b + 5] = f.mips;
-    rooms[b + 6] = f.layers;
-    rooms[b + 7] = wide(r.pitch);
-    rooms[b + 8] = wide(r.backing);
-    rooms[b + 9] = wide(r.offset);
+    rooms[b + 2] = r.bytes;
+    rooms[b + 3] = f.format;
+    rooms[b + 4] = f.width;
+    rooms[b + 5] = f.height;
+    rooms[b + 6] = f.mips;
+    rooms[b + 7] = f.layers;
+    rooms[b + 8] = wide(r.pitch);
+    rooms[b + 9] = wide(r.backing);
+    rooms[b + 10] = wide(r.offset);
 }
 
 // The resource of row i is gone: the last of `n` takes its place.

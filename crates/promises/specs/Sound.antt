@@ -32,8 +32,9 @@ use Rattle.rules.specs.declared.Verdict.{Verdict}
 use Rattle.rules.specs.declared.Verdict.the-variants.{Fine, Broken}
 use Rattle.rules.specs.declared.Opening.{Opening}
 use Rattle.rules.specs.declared.Opening.the-variants.{BadRing, NoWork, Refused, Started}
-use Rattle.rows.specs.Keys.{Once, once-nil, once-pushed, lookup-nil}
-use Rattle.packets.specs.Held.{Every, Inside, SoundResources, Sound, first-sound, take-sound}
+use Rattle.rows.specs.Keys.{Once, once-nil, once-pushed}
+use Rattle.packets.specs.Effects.{KeepsBytes}
+use Rattle.packets.specs.Held.{Every, Inside, SoundResources, none-sound, Sound, first-sound, take-sound}
 use Rattle.laws.specs.Fine.{fine-later, kept-rule, both-left}
 
 -- ---- the entries of a table: at most 64, each id once
@@ -86,12 +87,9 @@ pub record SoundState (s : State) : Type 0 where
   pub resources : SoundResources (s .resources)
   pub work : SoundWork (s .work)
 
-no-resources : SoundResources []
-no-resources = record { few = omega arith; once = once-nil _; some = lookup-nil _ 0 }
-
 -- a new device is sound
 pub made-sound : (memory : ℕ) → SoundState (made memory)
-made-sound memory = record { resources = no-resources; work = omega arith }
+made-sound memory = record { resources = none-sound; work = omega arith }
 
 -- ---- kept by a step
 
@@ -170,3 +168,8 @@ pub waiting-ranges-inside : (s : State) (j : Job) (es : List Entry) (h : Holding
 waiting-ranges-inside s j es h k e =
     let here : SoundWork (waiting j es h) = subst SoundWork e (k .work) in
     (here .1 .inside, here .0 .once)
+
+-- the bytes that a device's resource keeps are those of its kind: a buffer has some, a backed texture its packed size, a
+-- host-backed one none
+pub resources-keep-bytes : (s : State) → SoundState s → Every KeepsBytes (s .resources)
+resources-keep-bytes s k = k .resources .bytes

@@ -1,3 +1,2 @@
 pub mod Views
-pub mod Bytes
 pub mod Handout

@@ -1,5 +1,5 @@
-// A resource as a row of ten words: handle, tag (0 for a buffer), size or format, width, height, mips, layers, pitch, backing,
-// offset. Of a buffer's row the four words after its size say nothing.
+// A resource as a row of eleven words: handle, tag (0 for a buffer), bytes, format, width, height, mips, layers, pitch, backing,
+// offset. Of a buffer's row the five words after its bytes say nothing.
 use rules::Kind;
 use rules::Resource;
 use rules::Shape;
@@ -12,45 +12,44 @@ ghost use Rattle.rows.specs.Rows.{rowAt};
 ghost use Rattle.rooms.specs.Views.{resourceOf, resourcesOf, kindIn};
 
 // A table of resources, 64 rows.
-pub type Resources = [u64; 640];
+pub type Resources = [u64; 704];
 
 // The words of a resource.
-pub const WORDS: usize = 10;
+pub const WORDS: usize = 11;
 
 pub const BUFFER: u64 = 0;
 
 // What the resource of a row is.
 fn kind_at(rooms: &Resources, b: usize) -> Kind
-    requires { ⌜ b + 10 ≤ 640 ⌝ }
+    requires { ⌜ b + 11 ≤ 704 ⌝ }
     ensures { λ r. ⌜ r ≡ kindIn (now (rooms .entry)) b ⌝ }
 {
-    let tag = rooms[b + 1];
-    let first = rooms[b + 2];
-    if tag == BUFFER {
-        return Kind::Bytes(first);
+    if rooms[b + 1] == BUFFER {
+        return Kind::Buffer;
     }
-    Kind::Picture(Shape {
-        format: words::low32(first),
-        width: words::low32(rooms[b + 3]),
-        height: words::low32(rooms[b + 4]),
-        mips: words::low32(rooms[b + 5]),
-        layers: words::low32(rooms[b + 6]),
+    Kind::Texture(Shape {
+        format: words::low32(rooms[b + 3]),
+        width: words::low32(rooms[b + 4]),
+        height: words::low32(rooms[b + 5]),
+        mips: words::low32(rooms[b + 6]),
+        layers: words::low32(rooms[b + 7]),
     })
 }
 
 // The resource of row i.
 pub fn resource_row(rooms: &Resources, i: usize) -> Resource
     requires { ⌜ i < most ⌝ }
-    ensures { λ r. ⌜ r ≡ resourceOf (rowAt 10 (now (rooms .entry)) i) ⌝ }
+    ensures { λ r. ⌜ r ≡ resourceOf (rowAt 11 (now (rooms .entry)) i) ⌝ }
 {
     let b = WORDS * i;
     let kind = kind_at(rooms, b);
     Resource {
         handle: words::low32(rooms[b]),
         kind,
-        pitch: words::low32(rooms[b + 7]),
-        backing: words::low32(rooms[b + 8]),
-        offset: words::low32(rooms[b + 9]),
+        bytes: rooms[b + 2],
+        pitch: words::low32(rooms[b + 8]),
+        backing: words::low32(rooms[b + 9]),
+        offset: words::low32(rooms[b + 10]),
     }
 }
 

@@ -23,7 +23,7 @@ use Rattle.rules.specs.declared.Record.{Record}
 use Rattle.rules.specs.declared.Verdict.{Verdict}
 use Rattle.rules.specs.declared.Verdict.the-variants.{Fine, Broken}
 use Rattle.rules.specs.declared.Kind.{Kind}
-use Rattle.rules.specs.declared.Kind.the-variants.{Bytes, Picture}
+use Rattle.rules.specs.declared.Kind.the-variants.{Buffer as BufferKind, Texture as TextureKind}
 use Rattle.rules.specs.declared.Frame.{Frame}
 use Rattle.rules.specs.declared.Frame.the-variants.{Whole, Misframed}
 use Rattle.rules.specs.declared.Packet.{Packet}
@@ -75,8 +75,8 @@ on-live none h later = refused bad-handle h
 on-live (found r) h later = later r
 
 abbrev pub on-kind : Kind → Holdings → Outcome → Outcome
-on-kind (Bytes n) h later = later
-on-kind (Picture s) h later = refused bad-handle h
+on-kind BufferKind h later = later
+on-kind (TextureKind s) h later = refused bad-handle h
 
 -- 18, unless the handle is a live buffer's
 abbrev pub on-buffer : Found Resource → Holdings → (Resource → Outcome) → Outcome
@@ -86,14 +86,6 @@ on-buffer f h later = on-live f h (λ r. on-kind (r .kind) h (later r))
 abbrev pub on-entry : Found Entry → Holdings → (Entry → Outcome) → Outcome
 on-entry none h later = refused not-in-table h
 on-entry (found e) h later = later e
-
-abbrev pub kind-bytes : Kind → ℕ → ℕ
-kind-bytes (Bytes n) pitch = n
-kind-bytes (Picture s) pitch = packed-size s pitch
-
--- the bytes of a resource
-abbrev pub resource-bytes : Resource → ℕ
-resource-bytes r = kind-bytes (r .kind) (r .pitch)
 
 abbrev pub backed : ℕ → Bool
 backed id = not (eqb id 0)
@@ -125,10 +117,10 @@ create-hosted h r = refuse too-many (full (h .resources)) h (accepted (stored r 
 unfoldable pub create-backed : List Entry → Holdings → Resource → Outcome
 create-backed es h r =
     on-entry (matching (r .backing) es) h (λ e.
-    refuse past-entry (ltb (e .size) (r .offset + resource-bytes r)) h
+    refuse past-entry (ltb (e .size) (r .offset + r .bytes)) h
     (refuse too-many (full (h .resources)) h
     (refuse too-many (full (h .records)) h
-    (accepted (recorded (range-of backs r e 0 (resource-bytes r)) (stored r h))))))
+    (accepted (recorded (range-of backs r e 0 (r .bytes)) (stored r h))))))
 
 -- "Create: 18 handle 0 or live; 20 bad shape; if backing id is non-zero: .."
 unfoldable pub create : List Entry → Holdings → Bool → Resource → Outcome
@@ -137,21 +129,23 @@ create es h good r =
     (refuse bad-shape (not good) h
     (pick (backed (r .backing)) (create-backed es h r) (create-hosted h r)))
 
--- "host-backed ones ignore pitch and offset and keep them as 0"
-abbrev pub resource-of : ℕ → Kind → ℕ → ℕ → ℕ → Resource
-resource-of handle kind pitch backing offset =
-    record { handle = handle; kind = kind; pitch = pick (backed backing) pitch 0; backing = backing; offset = pick (backed backing) offset 0 }
+-- "A resource keeps kind, shape, pitch, backing id and offset; host-backed ones ignore pitch and offset and keep them as 0."
+-- Its bytes are kept beside them: a resource never changes after its creation, and "24 offset + size beyond the resource" asks for
+-- them at each dirty range and copy.
+abbrev pub resource-of : ℕ → Kind → ℕ → ℕ → ℕ → ℕ → Resource
+resource-of handle kind bytes pitch backing offset =
+    record { handle = handle; kind = kind; bytes = bytes; pitch = pick (backed backing) pitch 0; backing = backing; offset = pick (backed backing) offset 0 }
 
 -- "Buffer size not 0."
 unfoldable pub on-buffer-packet : List Entry → Holdings → CreateBuffer → Outcome
 on-buffer-packet es h c =
-    create es h (not (eqb (c .size) 0)) (resource-of (c .handle) (Bytes (c .size)) 0 (c .backing) (c .offset))
+    create es h (not (eqb (c .size) 0)) (resource-of (c .handle) BufferKind (c .size) 0 (c .backing) (c .offset))
 
 -- "Backed only: pitch >= minimum for mip 0."
 unfoldable pub on-texture-packet : List Entry → Holdings → CreateTexture → Outcome
 on-texture-packet es h c =
     create es h (pick (backed (c .backing)) (good-backed (c .shape) (c .pitch)) (good-shape (c .shape)))
-    (resource-of (c .handle) (Picture (c .shape)) (c .pitch) (c .backing) (c .offset))
+    (resource-of (c .handle) (TextureKind (c .shape)) (pick (backed (c .backing)) (packed-size (c .shape) (c .pitch)) 0) (c .pitch) (c .backing) (c .offset))
 
 -- ---- destroy, dirty, copy
 
@@ -166,7 +160,7 @@ unfoldable pub on-dirty-packet : List Entry → Holdings → DirtyRange → Outc
 on-dirty-packet es h c =
     on-live (live (c .handle) h) h (λ r.
     refuse host-backed (not (backed (r .backing))) h
-    (refuse past-resource (ltb (resource-bytes r) (c .offset + c .size)) h
+    (refuse past-resource (ltb (r .bytes) (c .offset + c .size)) h
     (on-entry (matching (r .backing) es) h (λ e.
     refuse past-entry (ltb (e .size) (r .offset + (c .offset + c .size))) h
     (hand-out (range-of reads r e (c .offset) (c .size)) h)))))
@@ -186,8 +180,8 @@ on-copy-packet es h c =
     on-buffer (live (c .dst) h) h (λ d.
     on-buffer (live (c .src) h) h (λ s.
     refuse bad-copy (eqb (c .dst) (c .src) || ltb 1 (c .flags)) h
-    (refuse past-resource (ltb (resource-bytes d) (c .dstoffset + c .size)) h
-    (refuse past-resource (ltb (resource-bytes s) (c .srcoffset + c .size)) h
+    (refuse past-resource (ltb (d .bytes) (c .dstoffset + c .size)) h
+    (refuse past-resource (ltb (s .bytes) (c .srcoffset + c .size)) h
     (pick (eqb (c .flags) 1) (write-back es h c d) (accepted h))))))
 
 -- ---- one packet

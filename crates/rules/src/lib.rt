@@ -119,16 +119,18 @@ pub enum Start {
 
 // ---- Resources and records
 
-// What a resource is: a buffer of so many bytes, or a texture.
+// What a resource is.
 pub enum Kind {
-    Bytes(u64),
-    Picture(Shape),
+    Buffer,
+    Texture(Shape),
 }
 
-// A live resource. `backing` 0 is host-backed: pitch and offset are then 0.
+// A live resource. `bytes` is a buffer's size, a backed texture's packed size, and 0 for a host-backed texture, which takes
+// no guest memory. `backing` 0 is host-backed: pitch and offset are then 0.
 pub struct Resource {
     pub handle: u32,
     pub kind: Kind,
+    pub bytes: u64,
     pub pitch: u32,
     pub backing: u32,
     pub offset: u32,

@@ -1,12 +1,12 @@
 -- What a caller may count on of a texture's bytes: none for a bad shape, some for a good one, and never too many.
 -- Assumes nothing.
 use mathlib.Core.Path.{_≡_, refl}
-use mathlib.Core.Bool.{Bool, true, false}
+use mathlib.Core.Bool.{Bool, true, false, not}
 use Prim.Native.Nat.{ℕ, zero, suc, _-_, _*_, _/_, _^_, _≤_, _<_}
 use native.Mathlib.Nat.{mul-le-mul, zero-mod}
 use native.Mathlib.Omega.{arith}
-use lib.Dec.{ltb}
-use borrow.Author.Tests.{ltb-true}
+use lib.Dec.{ltb, eqb}
+use borrow.Author.Tests.{ltb-true, ne-eqb}
 use Rattle.machine.specs.Machine.{pick}
 use Rattle.rules.specs.Numbers.{most-layers}
 use Rattle.rules.specs.Shapes.{mip-side, tight, rows, mip-bytes, offset-of, subresources, good-backed, texture-bytes, packed-size}
@@ -59,6 +59,16 @@ module _ (s : Shape) (p : ℕ) where
       let some : 0 < subresources s = mul-positive (s .layers) (s .mips) (backed-limits g .some-layers) (backed-limits g .some-mips) in
       let next : subresources s ≡ suc (subresources s - 1) = omega arith in
       rw (packed-good g, next) (offset-positive g (subresources s - 1))
+
+  -- so its size alone says whether a backed texture is good
+  pub good-by-size : good-backed s p ≡ not (eqb (packed-size s p) 0)
+  good-by-size = by (good-backed s p) refl
+    where
+      by : (v : Bool) → good-backed s p ≡ v → v ≡ not (eqb (packed-size s p) 0)
+      by true g =
+          let some : packed-size s p ≡ 0 → ⊥ = λ z. omega (arith, packed-positive g) in
+          rw (ne-eqb _ _ some)
+      by false g = rw (packed-bad g)
 
   pub offset-small : Bounded s → p < 2 ^ 32 → (i : ℕ) → i ≤ subresources s → offset-of s p i < 2 ^ 58
   offset-small b h i le =

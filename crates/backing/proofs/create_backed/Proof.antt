@@ -16,9 +16,6 @@ returns c = search backing
 entry-row-requires : tie.Need-entry-row-requires
 entry-row-requires c κs = search needs
 
-resource-bytes-requires : tie.Need-resource-bytes-requires
-resource-bytes-requires c κs = search needs
-
 cast-offset : tie.Need-cast-offset
 cast-offset c = search needs
 
@@ -34,8 +31,8 @@ refuse-requires-3 c κs = search needs
 returns-3 : tie.Need-returns-3
 returns-3 c = search backing
 
-add-t15 : tie.Need-add-t15
-add-t15 c = search needs
+add-t13 : tie.Need-add-t13
+add-t13 c = search needs
 
 store-backed-requires : tie.Need-store-backed-requires
 store-backed-requires c κs = search needs
@@ -51,12 +48,11 @@ create-backed-spec =
     refuse-requires
     returns
     entry-row-requires
-    resource-bytes-requires
     cast-offset
     refuse-requires-2
     returns-2
     refuse-requires-3
     returns-3
-    add-t15
+    add-t13
     store-backed-requires
     returns-4)

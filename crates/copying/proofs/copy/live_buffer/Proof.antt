@@ -13,11 +13,11 @@ returns c = search seeking
 resource-row-requires : tie.Need-resource-row-requires
 resource-row-requires c κs = search needs
 
-enum-known-kind : tie.Need-enum-known-kind
-enum-known-kind c = search needs
-
 enum-told : tie.Need-enum-told
 enum-told c = search needs
+
+enum-told-2 : tie.Need-enum-told-2
+enum-told-2 c = search needs
 
 returns-2 : tie.Need-returns-2
 returns-2 c = search seeking
@@ -32,7 +32,7 @@ live-buffer-spec =
     find-resource-requires
     returns
     resource-row-requires
-    enum-known-kind
     enum-told
+    enum-told-2
     returns-2
     returns-3)

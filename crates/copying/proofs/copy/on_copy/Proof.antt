@@ -25,8 +25,8 @@ enum-told-2 c = search needs
 refuse-requires-2 : tie.Need-refuse-requires-2
 refuse-requires-2 c κs = search needs
 
-enum-known-srcbytes : tie.Need-enum-known-srcbytes
-enum-known-srcbytes c = search needs
+enum-known-src : tie.Need-enum-known-src
+enum-known-src c = search needs
 
 copy-between-requires : tie.Need-copy-between-requires
 copy-between-requires c κs = search needs
@@ -51,7 +51,7 @@ on-copy-spec =
     live-buffer-requires-2
     enum-told-2
     refuse-requires-2
-    enum-known-srcbytes
+    enum-known-src
     copy-between-requires
     returns
     returns-2

@@ -4,8 +4,8 @@ use borrow.Author.Needs.{needs}
 use Rattle.creating.proofs.create.on_texture.Statement.{statement}
 use Rattle.creating.proofs.create.on_texture.Tie as tie
 
-good-texture-requires : tie.Need-good-texture-requires
-good-texture-requires c κs = search needs
+weigh-requires : tie.Need-weigh-requires
+weigh-requires c κs = search needs
 
 backed-only-requires : tie.Need-backed-only-requires
 backed-only-requires c κs = search needs
@@ -22,9 +22,4 @@ returns c = search arriving
 pub on-texture-spec : {M : Type 1} → statement M
 on-texture-spec =
     tie.close
-    (tie.spec
-    good-texture-requires
-    backed-only-requires
-    backed-only-requires-2
-    create-requires
-    returns)
+    (tie.spec weigh-requires backed-only-requires backed-only-requires-2 create-requires returns)

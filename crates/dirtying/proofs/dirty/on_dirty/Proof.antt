@@ -22,9 +22,6 @@ refuse-requires-2 c κs = search needs
 returns-2 : tie.Need-returns-2
 returns-2 c = search dirtying
 
-resource-bytes-requires : tie.Need-resource-bytes-requires
-resource-bytes-requires c κs = search needs
-
 beyond-requires : tie.Need-beyond-requires
 beyond-requires c κs = search needs
 
@@ -35,7 +32,7 @@ returns-3 : tie.Need-returns-3
 returns-3 c = search dirtying
 
 resolve-requires : tie.Need-resolve-requires
-resolve-requires c κs = search dirtying
+resolve-requires c κs = search needs
 
 enum-told : tie.Need-enum-told
 enum-told c = search needs
@@ -74,7 +71,6 @@ on-dirty-spec =
     resource-row-requires
     refuse-requires-2
     returns-2
-    resource-bytes-requires
     beyond-requires
     refuse-requires-3
     returns-3

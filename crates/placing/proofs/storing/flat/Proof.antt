@@ -3,11 +3,11 @@ use borrow.Author.Needs.{needs}
 use Rattle.placing.proofs.storing.flat.Statement.{statement}
 use Rattle.placing.proofs.storing.flat.Tie as tie
 
+enum-told : tie.Need-enum-told
+enum-told c = search needs
+
 enum-known-kind : tie.Need-enum-known-kind
 enum-known-kind c = search needs
-
-enum-known-kind-2 : tie.Need-enum-known-kind-2
-enum-known-kind-2 c = search needs
 
 wide-requires : tie.Need-wide-requires
 wide-requires c κs = search needs
@@ -25,7 +25,7 @@ wide-requires-5 : tie.Need-wide-requires-5
 wide-requires-5 c κs = search needs
 
 returns : tie.Need-returns
-returns c = search flattening
+returns c = search needs
 
 returns-2 : tie.Need-returns-2
 returns-2 c = search flattening
@@ -34,8 +34,8 @@ pub flat-spec : {M : Type 1} → statement M
 flat-spec =
     tie.close
     (tie.spec
+    enum-told
     enum-known-kind
-    enum-known-kind-2
     wide-requires
     wide-requires-2
     wide-requires-3

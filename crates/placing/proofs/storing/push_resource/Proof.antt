@@ -72,9 +72,6 @@ mul-rooms-7 c = search needs
 element-write-rooms-7 : tie.Need-element-write-rooms-7
 element-write-rooms-7 c = search needs
 
-wide-requires-2 : tie.Need-wide-requires-2
-wide-requires-2 c κs = search needs
-
 add-rooms-7 : tie.Need-add-rooms-7
 add-rooms-7 c = search needs
 
@@ -84,8 +81,8 @@ mul-rooms-8 c = search needs
 element-write-rooms-8 : tie.Need-element-write-rooms-8
 element-write-rooms-8 c = search needs
 
-wide-requires-3 : tie.Need-wide-requires-3
-wide-requires-3 c κs = search needs
+wide-requires-2 : tie.Need-wide-requires-2
+wide-requires-2 c κs = search needs
 
 add-rooms-8 : tie.Need-add-rooms-8
 add-rooms-8 c = search needs
@@ -96,8 +93,8 @@ mul-rooms-9 c = search needs
 element-write-rooms-9 : tie.Need-element-write-rooms-9
 element-write-rooms-9 c = search needs
 
-wide-requires-4 : tie.Need-wide-requires-4
-wide-requires-4 c κs = search needs
+wide-requires-3 : tie.Need-wide-requires-3
+wide-requires-3 c κs = search needs
 
 add-rooms-9 : tie.Need-add-rooms-9
 add-rooms-9 c = search needs
@@ -107,6 +104,18 @@ mul-rooms-10 c = search needs
 
 element-write-rooms-10 : tie.Need-element-write-rooms-10
 element-write-rooms-10 c = search needs
+
+wide-requires-4 : tie.Need-wide-requires-4
+wide-requires-4 c κs = search needs
+
+add-rooms-10 : tie.Need-add-rooms-10
+add-rooms-10 c = search needs
+
+mul-rooms-11 : tie.Need-mul-rooms-11
+mul-rooms-11 c = search needs
+
+element-write-rooms-11 : tie.Need-element-write-rooms-11
+element-write-rooms-11 c = search needs
 
 returns : tie.Need-returns
 returns c = search pushing-resource
@@ -138,16 +147,19 @@ push-resource-spec =
     add-rooms-6
     mul-rooms-7
     element-write-rooms-7
-    wide-requires-2
     add-rooms-7
     mul-rooms-8
     element-write-rooms-8
-    wide-requires-3
+    wide-requires-2
     add-rooms-8
     mul-rooms-9
     element-write-rooms-9
-    wide-requires-4
+    wide-requires-3
     add-rooms-9
     mul-rooms-10
     element-write-rooms-10
+    wide-requires-4
+    add-rooms-10
+    mul-rooms-11
+    element-write-rooms-11
     returns)

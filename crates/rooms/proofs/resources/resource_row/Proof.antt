@@ -18,6 +18,15 @@ element-copy-out-low32 c = search needs
 low32-requires : tie.Need-low32-requires
 low32-requires c κs = search needs
 
+add-t10 : tie.Need-add-t10
+add-t10 c = search needs
+
+mul-t11 : tie.Need-mul-t11
+mul-t11 c = search needs
+
+element-copy-out-t14 : tie.Need-element-copy-out-t14
+element-copy-out-t14 c = search needs
+
 add-low32 : tie.Need-add-low32
 add-low32 c = search needs
 
@@ -66,6 +75,9 @@ resource-row-spec =
     mul-low32
     element-copy-out-low32
     low32-requires
+    add-t10
+    mul-t11
+    element-copy-out-t14
     add-low32
     mul-low32-2
     element-copy-out-low32-2
