@@ -1,0 +1,86 @@
+-- Where a phase has come to: what its code asks. Assumes nothing.
+use mathlib.Core.Path.{_≡_, sym, ap, _∙_}
+use mathlib.Core.List.{List}
+use Prim.Native.Nat.{ℕ, _≤_, _<_}
+use borrow.Author.Needs.{needs}
+use lib.ListN.{length, getD, set}
+use Rattle.rules.specs.Numbers.{most}
+use Rattle.rules.specs.Judging.{refusal}
+use Rattle.rules.specs.State.{World}
+use Rattle.phases.specs.Ending.{Ending, endingOf, is-going, is-done, is-broken}
+use Rattle.phases.specs.Ending.Ending.{Going, Done, Broken}
+use Rattle.phases.specs.Entries.{readingOf}
+use Rattle.phases.specs.declared.entries.EntriesPlace.{EntriesPlace}
+use Rattle.playing.specs.Playing.{playingOf}
+use Rattle.playing.specs.declared.PacketsPlace.{PacketsPlace}
+use Rattle.run_state.specs.Views.{flagOf, tagIn, jobIn, streamIn, openedIn, keptIn, worldIn, bareIn}
+use Rattle.run_state.specs.Reading.{flag-as, count-as}
+use Rattle.run_state.specs.Spelled.{spell}
+use Rattle.run_settle.specs.Views.{Refuses}
+use Rattle.run_begin.specs.Views.{Begins}
+use Rattle.run_after_phase.specs.Views.{laid-on, played-on, LandsEntries, LandsPackets}
+
+-- ---- land_entries
+
+module _ (s : List ℕ) (p : EntriesPlace) (m : List ℕ) (pre : (tagIn s ≡ 1) × (p .n ≤ most)) where
+  -- a device whose phase has this ending
+  ended : (k : Ending) → endingOf (p .ending) (p .why) ≡ k → (e r : List ℕ) → laid-on (bareIn s r m) (openedIn s) (readingOf p e .kept) k ≡ laid-on (bareIn s r m) (openedIn s) (readingOf p e .kept) (readingOf p e .ending)
+  ended k q e r = ap (laid-on (bareIn s r m) (openedIn s) (readingOf p e .kept)) (sym q)
+
+  pub lands-going : (x : ℕ) → p .ending ≡ 0 → length s ≡ 32 → (x ≡ p .n) × (x < 18446744073709551616) → LandsEntries s p m (set s 24 x) m
+  unfolding worldIn
+  lands-going x q long is =
+      record {
+        world = λ e r h c. spell (λ w. worldIn (set w 24 x) e r h c m) s long ∙ rw (pre .0, count-as x (p .n) is (pre .1)) (ended Going (is-going (p .ending) (p .why) q) e r);
+        side = spell (λ w. getD (set w 24 x) 28 0) s long;
+      }
+
+  pub lands-done : (s′ : List ℕ) → p .ending ≡ 1 → Begins s (p .n) s′ → LandsEntries s p m s′ m
+  lands-done s′ q b = record { world = λ e r h c. b .world e r h c m ∙ ended Done (is-done (p .ending) (p .why) q) e r; side = b .side }
+
+  pub lands-broken : (s′ m′ : List ℕ) → (p .ending ≡ 0 → ⊥) → (p .ending ≡ 1 → ⊥) → Refuses s m (record { code = p .why }) s′ m′ → LandsEntries s p m s′ m′
+  lands-broken s′ m′ a b f =
+      record { world = λ e r h c. f .world e r h c ∙ ended (Broken (refusal (p .why))) (is-broken (p .ending) (p .why) a b) e r; side = f .side }
+
+pub ruleset landing-entries = (lands-going, lands-done, lands-broken, needs)
+
+-- ---- land_packets
+
+module _ (s : List ℕ) (p : PacketsPlace) (m : List ℕ) (pre : (tagIn s ≡ 2) × (p .live ≤ most) × (p .made ≤ most)) where
+  -- a device whose phase has this ending
+  played-to : (k : Ending) → endingOf (p .ending) (p .why) ≡ k → (e r h c : List ℕ)
+      → played-on (bareIn s r m) (jobIn s) (streamIn s) (keptIn s e) (playingOf p r h c) k ≡ played-on (bareIn s r m) (jobIn s) (streamIn s) (keptIn s e) (playingOf p r h c) (playingOf p r h c .ending)
+  played-to k q e r h c = ap (played-on (bareIn s r m) (jobIn s) (streamIn s) (keptIn s e) (playingOf p r h c)) (sym q)
+
+  pub plays-broken : (s′ m′ : List ℕ) → (p .ending ≡ 0 → ⊥) → (p .ending ≡ 1 → ⊥) → Refuses s m (record { code = p .why }) s′ m′ → LandsPackets s p m s′ m′
+  plays-broken s′ m′ a b f =
+      record { world = λ e r h c. f .world e r h c ∙ played-to (Broken (refusal (p .why))) (is-broken (p .ending) (p .why) a b) e r h c; side = f .side }
+
+  module _ (long : length s ≡ 32) (x y z o : ℕ) (is-x : (x ≡ p .at) × (x < 18446744073709551616)) (is-y : (y ≡ p .live) × (y < 18446744073709551616)) (is-z : (z ≡ p .made) × (z < 18446744073709551616)) (is-o : o ≡ flagOf (p .own)) where
+    abbrev onward-words : List ℕ → List ℕ
+    onward-words w = set (set (set (set w 23 x) 26 y) 27 z) 29 o
+
+    abbrev waiting-words : List ℕ → List ℕ
+    waiting-words w = set (set (set (set w 13 3) 26 y) 27 z) 29 o
+
+    pub plays-going : p .ending ≡ 0 → LandsPackets s p m (set (set (set (set s 23 x) 26 y) 27 z) 29 o) m
+    unfolding worldIn
+    plays-going q =
+        record {
+          world = λ e r h c.
+              spell (λ w. worldIn (onward-words w) e r h c m) s long
+              ∙ rw (pre .0, is-x .0, count-as y (p .live) is-y (pre .1), count-as z (p .made) is-z (pre .2), flag-as o (p .own) is-o) (played-to Going (is-going (p .ending) (p .why) q) e r h c);
+          side = spell (λ w. getD (onward-words w) 28 0) s long;
+        }
+
+    pub plays-done : p .ending ≡ 1 → LandsPackets s p m (set (set (set (set s 13 3) 26 y) 27 z) 29 o) m
+    unfolding worldIn
+    plays-done q =
+        record {
+          world = λ e r h c.
+              spell (λ w. worldIn (waiting-words w) e r h c m) s long
+              ∙ rw (count-as y (p .live) is-y (pre .1), count-as z (p .made) is-z (pre .2), flag-as o (p .own) is-o) (played-to Done (is-done (p .ending) (p .why) q) e r h c);
+          side = spell (λ w. getD (waiting-words w) 28 0) s long;
+        }
+
+pub ruleset landing-packets = (plays-broken, plays-going, plays-done, needs)

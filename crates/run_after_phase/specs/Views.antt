@@ -1,0 +1,51 @@
+-- Where a phase has come to, as the rules' state then stands: of its own machine's state, and on the device's words.
+use mathlib.Core.Path.{_≡_}
+use mathlib.Core.List.{List}
+use Prim.Native.Nat.{ℕ}
+use lib.ListN.{getD}
+use Rattle.rules.specs.Layouts.{stream-header-size}
+use Rattle.rules.specs.Packets.{at-first}
+use Rattle.rules.specs.State.{World, working}
+use Rattle.rules.specs.State.Work.{entries, packets, waiting}
+use Rattle.rules.specs.Settle.{settled-keeping}
+use Rattle.rules.specs.Steps.{packets-at}
+use Rattle.rules.specs.declared.Entry.{Entry}
+use Rattle.rules.specs.declared.Job.{Job}
+use Rattle.rules.specs.declared.Stream.{Stream}
+use Rattle.rules.specs.declared.Opened.{Opened}
+use Rattle.rules.specs.declared.Verdict.the-variants.{Broken as BrokenRule}
+use Rattle.phases.specs.Ending.{Ending}
+use Rattle.phases.specs.Ending.Ending.{Going, Done, Broken}
+use Rattle.phases.specs.Entries.{Reading, readingOf}
+use Rattle.phases.specs.declared.entries.EntriesPlace.{EntriesPlace}
+use Rattle.playing.specs.Playing.{Playing, playingOf}
+use Rattle.playing.specs.declared.PacketsPlace.{PacketsPlace}
+use Rattle.run_state.specs.Views.{jobIn, streamIn, openedIn, keptIn, worldIn, bareIn}
+
+-- a device whose entries have come so far
+abbrev pub laid-on : World → Opened → List Entry → Ending → World
+laid-on w o kept Going = working (entries o kept) w
+laid-on w o kept Done = working (packets-at (o .job) (o .stream) stream-header-size kept (at-first (w .state .resources))) w
+laid-on w o kept (Broken r) = settled-keeping (o .job) (BrokenRule r) w
+
+abbrev pub laid : World → Opened → Reading → World
+laid w o s = laid-on w o (s .kept) (s .ending)
+
+-- a device whose packets have come so far
+abbrev pub played-on : World → Job → Stream → List Entry → Playing → Ending → World
+played-on w j t es s Going = working (packets j t (s .at) es (s .held)) w
+played-on w j t es s Done = working (waiting j es (s .held)) w
+played-on w j t es s (Broken r) = settled-keeping j (BrokenRule r) w
+
+abbrev pub played : World → Job → Stream → List Entry → Playing → World
+played w j t es s = played-on w j t es s (s .ending)
+
+-- ---- on the words, whatever the rows are; the same table stays the device's
+
+pub record LandsEntries (s : List ℕ) (p : EntriesPlace) (m s′ m′ : List ℕ) : Type 0 where
+  pub world : (e r h c : List ℕ) → worldIn s′ e r h c m′ ≡ laid (bareIn s r m) (openedIn s) (readingOf p e)
+  pub side : getD s′ 28 0 ≡ getD s 28 0
+
+pub record LandsPackets (s : List ℕ) (p : PacketsPlace) (m s′ m′ : List ℕ) : Type 0 where
+  pub world : (e r h c : List ℕ) → worldIn s′ e r h c m′ ≡ played (bareIn s r m) (jobIn s) (streamIn s) (keptIn s e) (playingOf p r h c)
+  pub side : getD s′ 28 0 ≡ getD s 28 0

@@ -1,0 +1,70 @@
+// Where a phase has come to, on the device's words: going on, done, or broken by a rule. A refusal settles within its unit, and the
+// device's resources stay as they were.
+use phases::ending::DONE;
+use phases::ending::GOING;
+use phases::entries::EntriesPlace;
+use playing::PacketsPlace;
+use rules::Refusal;
+use run_begin::begin_packets;
+use run_settle::settle_refused;
+use run_state::HELD;
+use run_state::KEPT;
+use run_state::MADE;
+use run_state::OWN;
+use run_state::PLACE;
+use run_state::TAG;
+use run_state::WAITING;
+use run_state::Words;
+use run_state::flag;
+use widths::long;
+ghost use mathlib.Core.Path.{_≡_};
+ghost use Prim.Native.Nat.{_≤_};
+ghost use Rattle.rules.specs.Numbers.{most};
+ghost use Rattle.run_state.specs.Views.{tagIn};
+ghost use Rattle.run_after_phase.specs.Views.{LandsEntries, LandsPackets};
+
+// The entries at a place.
+pub fn land_entries(words: &mut Words, p: EntriesPlace, mem: &mut [u8])
+    requires { ⌜ (tagIn (now words) ≡ 1) × (p .n ≤ most) ⌝ }
+    ensures { λ _. ⌜ LandsEntries (now (words .entry)) p (now (mem .entry)) (now (words .exit)) (now (mem .exit)) ⌝ }
+{
+    if p.ending == GOING {
+        let n = long(p.n);
+        let all = &words[..];
+        words[KEPT] = n;
+        return;
+    }
+    if p.ending == DONE {
+        begin_packets(words, p.n);
+        return;
+    }
+    settle_refused(words, mem, Refusal { code: p.why });
+}
+
+// The packets at a place.
+pub fn land_packets(words: &mut Words, p: PacketsPlace, mem: &mut [u8])
+    requires { ⌜ (tagIn (now words) ≡ 2) × (p .live ≤ most) × (p .made ≤ most) ⌝ }
+    ensures { λ _. ⌜ LandsPackets (now (words .entry)) p (now (mem .entry)) (now (words .exit)) (now (mem .exit)) ⌝ }
+{
+    let at = long(p.at);
+    let live = long(p.live);
+    let made = long(p.made);
+    let own = flag(p.own);
+    if p.ending == GOING {
+        let all = &words[..];
+        words[PLACE] = at;
+        words[HELD] = live;
+        words[MADE] = made;
+        words[OWN] = own;
+        return;
+    }
+    if p.ending == DONE {
+        let all = &words[..];
+        words[TAG] = WAITING;
+        words[HELD] = live;
+        words[MADE] = made;
+        words[OWN] = own;
+        return;
+    }
+    settle_refused(words, mem, Refusal { code: p.why });
+}

@@ -1,3 +1,0 @@
-pub mod Tame
-pub mod Views
-pub mod Laws
