@@ -56,21 +56,21 @@ module _ (s : List ℕ) (p : PacketsPlace) (m : List ℕ) (pre : (tagIn s ≡ 2)
   plays-broken s′ m′ a b f =
       record { world = λ e r h c. f .world e r h c ∙ played-to (Broken (refusal (p .why))) (is-broken (p .ending) (p .why) a b) e r h c; side = f .side }
 
-  module _ (long : length s ≡ 32) (x y z o : ℕ) (is-x : (x ≡ p .at) × (x < 18446744073709551616)) (is-y : (y ≡ p .live) × (y < 18446744073709551616)) (is-z : (z ≡ p .made) × (z < 18446744073709551616)) (is-o : o ≡ flagOf (p .own)) where
-    abbrev onward-words : List ℕ → List ℕ
-    onward-words w = set (set (set (set w 23 x) 26 y) 27 z) 29 o
+  module _ (long : length s ≡ 32) (y z o : ℕ) (is-y : (y ≡ p .live) × (y < 18446744073709551616)) (is-z : (z ≡ p .made) × (z < 18446744073709551616)) (is-o : o ≡ flagOf (p .own)) where
+    abbrev onward-words : ℕ → List ℕ → List ℕ
+    onward-words x w = set (set (set (set w 23 x) 26 y) 27 z) 29 o
 
     abbrev waiting-words : List ℕ → List ℕ
     waiting-words w = set (set (set (set w 13 3) 26 y) 27 z) 29 o
 
-    pub plays-going : p .ending ≡ 0 → LandsPackets s p m (set (set (set (set s 23 x) 26 y) 27 z) 29 o) m
+    pub plays-going : (x : ℕ) → p .ending ≡ 0 → (x ≡ p .at) × (x < 18446744073709551616) → LandsPackets s p m (set (set (set (set s 23 x) 26 y) 27 z) 29 o) m
     unfolding worldIn
-    plays-going q =
+    plays-going x q is-x =
         record {
           world = λ e r h c.
-              spell (λ w. worldIn (onward-words w) e r h c m) s long
+              spell (λ w. worldIn (onward-words x w) e r h c m) s long
               ∙ rw (pre .0, is-x .0, count-as y (p .live) is-y (pre .1), count-as z (p .made) is-z (pre .2), flag-as o (p .own) is-o) (played-to Going (is-going (p .ending) (p .why) q) e r h c);
-          side = spell (λ w. getD (onward-words w) 28 0) s long;
+          side = spell (λ w. getD (onward-words x w) 28 0) s long;
         }
 
     pub plays-done : p .ending ≡ 1 → LandsPackets s p m (set (set (set (set s 13 3) 26 y) 27 z) 29 o) m

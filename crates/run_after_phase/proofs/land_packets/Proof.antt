@@ -1,0 +1,78 @@
+-- `land_packets` meets its contract. Assumes nothing.
+use Rattle.run_after_phase.specs.Landing.{landing-packets}
+use borrow.Author.Needs.{needs}
+use Rattle.run_after_phase.proofs.land_packets.Statement.{statement}
+use Rattle.run_after_phase.proofs.land_packets.Tie as tie
+
+long-requires : tie.Need-long-requires
+long-requires c κs = search needs
+
+long-requires-2 : tie.Need-long-requires-2
+long-requires-2 c κs = search needs
+
+long-requires-3 : tie.Need-long-requires-3
+long-requires-3 c κs = search needs
+
+flag-requires : tie.Need-flag-requires
+flag-requires c κs = search needs
+
+element-write-words : tie.Need-element-write-words
+element-write-words c = search needs
+
+element-write-words-2 : tie.Need-element-write-words-2
+element-write-words-2 c = search needs
+
+element-write-words-3 : tie.Need-element-write-words-3
+element-write-words-3 c = search needs
+
+element-write-words-4 : tie.Need-element-write-words-4
+element-write-words-4 c = search needs
+
+returns : tie.Need-returns
+returns c = search landing-packets
+
+element-write-words-5 : tie.Need-element-write-words-5
+element-write-words-5 c = search needs
+
+element-write-words-6 : tie.Need-element-write-words-6
+element-write-words-6 c = search needs
+
+element-write-words-7 : tie.Need-element-write-words-7
+element-write-words-7 c = search needs
+
+element-write-words-8 : tie.Need-element-write-words-8
+element-write-words-8 c = search needs
+
+returns-2 : tie.Need-returns-2
+returns-2 c = search landing-packets
+
+settle-refused-requires : tie.Need-settle-refused-requires
+settle-refused-requires c κs = search needs
+
+same-length : tie.Need-same-length
+same-length c = search needs
+
+returns-3 : tie.Need-returns-3
+returns-3 c = search landing-packets
+
+pub land-packets-spec : {M : Type 1} → statement M
+land-packets-spec =
+    tie.close
+    (tie.spec
+    long-requires
+    long-requires-2
+    long-requires-3
+    flag-requires
+    element-write-words
+    element-write-words-2
+    element-write-words-3
+    element-write-words-4
+    returns
+    element-write-words-5
+    element-write-words-6
+    element-write-words-7
+    element-write-words-8
+    returns-2
+    settle-refused-requires
+    same-length
+    returns-3)

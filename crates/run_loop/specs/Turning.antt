@@ -1,0 +1,163 @@
+-- A run, turn by turn: what its code asks. Assumes nothing.
+use mathlib.Core.Path.{_≡_, refl, sym, ap, _∙_}
+use mathlib.Core.Bool.{Bool, true, false, and-false}
+use mathlib.Core.List.{List}
+use Prim.Native.Nat.{ℕ, _-_, _≤_, _<_}
+use native.Mathlib.Omega.{arith}
+use borrow.Author.Needs.{needs}
+use borrow.Author.Tests.{eq-eqb, ne-eqb}
+use lib.ListN.{getD}
+use Rattle.machine.specs.Machine.{spent, loop-start, loop-out}
+use Rattle.machine.specs.Within.{Turned, turned-stop, turned-step, turned-phase, turns-on, turns-stop}
+use Rattle.rules.specs.Numbers.{most}
+use Rattle.rules.specs.Stream.{stream-bytes}
+use Rattle.rules.specs.State.{World, working}
+use Rattle.rules.specs.State.Work.{resting, entries, packets}
+use Rattle.rules.specs.Steps.{go, step, after-opening, open-step, run-for}
+use Rattle.rules.specs.Ring.{opening-of}
+use Rattle.rules.specs.declared.Table.{Table}
+use Rattle.rules.specs.declared.Stream.{Stream}
+use Rattle.ranges.specs.Views.{Room}
+use Rattle.phases.specs.Ending.{is-going, goes}
+use Rattle.phases.specs.Entries.{reading-goes, read-step, EntriesRan, from-row, outOf as entriesOut}
+use Rattle.phases.specs.declared.entries.EntriesRun.{EntriesRun}
+use Rattle.playing.specs.Playing.{playing-goes, play-step, playingOf, PacketsRan, outOf as packetsOut}
+use Rattle.playing.specs.declared.PacketsPlace.{PacketsPlace}
+use Rattle.playing.specs.declared.PacketsRun.{PacketsRun}
+use Rattle.run_state.specs.Views.{setIn, smallIn, countIn, registersIn, tagIn, jobIn, tableIn, streamIn, openedIn, placeIn, keptIn, heldIn, worldIn, bareIn}
+use Rattle.run_state.specs.Reading.{unset, is-set}
+use Rattle.run_state.specs.Stages.{rests-in, reads-in, plays-in, waits-in}
+use Rattle.run_after_phase.specs.Views.{laid, LandsEntries, played, LandsPackets}
+use Rattle.run_open.specs.Opening.{Opens}
+use Rattle.run_loop.specs.Views.{TurnOf, EntriesTurn, PacketsTurn, Advanced}
+use Rattle.run_loop.specs.Phases.{entries-go, entries-step, packets-go, packets-step}
+
+-- a device in some work is the bare one with that work
+module _ (s e r h c m : List ℕ) where
+  works-entries : tagIn s ≡ 1 → worldIn s e r h c m ≡ working (entries (openedIn s) (keptIn s e)) (bareIn s r m)
+  unfolding worldIn
+  works-entries i = rw i
+
+  works-packets : tagIn s ≡ 2 → worldIn s e r h c m ≡ working (packets (jobIn s) (streamIn s) (placeIn s) (keptIn s e) (heldIn s r h c)) (bareIn s r m)
+  unfolding worldIn
+  works-packets i = rw i
+
+-- ---- entries_turn
+
+module _ (s s′ m e m′ e′ : List ℕ) (left n : ℕ) (t : Table) (x : EntriesRun) (pre : (tagIn s ≡ 1) × (0 < left)) where
+  pub entries-turned : t ≡ tableIn s → (n ≡ countIn (getD s 24 0)) × (n ≤ most) → EntriesRan m t n e left x e′ → LandsEntries s (x .place) m s′ m′ → EntriesTurn s left m e (x .units) s′ m′ e′
+  entries-turned is-t is-n ran lands =
+      record {
+        turn = λ on r h c.
+            record {
+              turned =
+                  turned-phase go step reading-goes (read-step m (tableIn s)) (laid (bareIn s r m) (openedIn s)) (entries-go (bareIn s r m) on (openedIn s)) (entries-step (bareIn s r m) on (openedIn s)) left
+                  (worldIn s e r h c m) (worldIn s′ e′ r h c m′) (from-row (countIn (getD s 24 0)) e) (entriesOut x e′) (pre .1) refl (works-entries s e r h c m (pre .0))
+                  (rw (is-t, is-n .0) at (ran .run)) (lands .world e′ r h c);
+              side = lands .side;
+            };
+      }
+
+pub entries-land : (s m e e′ : List ℕ) (left n : ℕ) (t : Table) (x : EntriesRun) → (tagIn s ≡ 1) × (0 < left) → EntriesRan m t n e left x e′ → (tagIn s ≡ 1) × (x .place .n ≤ most)
+entries-land s m e e′ left n t x pre ran = (pre .0, ran .room)
+
+pub ruleset turning-entries = (entries-turned, entries-land, needs)
+
+-- ---- packets_turn
+
+module _ (s s′ m e r h c m′ h′ c′ : List ℕ) (left n at live made : ℕ) (own : Bool) (t : Stream) (x : PacketsRun) (pre : (tagIn s ≡ 2) × (0 < left)) where
+  abbrev from : PacketsPlace
+  from = record { at = at; live = live; made = made; own = own; ending = 0; why = 0 }
+
+  pub packets-turned : t ≡ streamIn s → (n ≡ countIn (getD s 24 0)) × (n ≤ most) → at ≡ getD s 23 0 → (live ≡ countIn (getD s 26 0)) × (live ≤ most) → (made ≡ countIn (getD s 27 0)) × (made ≤ most)
+      → own ≡ setIn (getD s 29 0) → PacketsRan (stream-bytes m t) (t .size) n e (record { at = at; live = live; made = made; own = own; ending = 0; why = 0 }) r h c left x h′ c′
+      → LandsPackets s (x .place) m s′ m′ → PacketsTurn s left m e r h c (x .units) s′ m′ h′ c′
+  packets-turned is-t is-n is-at is-live is-made is-own ran lands =
+      record {
+        turn = λ on.
+            record {
+              turned =
+                  turned-phase go step playing-goes (play-step (keptIn s e) (stream-bytes m (streamIn s)) (streamIn s .size)) (played (bareIn s r m) (jobIn s) (streamIn s) (keptIn s e))
+                  (packets-go (bareIn s r m) on (jobIn s) (streamIn s) (keptIn s e)) (packets-step (bareIn s r m) on (jobIn s) (streamIn s) (keptIn s e)) left
+                  (worldIn s e r h c m) (worldIn s′ e r h′ c′ m′) (playingOf from r h c) (packetsOut x r h′ c′)
+                  (pre .1) (goes 0 0 refl) (works-packets s e r h c m (pre .0) ∙ rw (← is-at, ← is-live .0, ← is-made .0, ← is-own, is-going 0 0 refl)) (rw (is-t, is-n .0) at (ran .run)) (lands .world e r h′ c′);
+              side = lands .side;
+            };
+      }
+
+pub packets-land : (s m e r h c h′ c′ : List ℕ) (left n : ℕ) (t : Stream) (p : PacketsPlace) (x : PacketsRun) → (tagIn s ≡ 2) × (0 < left)
+    → PacketsRan (stream-bytes m t) (t .size) n e p r h c left x h′ c′ → (tagIn s ≡ 2) × (x .place .live ≤ most) × (x .place .made ≤ most)
+packets-land s m e r h c h′ c′ left n t p x pre ran = (pre .0, ran .room .live, ran .room .made)
+
+pub packets-room : (x y z n live made : ℕ) → (n ≡ countIn x) × (n ≤ most) → (live ≡ countIn y) × (live ≤ most) → (made ≡ countIn z) × (made ≤ most) → Room n live made
+packets-room x y z n live made a b c = record { entries = a .1; live = b .1; made = c .1 }
+
+pub ruleset turning-packets = (packets-turned, packets-land, packets-room, needs)
+
+-- ---- turn_once
+
+module _ (s e r h c m : List ℕ) (left : ℕ) (pre : 0 < left) where
+  stands : go (worldIn s e r h c m) ≡ false → TurnOf left s e r h c m 0 s e h c m
+  stands g = record { turned = turned-stop go step left (worldIn s e r h c m) g; side = refl }
+
+  off-stops : getD s 3 0 ≡ 0 → go (worldIn s e r h c m) ≡ false
+  unfolding go worldIn
+  off-stops q = rw (unset (getD s 3 0) q)
+
+  pub turn-off : getD s 3 0 ≡ 0 → TurnOf left s e r h c m 0 s e h c m
+  turn-off off = stands (off-stops off)
+
+  module _ (on : getD s 3 0 ≡ 0 → ⊥) where
+    is-on : registersIn s .enabled ≡ true
+    is-on = is-set (getD s 3 0) on
+
+    pub turn-waits : (tagIn s ≡ 2 → ⊥) → (tagIn s ≡ 1 → ⊥) → (tagIn s ≡ 0 → ⊥) → TurnOf left s e r h c m 0 s e h c m
+    unfolding go
+    turn-waits x y z = stands (rw (waits-in s e r h c m (omega arith)) (and-false (worldIn s e r h c m .state .regs .enabled)))
+
+    module _ (i : tagIn s ≡ 0) where
+      quiet-stops : getD s 12 0 ≡ 0 → go (worldIn s e r h c m) ≡ false
+      unfolding go worldIn
+      quiet-stops q = rw (i, is-on, unset (getD s 12 0) q)
+
+      pub turn-quiet : getD s 12 0 ≡ 0 → TurnOf left s e r h c m 0 s e h c m
+      turn-quiet q = stands (quiet-stops q)
+
+      rung-goes : (getD s 12 0 ≡ 0 → ⊥) → go (worldIn s e r h c m) ≡ true
+      unfolding go worldIn
+      rung-goes q = rw (i, is-on, is-set (getD s 12 0) q)
+
+      opens-step : after-opening (bareIn s r m) (opening-of m (getD s 1 0) (smallIn (getD s 2 0))) ≡ step (worldIn s e r h c m)
+      unfolding step open-step worldIn
+      opens-step = rw i
+
+      pub turn-opens : (s′ m′ : List ℕ) → (getD s 12 0 ≡ 0 → ⊥) → Opens s m s′ m′ → TurnOf left s e r h c m 1 s′ e h c m′
+      turn-opens s′ m′ q o =
+          record {
+            turned = turned-step go step left (worldIn s e r h c m) (worldIn s′ e r h c m′) pre (rung-goes q) (o .world e r h c ∙ opens-step);
+            side = o .side;
+          }
+
+    pub turn-entries : (u : ℕ) (s′ m′ e′ : List ℕ) → tagIn s ≡ 1 → EntriesTurn s left m e u s′ m′ e′ → TurnOf left s e r h c m u s′ e′ h c m′
+    turn-entries u s′ m′ e′ i x = x .turn is-on r h c
+
+    pub turn-packets : (u : ℕ) (s′ m′ h′ c′ : List ℕ) → tagIn s ≡ 2 → PacketsTurn s left m e r h c u s′ m′ h′ c′ → TurnOf left s e r h c m u s′ e h′ c′ m′
+    turn-packets u s′ m′ h′ c′ i x = x .turn is-on
+
+pub ruleset turning-once = (turn-off, turn-waits, turn-quiet, turn-opens, turn-entries, turn-packets, needs)
+
+-- ---- advance
+
+module _ (a u : ℕ) (s₀ e₀ h₀ c₀ m₀ s e r h c m : List ℕ) (inv : run-for a (worldIn s₀ e₀ r h₀ c₀ m₀) ≡ spent u (run-for (a - u) (worldIn s e r h c m))) (same : getD s 28 0 ≡ getD s₀ 28 0) where
+  -- a turn that spends nothing is the end
+  pub advance-stops : (k : ℕ) (s′ e′ h′ c′ m′ : List ℕ) → TurnOf (a - u) s e r h c m k s′ e′ h′ c′ m′ → k ≡ 0 → Advanced a s₀ e₀ r h₀ c₀ m₀ u s′ e′ h′ c′ m′
+  advance-stops k s′ e′ h′ c′ m′ t z =
+      record { run = turns-stop go step a u (worldIn s e r h c m) (run-for a (worldIn s₀ e₀ r h₀ c₀ m₀)) inv (worldIn s′ e′ r h′ c′ m′) k (t .turned) z; side = t .side ∙ same }
+
+  pub advance-ends : a ≤ u → Advanced a s₀ e₀ r h₀ c₀ m₀ u s e h c m
+  advance-ends d = record { run = loop-out go step a u (worldIn s e r h c m) (run-for a (worldIn s₀ e₀ r h₀ c₀ m₀)) inv d; side = same }
+
+  pub advance-side : (k : ℕ) (s′ e′ h′ c′ m′ : List ℕ) → TurnOf (a - u) s e r h c m k s′ e′ h′ c′ m′ → getD s′ 28 0 ≡ getD s₀ 28 0
+  advance-side k s′ e′ h′ c′ m′ t = t .side ∙ same
+
+pub ruleset advancing = (loop-start, turns-on, advance-stops, advance-ends, advance-side, needs)

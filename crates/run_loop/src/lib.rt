@@ -1,0 +1,182 @@
+// A run on the device's words, turn by turn: an opening is one unit, a phase as many as the allowance and its own length let.
+// So the hot loops are the phases', and the contract is still unit by unit.
+use entry_rows::Entries;
+use phases::ending::GOING;
+use phases::entries::read_entries;
+use playing::PacketsPlace;
+use playing::PacketsRun;
+use playing::read_packets;
+use records::Records;
+use rooms::resources::Resources;
+use rules::Stream;
+use run_after_phase::land_entries;
+use run_after_phase::land_packets;
+use run_open::open_ring;
+use run_state::DOORBELL;
+use run_state::ENABLED;
+use run_state::ENTRIES;
+use run_state::HELD;
+use run_state::KEPT;
+use run_state::MADE;
+use run_state::NOTHING;
+use run_state::OWN;
+use run_state::PACKETS;
+use run_state::PLACE;
+use run_state::TAG;
+use run_state::Words;
+use run_state::is_set;
+use run_state::rows_in;
+use run_state::stream_in;
+use run_state::table_in;
+use widths::index;
+use widths::place;
+ghost use mathlib.Core.Path.{_≡_};
+ghost use Prim.Native.Nat.{_<_};
+ghost use Rattle.rules.specs.Stream.{stream-bytes};
+ghost use Rattle.ranges.specs.Views.{Room};
+ghost use Rattle.playing.specs.Playing.{PacketsRan};
+ghost use Rattle.run_state.specs.Views.{tagIn};
+ghost use Rattle.run_loop.specs.Views.{EntriesTurn, PacketsTurn, TurnOf, Advanced};
+
+// The stream's own part of the memory lent now.
+fn stream_part(mem: &[u8], s: Stream) -> &[u8]
+    ensures { λ r. ⌜ now r ≡ stream-bytes (now (mem .entry)) s ⌝ }
+{
+    let end = mem.len();
+    let from = place(s.gpa);
+    let size = index(s.size);
+    if from > end {
+        return &mem[end..end];
+    }
+    if size > end - from {
+        return &mem[from..end];
+    }
+    let to = from + size;
+    &mem[from..to]
+}
+
+// The phase of packets over the memory lent now.
+fn play(
+    mem: &[u8],
+    stream: Stream,
+    entries: &Entries,
+    n: usize,
+    resources: &Resources,
+    own: &mut Resources,
+    records: &mut Records,
+    from: PacketsPlace,
+    left: u16,
+) -> PacketsRun
+    requires { ⌜ Room n (from .live) (from .made) × (from .ending ≡ 0) ⌝ }
+    ensures { λ r. ⌜ PacketsRan (stream-bytes (now (mem .entry)) stream) (stream .size) n (now (entries .entry)) from (now (resources .entry)) (now (own .entry)) (now (records .entry)) left r (now (own .exit)) (now (records .exit)) ⌝ }
+{
+    let part = stream_part(mem, stream);
+    let end = index(stream.size);
+    read_packets(part, end, entries, n, resources, own, records, from, left)
+}
+
+// A turn of the phase of entries: the units it spent.
+fn entries_turn(words: &mut Words, mem: &mut [u8], entries: &mut Entries, left: u16) -> u16
+    requires { ⌜ (tagIn (now words) ≡ 1) × (0 < left) ⌝ }
+    ensures { λ r. ⌜ EntriesTurn (now (words .entry)) left (now (mem .entry)) (now (entries .entry)) r (now (words .exit)) (now (mem .exit)) (now (entries .exit)) ⌝ }
+{
+    let table = table_in(words);
+    let n = rows_in(words[KEPT]);
+    let run = read_entries(mem, table, entries, n, left);
+    let p = run.place;
+    land_entries(words, p, mem);
+    run.units
+}
+
+// A turn of the phase of packets: the units it spent.
+fn packets_turn(
+    words: &mut Words,
+    mem: &mut [u8],
+    entries: &Entries,
+    resources: &Resources,
+    own: &mut Resources,
+    records: &mut Records,
+    left: u16,
+) -> u16
+    requires { ⌜ (tagIn (now words) ≡ 2) × (0 < left) ⌝ }
+    ensures { λ r. ⌜ PacketsTurn (now (words .entry)) left (now (mem .entry)) (now (entries .entry)) (now (resources .entry)) (now (own .entry)) (now (records .entry)) r (now (words .exit)) (now (mem .exit)) (now (own .exit)) (now (records .exit)) ⌝ }
+{
+    let stream = stream_in(words);
+    let n = rows_in(words[KEPT]);
+    let from = PacketsPlace {
+        at: place(words[PLACE]),
+        live: rows_in(words[HELD]),
+        made: rows_in(words[MADE]),
+        own: is_set(words[OWN]),
+        ending: GOING,
+        why: 0,
+    };
+    let run = play(mem, stream, entries, n, resources, own, records, from, left);
+    let p = run.place;
+    land_packets(words, p, mem);
+    run.units
+}
+
+// One turn: an opening, or a phase for as long as the allowance lets; none where the device has stopped.
+fn turn_once(
+    words: &mut Words,
+    mem: &mut [u8],
+    entries: &mut Entries,
+    resources: &Resources,
+    own: &mut Resources,
+    records: &mut Records,
+    left: u16,
+) -> u16
+    requires { ⌜ 0 < left ⌝ }
+    ensures { λ r. ⌜ TurnOf left (now (words .entry)) (now (entries .entry)) (now (resources .entry)) (now (own .entry)) (now (records .entry)) (now (mem .entry)) r (now (words .exit)) (now (entries .exit)) (now (own .exit)) (now (records .exit)) (now (mem .exit)) ⌝ }
+{
+    if words[ENABLED] == 0 {
+        return 0;
+    }
+    let tag = words[TAG];
+    if tag == PACKETS {
+        return packets_turn(words, mem, entries, resources, own, records, left);
+    }
+    if tag == ENTRIES {
+        return entries_turn(words, mem, entries, left);
+    }
+    if tag != NOTHING {
+        return 0;
+    }
+    if words[DOORBELL] == 0 {
+        return 0;
+    }
+    open_ring(words, mem);
+    1
+}
+
+// As many units as are allowed, until they are spent, nothing is due, or a submission waits: how many were spent.
+pub fn advance(
+    words: &mut Words,
+    mem: &mut [u8],
+    entries: &mut Entries,
+    resources: &Resources,
+    own: &mut Resources,
+    records: &mut Records,
+    allowance: u16,
+) -> u16
+    ensures { λ r. ⌜ Advanced allowance (now (words .entry)) (now (entries .entry)) (now (resources .entry)) (now (own .entry)) (now (records .entry)) (now (mem .entry)) r (now (words .exit)) (now (entries .exit)) (now (own .exit)) (now (records .exit)) (now (mem .exit)) ⌝ }
+{
+    let mut units: u16 = 0;
+    while units < allowance {
+        let n = turn_once(
+            words,
+            mem,
+            entries,
+            resources,
+            own,
+            records,
+            allowance - units,
+        );
+        if n == 0 {
+            return units;
+        }
+        units += n;
+    }
+    units
+}
