@@ -10,7 +10,7 @@ use Rattle.machine.specs.Machine.{pick}
 use Rattle.rules.specs.State.{Work}
 use Rattle.rules.specs.State.Work.{resting, entries, packets, waiting}
 use Rattle.rules.specs.Steps.{waits-on}
-use Rattle.rules.specs.Calls.{handed-out}
+use Rattle.rules.specs.Calls.{at-rest, handed-out}
 use Rattle.run_state.specs.Views.{tagIn, openedIn, jobIn, streamIn, placeIn, keptIn, heldIn, worldIn}
 
 module _ (s e r h c m : List ℕ) where
@@ -52,3 +52,12 @@ module _ (s e r h c m : List ℕ) where
 
   pub outs-in : tagIn s < 3 → handed-out (worldIn s e r h c m .state .work) ≡ []
   outs-in = below handed-out [] refl refl refl
+
+  pub works-in : (tagIn s ≡ 0 → ⊥) → at-rest (worldIn s e r h c m .state .work) ≡ false
+  unfolding worldIn
+  works-in n = rw (ne-eqb (tagIn s) 0 n) (by-tests (eqb (tagIn s) 1) (eqb (tagIn s) 2))
+    where
+      by-tests : (y z : Bool) → at-rest (pick y (entries (openedIn s) (keptIn s e)) (pick z (packets (jobIn s) (streamIn s) (placeIn s) (keptIn s e) (heldIn s r h c)) (waiting (jobIn s) (keptIn s e) (heldIn s r h c)))) ≡ false
+      by-tests true z = refl
+      by-tests false true = refl
+      by-tests false false = refl

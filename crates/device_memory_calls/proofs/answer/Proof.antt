@@ -1,0 +1,54 @@
+-- `answer` meets its contract. Assumes nothing.
+use Rattle.device_memory_calls.specs.Calling.{answering}
+use borrow.Author.Needs.{needs}
+use Rattle.device_memory_calls.proofs.answer.Statement.{statement}
+use Rattle.device_memory_calls.proofs.answer.Tie as tie
+
+element-copy-out-place : tie.Need-element-copy-out-place
+element-copy-out-place c = search needs
+
+place-requires : tie.Need-place-requires
+place-requires c κs = search needs
+
+returns : tie.Need-returns
+returns c = search answering
+
+element-copy-out-if2 : tie.Need-element-copy-out-if2
+element-copy-out-if2 c = search needs
+
+returns-2 : tie.Need-returns-2
+returns-2 c = search answering
+
+settle-accepted-requires : tie.Need-settle-accepted-requires
+settle-accepted-requires c κs = search needs
+
+same-length : tie.Need-same-length
+same-length c = search needs
+
+returns-3 : tie.Need-returns-3
+returns-3 c = search answering
+
+settle-refused-requires : tie.Need-settle-refused-requires
+settle-refused-requires c κs = search needs
+
+same-length-2 : tie.Need-same-length-2
+same-length-2 c = search needs
+
+returns-4 : tie.Need-returns-4
+returns-4 c = search answering
+
+pub answer-spec : {M : Type 1} → statement M
+answer-spec =
+    tie.close
+    (tie.spec
+    element-copy-out-place
+    place-requires
+    returns
+    element-copy-out-if2
+    returns-2
+    settle-accepted-requires
+    same-length
+    returns-3
+    settle-refused-requires
+    same-length-2
+    returns-4)

@@ -1,0 +1,38 @@
+-- `run` meets its contract. Assumes nothing.
+use Rattle.device_memory_calls.specs.Calling.{running}
+use borrow.Author.Needs.{needs}
+use Rattle.device_memory_calls.proofs.run.Statement.{statement}
+use Rattle.device_memory_calls.proofs.run.Tie as tie
+
+element-copy-out-place : tie.Need-element-copy-out-place
+element-copy-out-place c = search needs
+
+place-requires : tie.Need-place-requires
+place-requires c κs = search needs
+
+returns : tie.Need-returns
+returns c = search running
+
+advance-on-requires : tie.Need-advance-on-requires
+advance-on-requires c κs = search needs
+
+ended-in-requires : tie.Need-ended-in-requires
+ended-in-requires c κs = search needs
+
+same-length : tie.Need-same-length
+same-length c = search needs
+
+returns-2 : tie.Need-returns-2
+returns-2 c = search running
+
+pub run-spec : {M : Type 1} → statement M
+run-spec =
+    tie.close
+    (tie.spec
+    element-copy-out-place
+    place-requires
+    returns
+    advance-on-requires
+    ended-in-requires
+    same-length
+    returns-2)

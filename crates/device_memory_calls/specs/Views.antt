@@ -1,0 +1,28 @@
+-- What a run and an answer give: the rules' own call of the device that stands in the words and tables; a refused one leaves every word,
+-- row and byte.
+use mathlib.Core.Path.{_≡_}
+use mathlib.Core.Bool.{Bool}
+use mathlib.Core.List.{List}
+use Prim.Native.Nat.{ℕ}
+use Rattle.rules.specs.Steps.{run-for}
+use Rattle.rules.specs.Calls.{ending, Ran, Told, call-run, call-answer}
+use Rattle.rules.specs.declared.Ended.{Ended}
+use Rattle.run_state.specs.Views.{worldIn, deskIn, Refused}
+use Rattle.device_memory_calls.specs.declared.Spent.{Spent}
+
+-- how a run ends, whatever the rows and the memory are
+pub record Ends (s : List ℕ) (x : Ended) : Type 0 where
+  pub ended : (e r h c m : List ℕ) → x ≡ ending (worldIn s e r h c m .state)
+
+-- words, entries, the first and the second table of resources, records, memory; the units; and what then stands
+pub record AdvancedOn (allowance : ℕ) (s e a b c m : List ℕ) (units : ℕ) (s′ e′ a′ b′ c′ m′ : List ℕ) : Type 0 where
+  pub run : record { state = deskIn s′ e′ a′ b′ c′ m′; units = units } ≡ run-for allowance (deskIn s e a b c m)
+
+pub record Runs (allowance : ℕ) (s e a b c m : List ℕ) (x : Spent) (s′ e′ a′ b′ c′ m′ : List ℕ) : Type 0 where
+  pub ran : _≡_ {A = Ran} (record { answer = x .answer; units = x .units; ended = x .ended; world = deskIn s′ e′ a′ b′ c′ m′ }) (call-run (deskIn s e a b c m) allowance)
+  pub still : Refused (x .answer) → (s′ ≡ s) × ((e′ ≡ e) × ((a′ ≡ a) × ((b′ ≡ b) × ((c′ ≡ c) × (m′ ≡ m)))))
+
+-- whatever stands in the tables
+pub record Answers (s m : List ℕ) (good : Bool) (answer : ℕ) (s′ m′ : List ℕ) : Type 0 where
+  pub told : (e a b c : List ℕ) → _≡_ {A = Told} (record { answer = answer; world = deskIn s′ e a b c m′ }) (call-answer (deskIn s e a b c m) good)
+  pub still : Refused answer → (s′ ≡ s) × (m′ ≡ m)

@@ -1,0 +1,117 @@
+// The calls on a device's words and tables that are lent guest memory: run and answer. Another memory than the device was made for is
+// refused before anything else; a refused call writes no word, no row and no byte.
+use entry_rows::Entries;
+use records::Records;
+use rooms::resources::Resources;
+use rules::Ended;
+use rules::Refusal;
+use rules::numbers::DONE;
+use rules::numbers::HOST_FAILED;
+use rules::numbers::NOTHING_WAITS;
+use rules::numbers::OTHER_MEMORY;
+use run_loop::advance;
+use run_settle::settle_accepted;
+use run_settle::settle_refused;
+use run_state::DOORBELL;
+use run_state::ENABLED;
+use run_state::MEMORY;
+use run_state::NOTHING;
+use run_state::SIDE;
+use run_state::TAG;
+use run_state::WAITING;
+use run_state::Words;
+use widths::place;
+ghost use Rattle.device_memory_calls.specs.Views.{Ends, AdvancedOn, Runs, Answers};
+
+// What a run answers: the call's answer, the units spent and how it ended.
+pub struct Spent {
+    pub answer: u32,
+    pub units: u16,
+    pub ended: Ended,
+}
+
+// How a run ends, by what the device then is.
+fn ended_in(words: &Words) -> Ended
+    ensures { λ r. ⌜ Ends (now (words .entry)) r ⌝ }
+{
+    let tag = words[TAG];
+    if tag >= WAITING {
+        return Ended::Waiting;
+    }
+    if words[ENABLED] == 0 {
+        return Ended::Idle;
+    }
+    if tag != NOTHING {
+        return Ended::Paused;
+    }
+    if words[DOORBELL] == 0 {
+        return Ended::Idle;
+    }
+    Ended::Paused
+}
+
+// A run, with the table of resources that is the device's and the other.
+fn advance_on(
+    words: &mut Words,
+    entries: &mut Entries,
+    first: &mut Resources,
+    second: &mut Resources,
+    records: &mut Records,
+    mem: &mut [u8],
+    allowance: u16,
+) -> u16
+    ensures { λ r. ⌜ AdvancedOn allowance (now (words .entry)) (now (entries .entry)) (now (first .entry)) (now (second .entry)) (now (records .entry)) (now (mem .entry)) r (now (words .exit)) (now (entries .exit)) (now (first .exit)) (now (second .exit)) (now (records .exit)) (now (mem .exit)) ⌝ }
+{
+    if words[SIDE] == 0 {
+        return advance(words, mem, entries, first, second, records, allowance);
+    }
+    advance(words, mem, entries, second, first, records, allowance)
+}
+
+// As many units as are allowed, over the memory lent now; says how many were spent and how it ended.
+pub fn run(
+    words: &mut Words,
+    entries: &mut Entries,
+    first: &mut Resources,
+    second: &mut Resources,
+    records: &mut Records,
+    mem: &mut [u8],
+    allowance: u16,
+) -> Spent
+    ensures { λ r. ⌜ Runs allowance (now (words .entry)) (now (entries .entry)) (now (first .entry)) (now (second .entry)) (now (records .entry)) (now (mem .entry)) r (now (words .exit)) (now (entries .exit)) (now (first .exit)) (now (second .exit)) (now (records .exit)) (now (mem .exit)) ⌝ }
+{
+    let memory = place(words[MEMORY]);
+    if mem.len() != memory {
+        return Spent {
+            answer: OTHER_MEMORY,
+            units: 0,
+            ended: Ended::Idle,
+        };
+    }
+    let units = advance_on(words, entries, first, second, records, mem, allowance);
+    let ended = ended_in(words);
+    Spent {
+        answer: DONE,
+        units,
+        ended,
+    }
+}
+
+// The host's answer to what waits. No table is needed: a good answer only says which one is the device's from now on.
+pub fn answer(words: &mut Words, mem: &mut [u8], good: bool) -> u32
+    ensures { λ r. ⌜ Answers (now (words .entry)) (now (mem .entry)) good r (now (words .exit)) (now (mem .exit)) ⌝ }
+{
+    let memory = place(words[MEMORY]);
+    if mem.len() != memory {
+        return OTHER_MEMORY;
+    }
+    if words[TAG] < WAITING {
+        return NOTHING_WAITS;
+    }
+    if good {
+        settle_accepted(words, mem);
+        return DONE;
+    }
+    settle_refused(words, mem, Refusal { code: HOST_FAILED });
+    DONE
+}
