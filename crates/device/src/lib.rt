@@ -1,26 +1,20 @@
-// The device as a value: every call takes it and hands it back, with the call's answer and its values.
-// No call asks anything of its caller: whatever stands in the device or in memory, it ends and says what it gives.
-use asking::Handed;
-use asking::Read;
-use asking::hand;
-use asking::rewrite;
-use asking::show;
+// The device as a value: every call takes it and hands it back, with the call's answer and its values. It is a struct of the words and
+// tables that the calls work on, and lends them. No call asks anything of its caller: whatever stands in the device or in memory, it ends
+// and says what it gives.
+use device_calls::Handed;
+use device_calls::ValueRead;
 use rules::Ended;
-use shell::new_numbers;
-use stages::scalars::Scalars;
-use working::tell;
-use working::work;
 ghost use mathlib.Core.Path.{_≡_};
 ghost use Rattle.rules.specs.State.{made};
 ghost use Rattle.rules.specs.Calls.{call-write, call-read, call-run, call-record, call-answer};
-ghost use Rattle.asking.specs.Views.{valueOf, handedOf};
-ghost use Rattle.device.specs.Views.{stateIn, worldIn, wroteOf, ranOf, toldOf};
+ghost use Rattle.device_calls.specs.Views.{valueOf, handedOf};
+ghost use Rattle.device.specs.Views.{stateOf, worldOf, wroteOf, ranOf, toldOf};
 
 pub struct Device {
-    pub scalars: Scalars,
+    pub words: [u64; 32],
     pub entries: [u64; 256],
-    pub rooms: [u64; 640],
-    pub held: [u64; 640],
+    pub first: [u64; 704],
+    pub second: [u64; 704],
     pub records: [u64; 320],
 }
 
@@ -44,89 +38,85 @@ pub struct Told {
 impl Device {
     // A device for a memory of so many bytes, as after a reset, with error and writable registers zero.
     pub fn new(memory: usize) -> Device
-        ensures { λ r. ⌜ stateIn r ≡ made memory ⌝ }
+        ensures { λ r. ⌜ stateOf r ≡ made memory ⌝ }
     {
-        let scalars = new_numbers(memory);
+        let mut words = [0u64; 32];
+        device_calls::make(&mut words, memory);
         Device {
-            scalars,
+            words,
             entries: [0u64; 256],
-            rooms: [0u64; 640],
-            held: [0u64; 640],
+            first: [0u64; 704],
+            second: [0u64; 704],
             records: [0u64; 320],
         }
     }
 
     // What a write to a register makes of the device.
     pub fn write(self, offset: u32, value: u32) -> Wrote
-        ensures { λ r. ⌜ wroteOf r ≡ call-write (stateIn self) offset value ⌝ }
+        ensures { λ r. ⌜ wroteOf r ≡ call-write (stateOf self) offset value ⌝ }
     {
-        let given = self.scalars;
+        let mut words = self.words;
         let entries = self.entries;
-        let rooms = self.rooms;
-        let held = self.held;
+        let first = self.first;
+        let second = self.second;
         let records = self.records;
-        let w = rewrite(given, offset, value);
-        let scalars = w.scalars;
+        let answer = register_writes::write(&mut words, offset, value);
         let device = Device {
-            scalars,
+            words,
             entries,
-            rooms,
-            held,
+            first,
+            second,
             records,
         };
-        Wrote {
-            answer: w.answer,
-            device,
-        }
+        Wrote { answer, device }
     }
 
     // What a register shows.
-    pub fn read(self, offset: u32) -> Read
-        ensures { λ r. ⌜ valueOf r ≡ call-read (stateIn self) offset ⌝ }
+    pub fn read(self, offset: u32) -> ValueRead
+        ensures { λ r. ⌜ valueOf r ≡ call-read (stateOf self) offset ⌝ }
     {
-        let s = self.scalars;
-        show(s.regs, offset)
+        let words = self.words;
+        device_calls::read(&words, offset)
     }
 
     // Record i of the submission that waits.
     pub fn record(self, i: u32) -> Handed
-        ensures { λ r. ⌜ handedOf r ≡ call-record (stateIn self) i ⌝ }
+        ensures { λ r. ⌜ handedOf r ≡ call-record (stateOf self) i ⌝ }
     {
-        let s = self.scalars;
+        let words = self.words;
         let records = self.records;
-        hand(s, &records, i)
+        device_calls::record(&words, &records, i)
     }
 
     // As many units as are allowed, over the memory lent now; says how many were spent and how it ended.
     pub fn run(self, mem: &mut [u8], allowance: u16) -> Ran
-        ensures { λ r. ⌜ ranOf r (now (mem .exit)) ≡ call-run (worldIn self (now (mem .entry))) allowance ⌝ }
+        ensures { λ r. ⌜ ranOf r (now (mem .exit)) ≡ call-run (worldOf self (now (mem .entry))) allowance ⌝ }
     {
-        let given = self.scalars;
+        let mut words = self.words;
         let mut entries = self.entries;
-        let rooms = self.rooms;
-        let mut held = self.held;
+        let mut first = self.first;
+        let mut second = self.second;
         let mut records = self.records;
-        let w = work(
-            given,
-            mem,
+        let x = device_memory_calls::run(
+            &mut words,
             &mut entries,
-            &rooms,
-            &mut held,
+            &mut first,
+            &mut second,
             &mut records,
+            mem,
             allowance,
         );
-        let scalars = w.scalars;
-        let ended = w.ended;
+        let ended = x.ended;
         let device = Device {
-            scalars,
+            words,
             entries,
-            rooms,
-            held,
+            first,
+            second,
             records,
         };
         Ran {
-            answer: w.answer,
-            units: w.units,
+            answer: x.answer,
+            units: x.units,
             ended,
             device,
         }
@@ -134,25 +124,21 @@ impl Device {
 
     // The host's answer to what waits.
     pub fn answer(self, mem: &mut [u8], good: bool) -> Told
-        ensures { λ r. ⌜ toldOf r (now (mem .exit)) ≡ call-answer (worldIn self (now (mem .entry))) good ⌝ }
+        ensures { λ r. ⌜ toldOf r (now (mem .exit)) ≡ call-answer (worldOf self (now (mem .entry))) good ⌝ }
     {
-        let given = self.scalars;
+        let mut words = self.words;
         let entries = self.entries;
-        let mut rooms = self.rooms;
-        let held = self.held;
+        let first = self.first;
+        let second = self.second;
         let records = self.records;
-        let t = tell(given, mem, &mut rooms, &held, good);
-        let scalars = t.scalars;
+        let answer = device_memory_calls::answer(&mut words, mem, good);
         let device = Device {
-            scalars,
+            words,
             entries,
-            rooms,
-            held,
+            first,
+            second,
             records,
         };
-        Told {
-            answer: t.answer,
-            device,
-        }
+        Told { answer, device }
     }
 }

@@ -1,13 +1,14 @@
+-- `write` meets its contract. Assumes nothing.
 use Rattle.device.specs.Calling.{calling}
 use borrow.Author.Needs.{needs}
 use Rattle.device.proofs.Device.write.Statement.{statement}
 use Rattle.device.proofs.Device.write.Tie as tie
 
-rewrite-requires : tie.Need-rewrite-requires
-rewrite-requires c κs = search needs
+write-requires : tie.Need-write-requires
+write-requires c κs = search needs
 
 returns : tie.Need-returns
 returns c = search calling
 
 pub write-spec : {M : Type 1} → statement M
-write-spec = tie.close (tie.spec rewrite-requires returns)
+write-spec = tie.close (tie.spec write-requires returns)
