@@ -1,0 +1,46 @@
+-- `say_record` meets its contract. Assumes nothing.
+use Rattle.zelezmut.specs.Saying.{saying-record}
+use borrow.Author.Needs.{needs}
+use Rattle.zelezmut.proofs.device.say_record.Statement.{statement}
+use Rattle.zelezmut.proofs.device.say_record.Tie as tie
+
+wide-requires : tie.Need-wide-requires
+wide-requires c κs = search needs
+
+wide-requires-2 : tie.Need-wide-requires-2
+wide-requires-2 c κs = search needs
+
+wide-requires-3 : tie.Need-wide-requires-3
+wide-requires-3 c κs = search needs
+
+element-write-said : tie.Need-element-write-said
+element-write-said c = search needs
+
+element-write-said-2 : tie.Need-element-write-said-2
+element-write-said-2 c = search needs
+
+element-write-said-3 : tie.Need-element-write-said-3
+element-write-said-3 c = search needs
+
+element-write-said-4 : tie.Need-element-write-said-4
+element-write-said-4 c = search needs
+
+element-write-said-5 : tie.Need-element-write-said-5
+element-write-said-5 c = search needs
+
+returns : tie.Need-returns
+returns c = search saying-record
+
+pub say-record-spec : {M : Type 1} → statement M
+say-record-spec =
+    tie.close
+    (tie.spec
+    wide-requires
+    wide-requires-2
+    wide-requires-3
+    element-write-said
+    element-write-said-2
+    element-write-said-3
+    element-write-said-4
+    element-write-said-5
+    returns)

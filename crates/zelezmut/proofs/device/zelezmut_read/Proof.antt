@@ -1,0 +1,27 @@
+-- `zelezmut_read` meets its contract. Assumes nothing.
+use Rattle.zelezmut.specs.Saying.{saying-value}
+use borrow.Author.Needs.{needs}
+use Rattle.zelezmut.proofs.device.zelezmut_read.Statement.{statement}
+use Rattle.zelezmut.proofs.device.zelezmut_read.Tie as tie
+
+read-requires : tie.Need-read-requires
+read-requires c κs = search needs
+
+wide-requires : tie.Need-wide-requires
+wide-requires c κs = search needs
+
+wide-requires-2 : tie.Need-wide-requires-2
+wide-requires-2 c κs = search needs
+
+mul-result : tie.Need-mul-result
+mul-result c = search needs
+
+add-result : tie.Need-add-result
+add-result c = search needs
+
+returns : tie.Need-returns
+returns c = search saying-value
+
+pub zelezmut-read-spec : {M : Type 1} → statement M
+zelezmut-read-spec =
+    tie.close (tie.spec read-requires wide-requires wide-requires-2 mul-result add-result returns)

@@ -1,0 +1,50 @@
+-- `zelezmut_run` meets its contract. Assumes nothing.
+use Rattle.zelezmut.specs.Saying.{saying-run}
+use borrow.Author.Needs.{needs}
+use Rattle.zelezmut.proofs.device.zelezmut_run.Statement.{statement}
+use Rattle.zelezmut.proofs.device.zelezmut_run.Tie as tie
+
+run-requires : tie.Need-run-requires
+run-requires c κs = search needs
+
+number-of-requires : tie.Need-number-of-requires
+number-of-requires c κs = search needs
+
+count-requires : tie.Need-count-requires
+count-requires c κs = search needs
+
+wide-requires : tie.Need-wide-requires
+wide-requires c κs = search needs
+
+mul-result : tie.Need-mul-result
+mul-result c = search needs
+
+mul-result-2 : tie.Need-mul-result-2
+mul-result-2 c = search needs
+
+add-result : tie.Need-add-result
+add-result c = search needs
+
+add-result-2 : tie.Need-add-result-2
+add-result-2 c = search needs
+
+same-length : tie.Need-same-length
+same-length c = search needs
+
+returns : tie.Need-returns
+returns c = search saying-run
+
+pub zelezmut-run-spec : {M : Type 1} → statement M
+zelezmut-run-spec =
+    tie.close
+    (tie.spec
+    run-requires
+    number-of-requires
+    count-requires
+    wide-requires
+    mul-result
+    mul-result-2
+    add-result
+    add-result-2
+    same-length
+    returns)

@@ -1,0 +1,35 @@
+-- What the exports say: the values of the rules' own call, in one number or in five words.
+use mathlib.Core.Path.{_≡_}
+use mathlib.Core.List.{List, [], _∷_}
+use Prim.Native.Nat.{ℕ, _+_, _*_}
+use Rattle.rules.specs.Calls.{ended-number, Value, Ran, call-read, call-run, call-record}
+use Rattle.rules.specs.declared.Record.{Record}
+use Rattle.run_state.specs.Views.{stateIn, deskIn, Refused}
+
+-- a read's value, its answer above it
+abbrev pub saidValue : Value → ℕ
+saidValue x = x .value + 4294967296 * x .answer
+
+-- a run's answer, how it ended and its units, each above the one before
+abbrev pub saidRun : Ran → ℕ
+saidRun x = x .answer + (256 * ended-number (x .ended) + 65536 * x .units)
+
+abbrev pub recordWords : Record → List ℕ
+recordWords c = c .kind ∷ c .handle ∷ c .id ∷ c .gpa ∷ c .length ∷ []
+
+-- ---- the calls
+
+-- the rules' read, of the device in the words
+pub record SaysValue (s : List ℕ) (offset said : ℕ) : Type 0 where
+  pub value : (e a b c : List ℕ) → said ≡ saidValue (call-read (stateIn s e a b c) offset)
+
+-- the rules' run, of the device in the words and tables
+pub record SaysRun (allowance : ℕ) (s e a b c m : List ℕ) (said : ℕ) (s′ e′ a′ b′ c′ m′ : List ℕ) : Type 0 where
+  pub spent : said ≡ saidRun (call-run (deskIn s e a b c m) allowance)
+  pub world : deskIn s′ e′ a′ b′ c′ m′ ≡ call-run (deskIn s e a b c m) allowance .world
+  pub still : Refused (call-run (deskIn s e a b c m) allowance .answer) → (s′ ≡ s) × ((e′ ≡ e) × ((a′ ≡ a) × ((b′ ≡ b) × ((c′ ≡ c) × (m′ ≡ m)))))
+
+-- the rules' record, of the device in the words
+pub record SaysRecord (s c : List ℕ) (i n : ℕ) (said : List ℕ) : Type 0 where
+  pub answer : (e a b : List ℕ) → n ≡ call-record (stateIn s e a b c) i .answer
+  pub range : (e a b : List ℕ) → said ≡ recordWords (call-record (stateIn s e a b c) i .range)

@@ -1,0 +1,75 @@
+-- What the saying of a call's values asks. Assumes nothing.
+use mathlib.Core.Path.{_≡_, refl, sym, ap, _∙_}
+use mathlib.Core.Bool.{Bool}
+use mathlib.Core.List.{List, [], _∷_}
+use Prim.Native.Nat.{ℕ, _+_, _*_, _^_, _≤_, _<_}
+use native.Mathlib.Omega.{arith}
+use borrow.Author.Needs.{needs}
+use lib.ListN.{length, set, drop, drop-of-length-le}
+use lib.Seq.{sets-eq}
+use mir.Syntax.{w64}
+use mir.Val.{Fits}
+use Rattle.rules.specs.Calls.{ended-number, Value, Handed as HandedBy, Ran, call-read, call-run, call-record}
+use Rattle.rules.specs.declared.Record.{Record}
+use Rattle.rules.specs.declared.Ended.{Ended}
+use Rattle.run_state.specs.Views.{setIn, stateIn, deskIn, Refused}
+use Rattle.device_calls.specs.Views.{valueOf, handedOf, Makes, Reads, Hands}
+use Rattle.device_calls.specs.declared.ValueRead.{ValueRead}
+use Rattle.device_calls.specs.declared.Handed.{Handed}
+use Rattle.device_memory_calls.specs.Views.{Runs, Answers}
+use Rattle.device_memory_calls.specs.declared.Spent.{Spent}
+use Rattle.zelezmut.specs.Said.{saidValue, saidRun, recordWords, SaysValue, SaysRun, SaysRecord}
+
+-- ---- zelezmut_read
+
+pub says-value : (s : List ℕ) (offset v a : ℕ) (x : ValueRead) → Reads s offset x → (v ≡ x .value) × (v < 4294967296) → (a ≡ x .answer) × (a < 4294967296) → SaysValue s offset (v + 4294967296 * a)
+says-value s offset v a x k p q =
+    record { value = λ e f g c. rw (p .0, q .0) (ap saidValue (k .value e f g c)) }
+
+pub ruleset saying-value = (says-value, needs)
+
+-- ---- zelezmut_run
+
+module _ (allowance : ℕ) (s e a b c m s′ e′ a′ b′ c′ m′ : List ℕ) (x : Spent) (k : Runs allowance s e a b c m x s′ e′ a′ b′ c′ m′) (n v u : ℕ) where
+  abbrev given : Ran
+  given = record { answer = x .answer; units = x .units; ended = x .ended; world = deskIn s′ e′ a′ b′ c′ m′ }
+
+  pub says-run : (n ≡ ended-number (x .ended)) × (n ≤ 2) → u ≡ x .units → (v ≡ x .answer) × (v < 4294967296) → SaysRun allowance s e a b c m (v + (256 * n + 65536 * u)) s′ e′ a′ b′ c′ m′
+  says-run p q t =
+      record {
+        spent = rw (p .0, q, t .0) (ap saidRun (k .ran));
+        world = ap (λ (r : Ran). r .world) (k .ran);
+        still = λ z. k .still (λ d. z (sym (ap (λ (r : Ran). r .answer) (k .ran)) ∙ d));
+      }
+
+pub ruleset saying-run = (says-run, needs)
+
+-- ---- zelezmut_record
+
+five-set : (l : List ℕ) (a b c d e : ℕ) → length l ≡ 5 → set (set (set (set (set l 0 a) 1 b) 2 c) 3 d) 4 e ≡ a ∷ b ∷ c ∷ d ∷ e ∷ []
+five-set l a b c d e long =
+    let rest : drop 5 l ≡ [] = drop-of-length-le l {i = 5} (omega arith) in
+    sets-eq (a ∷ b ∷ c ∷ d ∷ e ∷ []) l 0 (omega arith) ∙ rw rest
+
+pub says-words : (l : List ℕ) (x : Record) (kind handle id : ℕ) → length l ≡ 5 → (kind ≡ x .kind) × (kind < 4294967296) → (handle ≡ x .handle) × (handle < 4294967296) → (id ≡ x .id) × (id < 4294967296)
+    → set (set (set (set (set l 0 kind) 1 handle) 2 id) 3 (x .gpa)) 4 (x .length) ≡ recordWords x
+says-words l x kind handle id long p q t = five-set l kind handle id (x .gpa) (x .length) long ∙ rw (p .0, q .0, t .0)
+
+pub says-record : (s c : List ℕ) (i : ℕ) (x : Handed) (said : List ℕ) → Hands s c i x → said ≡ recordWords (x .range) → SaysRecord s c i (x .answer) said
+says-record s c i x said k p =
+    record {
+      answer = λ e a b. ap (λ (h : HandedBy). h .answer) (k .hands e a b);
+      range = λ e a b. p ∙ ap (λ (h : HandedBy). recordWords (h .range)) (k .hands e a b);
+    }
+
+pub ruleset saying-record = (says-words, says-record, needs)
+
+-- ---- zelezmut_make, zelezmut_answer
+
+pub made-at : (memory n : ℕ) (s′ : List ℕ) → n ≡ memory → Makes n s′ → Makes memory s′
+made-at memory n s′ p k = rw (← p) k
+
+pub told-as : (s m : List ℕ) (good n answer : ℕ) (b : Bool) (s′ m′ : List ℕ) → (n ≡ good) × (n < 4294967296) → b ≡ setIn n → Answers s m b answer s′ m′ → Answers s m (setIn good) answer s′ m′
+told-as s m good n answer b s′ m′ p q k = rw (← p .0, ← q) k
+
+pub ruleset handing-on = (made-at, told-as, needs)

@@ -1,0 +1,119 @@
+// The device over state that the host owns: its words and its four tables. Zero or not, any words mean some device; `zelezmut_make` makes a
+// new one of them. A call's values stand beside its answer in one number, or, for a record, in five words.
+use entry_rows::Entries;
+use records::Records;
+use rooms::resources::Resources;
+use rules::Ended;
+use rules::Record;
+use run_state::Words;
+use run_state::is_set;
+use widths::count;
+use widths::place;
+use widths::wide;
+ghost use mathlib.Core.Path.{_≡_};
+ghost use Prim.Native.Nat.{_≤_};
+ghost use Rattle.rules.specs.Calls.{ended-number};
+ghost use Rattle.run_state.specs.Views.{setIn};
+ghost use Rattle.register_writes.specs.Views.{Writes};
+ghost use Rattle.device_calls.specs.Views.{Makes};
+ghost use Rattle.device_memory_calls.specs.Views.{Answers};
+ghost use Rattle.zelezmut.specs.Said.{recordWords, SaysValue, SaysRun, SaysRecord};
+
+// A read's answer stands above its value's four bytes.
+const ABOVE_VALUE: u64 = 4294967296;
+
+// How a run ended stands above its answer, and the units above that.
+const ABOVE_ANSWER: u64 = 256;
+
+const ABOVE_ENDED: u64 = 65536;
+
+// Idle 0, waiting 1, paused 2.
+fn number_of(ended: Ended) -> u64
+    ensures { λ r. ⌜ (r ≡ ended-number ended) × (r ≤ 2) ⌝ }
+{
+    match ended {
+        Ended::Idle => 0,
+        Ended::Waiting => 1,
+        Ended::Paused => 2,
+    }
+}
+
+// Says a record: kind, handle, id, GPA, length.
+fn say_record(said: &mut [u64; 5], range: Record)
+    ensures { λ _. ⌜ now (said .exit) ≡ recordWords range ⌝ }
+{
+    let all = &said[..];
+    let kind = wide(range.kind);
+    let handle = wide(range.handle);
+    let id = wide(range.id);
+    said[0] = kind;
+    said[1] = handle;
+    said[2] = id;
+    said[3] = range.gpa;
+    said[4] = range.length;
+}
+
+// A new device for a memory of so many bytes. Its tables may hold anything.
+#[no_mangle]
+pub extern "C" fn zelezmut_make(words: &mut Words, memory: u64)
+    ensures { λ _. ⌜ Makes memory (now (words .exit)) ⌝ }
+{
+    device_calls::make(words, place(memory));
+}
+
+// Writes a register: the call's answer.
+#[no_mangle]
+pub extern "C" fn zelezmut_write(words: &mut Words, offset: u32, value: u32) -> u32
+    ensures { λ r. ⌜ Writes (now (words .entry)) offset value r (now (words .exit)) ⌝ }
+{
+    register_writes::write(words, offset, value)
+}
+
+// Reads a register: its value, and 2^32 times the call's answer.
+#[no_mangle]
+pub extern "C" fn zelezmut_read(words: &Words, offset: u32) -> u64
+    ensures { λ r. ⌜ SaysValue (now (words .entry)) offset r ⌝ }
+{
+    let x = device_calls::read(words, offset);
+    wide(x.value) + ABOVE_VALUE * wide(x.answer)
+}
+
+// Runs over the memory lent now: the call's answer, 2^8 times how it ended (idle 0, waiting 1, paused 2) and 2^16 times the units spent.
+#[no_mangle]
+pub extern "C" fn zelezmut_run(
+    words: &mut Words,
+    entries: &mut Entries,
+    first: &mut Resources,
+    second: &mut Resources,
+    records: &mut Records,
+    mem: &mut [u8],
+    allowance: u16,
+) -> u64
+    ensures { λ r. ⌜ SaysRun allowance (now (words .entry)) (now (entries .entry)) (now (first .entry)) (now (second .entry)) (now (records .entry)) (now (mem .entry)) r (now (words .exit)) (now (entries .exit)) (now (first .exit)) (now (second .exit)) (now (records .exit)) (now (mem .exit)) ⌝ }
+{
+    let x = device_memory_calls::run(words, entries, first, second, records, mem, allowance);
+    let how = x.ended;
+    let ended = number_of(how);
+    let units = count(x.units);
+    wide(x.answer) + (ABOVE_ANSWER * ended + ABOVE_ENDED * units)
+}
+
+// Record i of the submission that waits: the call's answer, and says kind, handle, id, GPA and length.
+#[no_mangle]
+pub extern "C" fn zelezmut_record(words: &Words, records: &Records, i: u32, said: &mut [u64; 5]) -> u32
+    ensures { λ r. ⌜ SaysRecord (now (words .entry)) (now (records .entry)) i r (now (said .exit)) ⌝ }
+{
+    let x = device_calls::record(words, records, i);
+    let range = x.range;
+    say_record(said, range);
+    x.answer
+}
+
+// The host's answer to what waits, 0 for failed: the call's answer.
+#[no_mangle]
+pub extern "C" fn zelezmut_answer(words: &mut Words, mem: &mut [u8], good: u32) -> u32
+    ensures { λ r. ⌜ Answers (now (words .entry)) (now (mem .entry)) (setIn good) r (now (words .exit)) (now (mem .exit)) ⌝ }
+{
+    let told = is_set(wide(good));
+    device_memory_calls::answer(words, mem, told)
+}
