@@ -33,14 +33,14 @@ flat-texture k s f w h m y e a b c d g =
 
 pub ruleset flattening = (flat-buffer, flat-texture, needs)
 
-module _ (n : ℕ) (l : List ℕ) (r : Resource) (tag format width height mips layers : ℕ) where
-  pub pushes : (a p y o : ℕ) → n < most → length l ≡ 704 → flatKind tag format width height mips layers ≡ r .kind
+module _ (n : ℕ) (l : List ℕ) (r : Resource) (tag bytes format width height mips layers : ℕ) where
+  pub pushes : (a p y o : ℕ) → n < most → length l ≡ 704 → flatKind tag format width height mips layers ≡ r .kind → bytes ≡ r .bytes
       → (a ≡ r .handle) × (a < 4294967296) → (p ≡ r .pitch) × (p < 4294967296) → (y ≡ r .backing) × (y < 4294967296) → (o ≡ r .offset) × (o < 4294967296)
-      → resourcesOf (n + 1) (set (set (set (set (set (set (set (set (set (set (set l (11 * n) a) (11 * n + 1) tag) (11 * n + 2) (r .bytes)) (11 * n + 3) format) (11 * n + 4) width) (11 * n + 5) height) (11 * n + 6) mips) (11 * n + 7) layers) (11 * n + 8) p) (11 * n + 9) y) (11 * n + 10) o)
+      → resourcesOf (n + 1) (set (set (set (set (set (set (set (set (set (set (set l (11 * n) a) (11 * n + 1) tag) (11 * n + 2) bytes) (11 * n + 3) format) (11 * n + 4) width) (11 * n + 5) height) (11 * n + 6) mips) (11 * n + 7) layers) (11 * n + 8) p) (11 * n + 9) y) (11 * n + 10) o)
       ≡ pushed (resourcesOf n l) r
-  pushes a p y o h len k ha hp hy ho =
-      let vs : List ℕ = a ∷ tag ∷ r .bytes ∷ format ∷ width ∷ height ∷ mips ∷ layers ∷ p ∷ y ∷ o ∷ [] in
-      let same : resourceOf vs ≡ r = rw (mod-eq-of-lt (ha .1), mod-eq-of-lt (hp .1), mod-eq-of-lt (hy .1), mod-eq-of-lt (ho .1), ha .0, hp .0, hy .0, ho .0, k) in
+  pushes a p y o h len k hb ha hp hy ho =
+      let vs : List ℕ = a ∷ tag ∷ bytes ∷ format ∷ width ∷ height ∷ mips ∷ layers ∷ p ∷ y ∷ o ∷ [] in
+      let same : resourceOf vs ≡ r = rw (mod-eq-of-lt (ha .1), mod-eq-of-lt (hp .1), mod-eq-of-lt (hy .1), mod-eq-of-lt (ho .1), ha .0, hp .0, hy .0, ho .0, hb, k) in
       let ninth : 11 * n + 9 ≡ suc (11 * n + 8) = omega arith in
       let tenth : 11 * n + 10 ≡ suc (11 * n + 9) = omega arith in
       rw (tenth, ninth) (simp towards-suc (simp towards-suc at (table-push-sets resourceOf 11 n vs l refl (omega arith)))) ∙ ap (λ x. pushed (resourcesOf n l) x) same
