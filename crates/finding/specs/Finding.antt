@@ -1,14 +1,20 @@
 -- The scan for a key: what its code asks. Assumes nothing.
 use mathlib.Core.Path.{_≡_, sym, ap, _∙_}
 use mathlib.Core.List.{List}
+use mathlib.Core.Logic.{⊎-elim}
 use Prim.Native.Nat.{ℕ, suc, _+_, _*_, _-_, _≤_, _<_, _%_, _^_}
 use native.Mathlib.Nat.{add-zero, le-refl, mul-le-mul, mul-le-mul-left}
 use native.Mathlib.Omega.{arith}
 use borrow.Author.Needs.{needs}
 use lib.ListN.{length, getD}
+use Rattle.words.specs.Over.{below-or-not}
 use Rattle.rules.specs.Lists.{indexOf}
 use Rattle.rows.specs.Rows.{rowAt, table, tableFrom, firstWord, row-field, from-first, from-none, from-zero}
 use Rattle.rows.specs.Keys.{index-here, index-later, index-nil}
+
+-- where the rows left are eights, and some are left, eight are
+eight-left : (i n : ℕ) → (i ≤ n) × ((n - i) % 8 ≡ 0) → (i ≡ n → ⊥) → i + 8 ≤ n
+eight-left i n eights h = ⊎-elim (λ r. omega arith) (λ r. absurd (h (omega arith))) (below-or-not i n)
 
 module _ (k w : ℕ) (l : List ℕ) where
   -- the place of the key among the rows from row i on, up to row n
@@ -87,8 +93,8 @@ module _ (k w : ℕ) (l : List ℕ) where
   -- ---- by_eight, find_row: t is what the whole scan gives
 
   module _ (n i t : ℕ) (so-far : t ≡ i + indexOf firstWord k (tableFrom (λ r. r) w i n l)) where
-    pub scan-end : (i ≤ n) × ((n - i) % 8 ≡ 0) → n ≤ i → n ≡ t
-    scan-end g h = let e : placeFrom n i ≡ 0 = rw (from-none (λ r. r) w i n l h) (index-nil firstWord k) in omega arith
+    pub scan-end : i ≡ n → n ≡ t
+    scan-end h = let e : placeFrom n i ≡ 0 = rw (from-none (λ r. r) w i n l (omega arith)) (index-nil firstWord k) in omega arith
 
     module _ (m r : ℕ) (a : Among i m r) (room : i + m ≤ n) where
       found : r < m → i + r ≡ t
@@ -97,12 +103,12 @@ module _ (k w : ℕ) (l : List ℕ) where
       past : m ≤ r → t ≡ i + m + placeFrom n (i + m)
       past h = omega (arith, a .later n room h)
 
-    module _ (eights : (i ≤ n) × ((n - i) % 8 ≡ 0)) (h : i < n) (r : ℕ) (a : Among i 8 r) where
+    module _ (eights : (i ≤ n) × ((n - i) % 8 ≡ 0)) (h : i ≡ n → ⊥) (r : ℕ) (a : Among i 8 r) where
       pub eight-here : r < 8 → i + r ≡ t
-      eight-here g = found 8 r a (omega arith) g
+      eight-here g = found 8 r a (eight-left i n eights h) g
 
       pub eight-later : 8 ≤ r → t ≡ i + 8 + indexOf firstWord k (tableFrom (λ r. r) w (i + 8) n l)
-      eight-later g = past 8 r a (omega arith) g
+      eight-later g = past 8 r a (eight-left i n eights h) g
 
     module _ (h : i < n % 8) (r : ℕ) (a : Among i 1 r) where
       pub few-here : r < 1 → i + r ≡ t
@@ -131,8 +137,8 @@ module _ (w i n : ℕ) (l : List ℕ) (pre : (0 < w) × (w * n ≤ length l)) wh
   room : (m : ℕ) → i + m ≤ n → w * (i + m) ≤ length l
   room m h = omega (arith, pre .1, mul-le-mul-left w h)
 
-  pub eight-room : (i ≤ n) × ((n - i) % 8 ≡ 0) → i < n → w * (i + 8) ≤ length l
-  eight-room eights h = room 8 (omega arith)
+  pub eight-room : i ≤ n → (n - i) % 8 ≡ 0 → (i ≡ n → ⊥) → w * (i + 8) ≤ length l
+  eight-room g e h = room 8 (eight-left i n (g, e) h)
 
   pub few-room : i < n % 8 → w * (i + 1) ≤ length l
   few-room h = room 1 (omega arith)

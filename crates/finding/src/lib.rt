@@ -60,7 +60,7 @@ fn by_eight(rows: &[u64], width: usize, from: usize, count: usize, key: u32) -> 
     ensures { λ r. ⌜ r ≡ from + indexOf firstWord key (tableFrom (λ r. r) width from count (now (rows .entry))) ⌝ }
 {
     let mut i = from;
-    while i < count {
+    while i != count {
         let r = of_eight(rows, width, i, key);
         if r < 8 {
             return i + r;
