@@ -34,13 +34,13 @@ pub fn descriptor_at(mem: &[u8], at: usize) -> Descriptor
 fn bad(gpa: u64, size: u32) -> bool
     ensures { λ r. ⌜ r ≡ bad-range gpa size ⌝ }
 {
-    if gpa == 0 {
-        if size == 0 {
+    if size == 0 {
+        if gpa == 0 {
             return false;
         }
         return true;
     }
-    if size == 0 {
+    if gpa == 0 {
         return true;
     }
     if gpa > u64::MAX - wide(size) {

@@ -17,6 +17,7 @@ use Rattle.rules.specs.Judging.{rule, only, _▹_}
 use Rattle.rules.specs.Layouts.{good-version, ring-header, ring-header-size, descriptor, descriptor-size, table-header, stream-header}
 use Rattle.rules.specs.Table.{header-rules, table-of, no-table}
 use Rattle.rules.specs.Stream.{stream-rules, stream-of, no-stream}
+use Rattle.slots.specs.Header.{counted}
 use Rattle.rules.specs.Ring.{power-of-two, good-header, good-ring, slot, slot-place, present, descriptor-rules, range-rules, submission-rules, opened-of, concluded, submission-opening, ring-opening, opening-of}
 use Rattle.rules.specs.declared.RingHeader.{RingHeader}
 use Rattle.rules.specs.declared.Descriptor.{Descriptor}
@@ -172,19 +173,14 @@ pub ruleset opening-submission = (descriptor-refused, ranges-refused, ranges-giv
 -- ---- the head's slot
 
 pub record SlotInside (memory ring : ℕ) (h : RingHeader) : Type 0 where
-  pub some : 0 < h .count
+  pub power : power-of-two slot-doublings (h .count) ≡ true
   pub fits : ring + (ring-header-size + slot h * h .stride) + descriptor-size ≤ memory
 
 -- what a good header says of its slots
 pub record GoodSlots (size : ℕ) (h : RingHeader) : Type 0 where
-  pub some : 0 < h .count
+  pub power : power-of-two slot-doublings (h .count) ≡ true
   pub stride : descriptor-size ≤ h .stride
   pub inside : ring-header-size + h .count * h .stride ≤ size
-
-counted : (n : ℕ) → power-of-two slot-doublings n ≡ true → 0 < n
-unfolding power-of-two
-counted zero e = absurd (let z : _≡_ {A = ℕ} 0 1 = cc in omega arith)
-counted (suc n) e = omega arith
 
 good-header-says : (size : ℕ) (h : RingHeader) → good-header size h ≡ true → GoodSlots size h
 unfolding good-header
@@ -197,7 +193,7 @@ good-header-says size h e =
     let rows : ring-header-size + h .count * h .stride ≤ h .size = leb-true _ _ (both-left (leb (ring-header-size + h .count * h .stride) (h .size)) _ r₄) in
     let whole : h .size ≤ size = leb-true _ _ (both-left (leb (h .size) size) _ r₅) in
     record {
-      some = counted (h .count) (both-left (power-of-two slot-doublings (h .count)) _ r₂);
+      power = both-left (power-of-two slot-doublings (h .count)) _ r₂;
       stride = leb-true _ _ (both-left (leb descriptor-size (h .stride)) _ r₃);
       inside = omega arith;
     }
@@ -265,8 +261,8 @@ module _ (m : List ℕ) (ring size : ℕ) where
           pub slot-given : SlotInside (length m) ring h
           slot-given =
               let s : GoodSlots size h = good-header-says size h (sym judged ∙ not-false g e) in
-              let row : slot h * h .stride + h .stride ≤ h .count * h .stride = omega (arith, mul-le-mul-right (h .stride) (slot-below h (s .some))) in
-              record { some = s .some; fits = omega (arith, within, s .inside, s .stride, row) }
+              let row : slot h * h .stride + h .stride ≤ h .count * h .stride = omega (arith, mul-le-mul-right (h .stride) (slot-below h (counted (h .count) (s .power)))) in
+              record { power = s .power; fits = omega (arith, within, s .inside, s .stride, row) }
 
           pub ring-opened : (x : Opening) → x ≡ ring-opening m ring h → x ≡ opening-of m ring size
           unfolding opening-of

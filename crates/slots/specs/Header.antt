@@ -7,10 +7,11 @@ use native.Mathlib.Nat.{mod-eq-of-lt}
 use native.Mathlib.Omega.{arith}
 use borrow.Author.Needs.{needs}
 use borrow.Author.Tests.{eq-eqb, ne-eqb, le-leb, lt-leb, eqb-true, eqb-false, ltb-true, ltb-false, not-true, not-false}
+use lib.Bits.{bitAnd, and-mask}
 use lib.Dec.{ltb, leb, eqb}
 use Rattle.rules.specs.Numbers.{ring-magic, slot-doublings, minors, good-major}
 use Rattle.rules.specs.Layouts.{word, ring-header, ring-header-size, descriptor-size}
-use Rattle.rules.specs.Ring.{power-of-two, pending, good-header}
+use Rattle.rules.specs.Ring.{power-of-two, pending, good-header, slot}
 use Rattle.rules.specs.declared.RingHeader.{RingHeader}
 use Rattle.laws.specs.Fine.{both-left, both-right}
 
@@ -22,7 +23,7 @@ header-read m at a b c d e f g p q r s t u v = rw (p, q, r, s, t, u, v)
 
 pub ruleset reading-header = (header-read, needs)
 
--- ---- good_count: the divisors of 1,024 are the powers of two up to it
+-- ---- good_count: up to 1,024 the powers of two are those that have no bit in common with the number below
 
 same-bool : Bool → Bool → Bool
 same-bool true b = b
@@ -40,8 +41,8 @@ all-below : (ℕ → Bool) → ℕ → Bool
 all-below t zero = true
 all-below t (suc n) = t n && all-below t n
 
-divides : ℕ → Bool
-divides n = same-bool (power-of-two slot-doublings (suc n)) (eqb (1024 % suc n) 0)
+apart : ℕ → Bool
+apart n = same-bool (power-of-two slot-doublings (suc n)) (eqb (bitAnd (suc n) n) 0)
 
 below-holds : (t : ℕ → Bool) (n : ℕ) → all-below t n ≡ true → (k : ℕ) → k < n → t k ≡ true
 unfolding all-below
@@ -53,24 +54,23 @@ below-holds t (suc n) h k p = by-place (eqb k n) refl (below-holds t n (both-rig
     by-place false e ih = ih (omega (arith, eqb-false k n e))
 
 -- computed once, at every count up to the limit
-all-counts : all-below divides 1024 ≡ true
-unfolding all-below divides same-bool power-of-two
+all-counts : all-below apart 1024 ≡ true
+unfolding all-below apart same-bool power-of-two
 all-counts = refl
 
 pub count-zero : (n : ℕ) → n ≡ 0 → false ≡ power-of-two slot-doublings n
 unfolding power-of-two
 count-zero n e = rw e
 
-few-slots : (k : ℕ) → k < 1024 → eqb (1024 % suc k) 0 ≡ power-of-two slot-doublings (suc k)
-unfolding divides
-few-slots k h = sym (same-is (power-of-two slot-doublings (suc k)) (eqb (1024 % suc k) 0) (below-holds divides 1024 all-counts k h))
+few-slots : (k : ℕ) → k < 1024 → eqb (bitAnd (suc k) k) 0 ≡ power-of-two slot-doublings (suc k)
+unfolding apart
+few-slots k h = sym (same-is (power-of-two slot-doublings (suc k)) (eqb (bitAnd (suc k) k) 0) (below-holds apart 1024 all-counts k h))
 
-many-slots : (n : ℕ) → 1024 < n → eqb (1024 % n) 0 ≡ power-of-two slot-doublings n
+pub many-slots : (n : ℕ) → 1024 < n → false ≡ power-of-two slot-doublings n
 unfolding power-of-two
 many-slots n h =
     let out : (k : ℕ) → k ≤ 1024 → n ≡ k → ⊥ = λ k p e. omega arith in
     rw (
-      mod-eq-of-lt h,
       ne-eqb n 1024 (out 1024 (omega arith)),
       ne-eqb n 512 (out 512 (omega arith)),
       ne-eqb n 256 (out 256 (omega arith)),
@@ -84,15 +84,11 @@ many-slots n h =
       ne-eqb n 1 (out 1 (omega arith)),
     )
 
-pub count-divides : (n : ℕ) → (n ≡ 0 → ⊥) → eqb (1024 % n) 0 ≡ power-of-two slot-doublings n
-count-divides zero h = absurd (h refl)
-count-divides (suc k) h = by-test (ltb k 1024) refl
-  where
-    by-test : (b : Bool) → ltb k 1024 ≡ b → eqb (1024 % suc k) 0 ≡ power-of-two slot-doublings (suc k)
-    by-test true e = few-slots k (ltb-true k 1024 e)
-    by-test false e = many-slots (suc k) (omega (arith, ltb-false k 1024 e))
+pub count-apart : (n : ℕ) → (n ≡ 0 → ⊥) → n ≤ 1024 → eqb (bitAnd n (n - 1)) 0 ≡ power-of-two slot-doublings n
+count-apart zero h g = absurd (h refl)
+count-apart (suc k) h g = let e : suc k - 1 ≡ k = omega arith in rw e (few-slots k (omega arith))
 
-pub ruleset counting = (count-zero, count-divides, needs)
+pub ruleset counting = (count-zero, many-slots, count-apart, needs)
 
 -- ---- pending_of
 
@@ -143,3 +139,26 @@ module _ (size : ℕ) (h : RingHeader) where
             good-all x u v = rw (eq-eqb _ _ p, eq-eqb _ _ q, ← e, not-false b r, le-leb _ _ s, le-leb _ _ within, le-leb _ _ u, v)
 
 pub ruleset judging-header = (bad-magic, bad-version, bad-count, bad-stride, bad-rows, bad-size, good-all, needs)
+
+-- ---- slot_offset: by a power of two a remainder is a mask
+
+pub counted : (n : ℕ) → power-of-two slot-doublings n ≡ true → 0 < n
+unfolding power-of-two
+counted zero e = absurd (let z : _≡_ {A = ℕ} 0 1 = cc in omega arith)
+counted (suc n) e = omega arith
+
+masked : (k n v : ℕ) → power-of-two k n ≡ true → bitAnd v (n - 1) ≡ v % n
+unfolding power-of-two
+masked zero n v h = rw (eqb-true n 1 h) (and-mask v 0)
+masked (suc k) n v h = by-test (eqb n (2 ^ suc k)) refl h (λ less. masked k n v less)
+  where
+    by-test : (b : Bool) → eqb n (2 ^ suc k) ≡ b → b || power-of-two k n ≡ true → (power-of-two k n ≡ true → bitAnd v (n - 1) ≡ v % n) → bitAnd v (n - 1) ≡ v % n
+    by-test true e h′ ih = rw (eqb-true n (2 ^ suc k) e) (and-mask v (suc k))
+    by-test false e h′ ih = ih h′
+
+pub slot-is : (h : RingHeader) (o : ℕ) → power-of-two slot-doublings (h .count) ≡ true
+    → (o ≡ ring-header-size + bitAnd (h .head) (h .count - 1) * h .stride) × (o + 4294967296 ≤ 18446744073709551616)
+    → o ≡ ring-header-size + slot h * h .stride
+slot-is h o p e = e .0 ∙ ap (λ k. ring-header-size + k * h .stride) (masked slot-doublings (h .count) (h .head) p)
+
+pub ruleset placing-slots = (counted, slot-is, needs)

@@ -8,6 +8,7 @@ use rules::numbers::RING_HEADER_SIZE;
 use rules::numbers::RING_MAGIC;
 use widths::wide;
 ghost use mathlib.Core.Path.{_≡_};
+ghost use mathlib.Core.Bool.{true};
 ghost use Prim.Native.Nat.{_+_, _*_, _%_, _≤_, _<_};
 ghost use lib.ListN.{length};
 ghost use Rattle.rules.specs.Numbers.{slot-doublings};
@@ -33,14 +34,17 @@ pub fn header_at(mem: &[u8], at: usize) -> RingHeader
     }
 }
 
-// Whether a ring may have so many slots: the divisors of 1,024 are the powers of two up to it.
+// Whether a ring may have so many slots: a power of two has no bit in common with the number below it.
 fn good_count(n: u32) -> bool
     ensures { λ r. ⌜ r ≡ power-of-two slot-doublings n ⌝ }
 {
     if n == 0 {
         return false;
     }
-    MOST_SLOTS % n == 0
+    if n > MOST_SLOTS {
+        return false;
+    }
+    n & (n - 1) == 0
 }
 
 // How many submissions are pending.
@@ -82,10 +86,10 @@ pub fn good(size: u32, h: RingHeader) -> bool
     pending_of(h) <= h.count
 }
 
-// Where the head's slot stands from the ring's start.
+// Where the head's slot stands from the ring's start. By a power of two a remainder is a mask.
 pub fn slot_offset(h: RingHeader) -> u64
-    requires { ⌜ 0 < h .count ⌝ }
+    requires { ⌜ power-of-two slot-doublings (h .count) ≡ true ⌝ }
     ensures { λ r. ⌜ (r ≡ ring-header-size + slot h * h .stride) × (r + 4294967296 ≤ 18446744073709551616) ⌝ }
 {
-    slot_at(h, h.head % h.count)
+    slot_at(h, h.head & (h.count - 1))
 }

@@ -11,6 +11,7 @@ use lib.Dec.{ltb, eqb}
 use lib.ListN.{length, take, drop, length-drop}
 use lib.Seq.{drop-drop, length-take-le}
 use Rattle.rows.specs.Keys.{same-or-not}
+use Rattle.fields.specs.Fields.{knowing}
 use Rattle.rules.specs.Numbers.{bad-packet}
 use Rattle.laws.specs.Fine.{all-kept}
 use Rattle.rules.specs.Judging.{refusal, rule, _▹_}
@@ -35,25 +36,31 @@ frame-by left op size =
 
 -- ---- frame_by
 
+-- rules that break alike: the last is broken, so one is
+one-broken : (a b : Bool) → rule bad-packet a ▹ rule bad-packet b ▹ Broken (refusal bad-packet) ≡ Broken (refusal bad-packet)
+one-broken true b = refl
+one-broken false true = refl
+one-broken false false = refl
+
 module _ (left op size room : ℕ) (same : room ≡ size) where
-  pub small-size : room < packet-header-size → Misframed (refusal bad-packet) ≡ frame-by left op size
+  pub past-end : left < room → Misframed (refusal bad-packet) ≡ frame-by left op size
   unfolding frame-by
-  small-size h = rw (lt-ltb size packet-header-size (omega arith))
+  past-end h = rw (lt-ltb left size (omega arith), one-broken (ltb size packet-header-size) (not (eqb (size % 4) 0)))
 
-  module _ (s₁ : packet-header-size ≤ room) where
-    pub odd-size : (size % 4 ≡ 0 → ⊥) → Misframed (refusal bad-packet) ≡ frame-by left op size
+  module _ (s₁ : room ≤ left) where
+    pub small-size : room < packet-header-size → Misframed (refusal bad-packet) ≡ frame-by left op size
     unfolding frame-by
-    odd-size h = rw (le-ltb size packet-header-size (omega arith), ne-eqb (size % 4) 0 h)
+    small-size h = rw (lt-ltb size packet-header-size (omega arith))
 
-    module _ (s₂ : size % 4 ≡ 0) where
-      pub past-end : left < room → Misframed (refusal bad-packet) ≡ frame-by left op size
+    module _ (s₂ : packet-header-size ≤ room) where
+      pub odd-size : (size % 4 ≡ 0 → ⊥) → Misframed (refusal bad-packet) ≡ frame-by left op size
       unfolding frame-by
-      past-end h = rw (le-ltb size packet-header-size (omega arith), eq-eqb (size % 4) 0 s₂, lt-ltb left size (omega arith))
+      odd-size h = rw (le-ltb size packet-header-size (omega arith), ne-eqb (size % 4) 0 h)
 
-      module _ (s₃ : room ≤ left) (wrong : Bool) (pw : wrong ≡ wrong-size op size) where
+      module _ (s₃ : size % 4 ≡ 0) (wrong : Bool) (pw : wrong ≡ wrong-size op size) where
         by-size : frame-by left op size ≡ framed (rule bad-packet wrong) op size
         unfolding frame-by
-        by-size = rw (le-ltb size packet-header-size (omega arith), eq-eqb (size % 4) 0 s₂, le-ltb left size (omega arith), pw)
+        by-size = rw (le-ltb size packet-header-size (omega arith), eq-eqb (size % 4) 0 s₃, le-ltb left size (omega arith), pw)
 
         pub other-size : wrong ≡ true → Misframed (refusal bad-packet) ≡ frame-by left op size
         other-size h = rw (by-size, h)
@@ -61,7 +68,7 @@ module _ (left op size room : ℕ) (same : room ≡ size) where
         pub whole : wrong ≡ false → Whole op size ≡ frame-by left op size
         whole h = rw (by-size, h)
 
-pub ruleset judging-frame = (small-size, odd-size, past-end, other-size, whole, needs)
+pub ruleset judging-frame = (past-end, small-size, odd-size, other-size, whole, needs)
 
 -- ---- frame_at
 
@@ -70,31 +77,32 @@ module _ (m : List ℕ) (at : ℕ) where
   unfolding frame-of frame-rules
   few h = rw (length-drop, lt-ltb (length m - at) packet-header-size h)
 
-  pub past-stream : length m < at → Misframed (refusal bad-packet) ≡ frame-of (drop at m)
-  past-stream h = few (omega arith)
+  pub short-stream : length m < packet-header-size → Misframed (refusal bad-packet) ≡ frame-of (drop at m)
+  short-stream h = few (omega arith)
 
-  pub last-bytes : at ≤ length m → length m - at < packet-header-size → Misframed (refusal bad-packet) ≡ frame-of (drop at m)
-  last-bytes i h = few h
+  module _ (long : packet-header-size ≤ length m) where
+    pub last-bytes : length m - packet-header-size < at → Misframed (refusal bad-packet) ≡ frame-of (drop at m)
+    last-bytes h = few (omega arith)
 
-  pub frame-read : (op size : ℕ) (f : Frame) → packet-header-size ≤ length m - at → op ≡ word m at → size ≡ word m (at + 4)
-      → f ≡ frame-by (length m - at) op size → f ≡ frame-of (drop at m)
-  unfolding frame-of frame-rules frame-by
-  frame-read op size f h po ps e = e ∙ rw (length-drop, le-ltb (length m - at) packet-header-size h, drop-drop, ps, po)
+    pub frame-read : (op size : ℕ) (f : Frame) → at ≤ length m - packet-header-size → op ≡ word m at → size ≡ word m (at + 4)
+        → f ≡ frame-by (length m - at) op size → f ≡ frame-of (drop at m)
+    unfolding frame-of frame-rules frame-by
+    frame-read op size f h po ps e = e ∙ rw (length-drop, le-ltb (length m - at) packet-header-size (omega arith), drop-drop, ps, po)
 
-pub ruleset framing-packets = (past-stream, last-bytes, frame-read, needs)
+pub ruleset framing-packets = (short-stream, last-bytes, frame-read, needs)
 
 -- ---- wrong_size
 
-module _ (op size known : ℕ) (pk : known ≡ known-size op) where
-  pub unknown-right : known ≡ 0 → false ≡ wrong-size op size
+module _ (op size : ℕ) where
+  pub unknown-right : 0 ≡ known-size op → false ≡ wrong-size op size
   unfolding wrong-size
-  unknown-right h = rw (← pk, eq-eqb known 0 h)
+  unknown-right h = rw (← h)
 
-  pub known-right : (known ≡ 0 → ⊥) → not (eqb known size) ≡ wrong-size op size
+  pub known-right : (known : ℕ) → known ≡ known-size op → eqb known 0 ≡ false → not (eqb known size) ≡ wrong-size op size
   unfolding wrong-size
-  known-right h = rw (← pk, ne-eqb known 0 h)
+  known-right known h some = rw (← h, some)
 
-pub ruleset sizing = (unknown-right, known-right, needs)
+pub ruleset sizing = (unknown-right, known-right, knowing)
 
 -- ---- what a whole packet is known by
 

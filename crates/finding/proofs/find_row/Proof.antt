@@ -1,34 +1,31 @@
 -- `find_row` meets its contract. The invariant: the key's place among all rows is i further than among those from row i on.
--- The measure is the rows that are left. Assumes nothing.
+-- The measure is what is left of the few rows in front. Assumes nothing.
 use mathlib.Core.Path.{_≡_}
 use Prim.Native.Nat.{_≤_, _-_, _+_}
 use native.Mathlib.Omega.{arith}
 use Rattle.rules.specs.Lists.{indexOf}
 use Rattle.rows.specs.Rows.{table, tableFrom, firstWord}
-use Rattle.finding.specs.Finding.{finding}
+use Rattle.finding.specs.Finding.{scanning}
 use Rattle.finding.proofs.find_row.Statement.{statement}
 use Rattle.finding.proofs.find_row.Tie as tie
 
 abbrev Inv-loop : tie.InvT-loop
-Inv-loop rows width count key i₀ i = (i ≤ count) × (indexOf firstWord key (table (λ r. r) width count rows) ≡ i + indexOf firstWord key (tableFrom (λ r. r) width i count rows))
+Inv-loop rows width count key few i₀ i = (i ≤ few) × (indexOf firstWord key (table (λ r. r) width count rows) ≡ i + indexOf firstWord key (tableFrom (λ r. r) width i count rows))
 
 abbrev μ-loop : tie.MeasureT-loop
-μ-loop rows width count key i₀ i = count - i
+μ-loop rows width count key few i₀ i = few - i
 
 loop-holds : tie.Need-loop-holds Inv-loop μ-loop
-loop-holds c = (omega arith, search finding)
+loop-holds c = (omega arith, search scanning)
 
-sub-if1 : tie.Need-sub-if1 Inv-loop μ-loop
-sub-if1 c = omega arith
+of-one-requires : tie.Need-of-one-requires Inv-loop μ-loop
+of-one-requires c κs = search scanning
 
-last-row-requires : tie.Need-last-row-requires Inv-loop μ-loop
-last-row-requires c κs = search finding
+add-result : tie.Need-add-result Inv-loop μ-loop
+add-result c = search scanning
 
-of-two-requires : tie.Need-of-two-requires Inv-loop μ-loop
-of-two-requires c κs = search finding
-
-add-place : tie.Need-add-place Inv-loop μ-loop
-add-place c = omega arith
+returns : tie.Need-returns Inv-loop μ-loop
+returns c = search scanning
 
 add-i : tie.Need-add-i Inv-loop μ-loop
 add-i c = omega arith
@@ -37,13 +34,13 @@ loop-less : tie.Need-loop-less Inv-loop μ-loop
 loop-less c = omega arith
 
 loop-again : tie.Need-loop-again Inv-loop μ-loop
-loop-again c = (omega arith, search finding)
+loop-again c = (omega arith, search scanning)
 
-returns : tie.Need-returns Inv-loop μ-loop
-returns c = search finding
+by-eight-requires : tie.Need-by-eight-requires Inv-loop μ-loop
+by-eight-requires c κs = search scanning
 
 returns-2 : tie.Need-returns-2 Inv-loop μ-loop
-returns-2 c = search finding
+returns-2 c = search scanning
 
 pub find-row-spec : {M : Type 1} → statement M
 find-row-spec =
@@ -52,12 +49,11 @@ find-row-spec =
     Inv-loop
     μ-loop
     loop-holds
-    sub-if1
-    last-row-requires
-    of-two-requires
-    add-place
+    of-one-requires
+    add-result
+    returns
     add-i
     loop-less
     loop-again
-    returns
+    by-eight-requires
     returns-2)

@@ -10,6 +10,9 @@ returns c = search framing-packets
 returns-2 : tie.Need-returns-2
 returns-2 c = search framing-packets
 
+sub-left : tie.Need-sub-left
+sub-left c = search needs
+
 u32-at-requires : tie.Need-u32-at-requires
 u32-at-requires c κs = search needs
 
@@ -31,6 +34,7 @@ frame-at-spec =
     (tie.spec
     returns
     returns-2
+    sub-left
     u32-at-requires
     add-u32-at
     u32-at-requires-2
