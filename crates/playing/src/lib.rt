@@ -85,28 +85,21 @@ fn step_packet(
     ensures { λ r. ⌜ PacketStepped (now (stream .entry)) end n (now (entries .entry)) p (now (rooms .entry)) (now (held .entry)) (now (records .entry)) r (now (held .exit)) (now (records .exit)) ⌝ }
 {
     let at = p.at;
+    let live = p.live;
+    let made = p.made;
+    let own = p.own;
     match frame_at(stream, at) {
         Frame::Misframed(why) => PacketsPlace {
             at,
-            live: p.live,
-            made: p.made,
-            own: p.own,
+            live,
+            made,
+            own,
             ending: BROKEN,
             why: why.code,
         },
         Frame::Whole(op, size) => {
             let packet = packet_at(stream, at, op, size);
-            let x = apply_packet(
-                entries,
-                n,
-                rooms,
-                held,
-                p.own,
-                p.live,
-                records,
-                p.made,
-                packet,
-            );
+            let x = apply_packet(entries, n, rooms, held, own, live, records, made, packet);
             place_after(at, at + index(size), end, x)
         }
     }
