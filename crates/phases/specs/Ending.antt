@@ -2,10 +2,9 @@
 use mathlib.Core.Path.{_≡_, refl, sym, ap, _∙_}
 use mathlib.Core.Bool.{Bool, true, false}
 use Prim.Native.Nat.{ℕ, _+_, _-_, _<_}
-use borrow.Author.Needs.{needs}
 use borrow.Author.Tests.{eq-eqb, ne-eqb}
 use lib.Dec.{eqb, ltb}
-use Rattle.machine.specs.Machine.{pick, Out, spent, runFor, loop-start, loop-turn, loop-stop, loop-out}
+use Rattle.machine.specs.Machine.{pick, Out, spent, runFor, loop-turn, loop-stop}
 use Rattle.rules.specs.Judging.{refusal}
 use Rattle.rules.specs.declared.Refusal.{Refusal}
 
@@ -56,11 +55,9 @@ module _ (e why : ℕ) where
 
 -- ---- for a loop `while units < allowance { step; units += 1; if ending != GOING { return .. } }`
 
-module _ {S : Type 0} (go : S → Bool) (step : S → S) (a u : ℕ) (s s′ : S) (o : Out S) (inv : o ≡ spent u (runFor go step (a - u) s)) (more : u < a) (here : go s ≡ true) (stepped : s′ ≡ step s) where
+module _ {S : Type 0} (go : S → Bool) (step : S → S) (a u : ℕ) (s : S) (o : Out S) (inv : o ≡ spent u (runFor go step (a - u) s)) (more : u < a) (here : go s ≡ true) (s′ : S) (stepped : s′ ≡ step s) where
   pub phase-on : o ≡ spent (u + 1) (runFor go step (a - (u + 1)) s′)
   phase-on = loop-turn go step a u s o inv s′ true more (sym here) refl stepped
 
   pub phase-left : go s′ ≡ false → record { state = s′; units = u + 1 } ≡ o
   phase-left h = loop-stop go step a (u + 1) s′ o phase-on false (sym h) refl
-
-pub ruleset phasing = (goes, ends, phase-on, phase-left, loop-start, loop-out, needs)

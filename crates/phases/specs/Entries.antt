@@ -8,7 +8,7 @@ use borrow.Author.Needs.{needs}
 use borrow.Author.Tests.{lt-ltb, le-ltb, ltb-true}
 use lib.Dec.{ltb}
 use lib.ListN.{length}
-use Rattle.machine.specs.Machine.{pick, Out, spent, runFor, loop-start}
+use Rattle.machine.specs.Machine.{pick, Out, spent, runFor, loop-start, loop-out}
 use Rattle.rules.specs.Numbers.{most, bad-entry}
 use Rattle.rules.specs.Judging.{refusal}
 use Rattle.rules.specs.Layouts.{entry}
@@ -21,7 +21,7 @@ use Rattle.rules.specs.declared.Verdict.the-variants.{Fine, Broken as BrokenRul
 use Rattle.laws.specs.Fine.{both-left}
 use Rattle.rows.specs.Rows.{length-table}
 use Rattle.entry_rows.specs.Views.{entryOf, entriesOf, takenOf}
-use Rattle.phases.specs.Ending.{Ending, onward, ending-at, endingOf, is-going, is-done, is-broken, phasing}
+use Rattle.phases.specs.Ending.{Ending, onward, ending-at, endingOf, is-going, is-done, is-broken, goes, ends, phase-on, phase-left}
 use Rattle.phases.specs.Ending.Ending.{Going, Done, Broken}
 use Rattle.phases.specs.declared.entries.EntriesPlace.{EntriesPlace}
 use Rattle.phases.specs.declared.entries.EntriesRun.{EntriesRun}
@@ -104,8 +104,23 @@ pub ruleset stepping-entry = (step-broken, step-room, step-next-fits, step-going
 
 -- ---- read_entries
 
-pub reading-starts : (m : List ℕ) (t : Table) (n a : ℕ) (l : List ℕ)
-    → runFor reading-goes (read-step m t) a (from-row n l) ≡ spent 0 (runFor reading-goes (read-step m t) (a - 0) (readingOf (record { n = n; ending = 0; why = 0 }) l))
-reading-starts m t n a l = rw (is-going 0 0 refl) (loop-start reading-goes (read-step m t) a (from-row n l))
+module _ (m : List ℕ) (t : Table) (n a : ℕ) (l₀ : List ℕ) where
+  pub reads-first : runFor reading-goes (read-step m t) a (from-row n l₀) ≡ spent 0 (runFor reading-goes (read-step m t) (a - 0) (readingOf (record { n = n; ending = 0; why = 0 }) l₀))
+  reads-first = rw (is-going 0 0 refl) (loop-start reading-goes (read-step m t) a (from-row n l₀))
 
-pub ruleset reading-on = (reading-starts, phasing)
+  module _ (u : ℕ) (p : EntriesPlace) (l : List ℕ) (inv : runFor reading-goes (read-step m t) a (from-row n l₀) ≡ spent u (runFor reading-goes (read-step m t) (a - u) (readingOf p l))) where
+    pub reads-no-more : a ≤ u → p .n ≤ most → EntriesRan m t n l₀ a (record { place = p; units = u }) l
+    reads-no-more h room = record { run = loop-out reading-goes (read-step m t) a u (readingOf p l) _ inv h; room = room }
+
+    module _ (more : u < a) (here : p .ending ≡ 0) (r : EntriesPlace) (l′ : List ℕ) (s : EntryStepped m t p l r l′) where
+      pub reads-on : runFor reading-goes (read-step m t) a (from-row n l₀) ≡ spent (u + 1) (runFor reading-goes (read-step m t) (a - (u + 1)) (readingOf r l′))
+      reads-on = phase-on reading-goes (read-step m t) a u (readingOf p l) _ inv more (goes (p .ending) (p .why) here) (readingOf r l′) (s .step)
+
+      pub reads-to-end : (r .ending ≡ 0 → ⊥) → EntriesRan m t n l₀ a (record { place = r; units = u + 1 }) l′
+      reads-to-end h =
+          record {
+            run = phase-left reading-goes (read-step m t) a u (readingOf p l) _ inv more (goes (p .ending) (p .why) here) (readingOf r l′) (s .step) (ends (r .ending) (r .why) h);
+            room = s .room;
+          }
+
+pub ruleset reading-on = (reads-first, reads-no-more, reads-on, reads-to-end, needs)

@@ -10,7 +10,7 @@ use lib.Dec.{ltb}
 use lib.ListN.{length, take, drop, length-drop}
 use mir.Syntax.{w64}
 use mir.Val.{Fits}
-use Rattle.machine.specs.Machine.{pick, Out, runFor}
+use Rattle.machine.specs.Machine.{pick, Out, spent, runFor, loop-start, loop-out}
 use Rattle.rules.specs.Numbers.{most}
 use Rattle.rules.specs.Stream.{frame-of, packet-of}
 use Rattle.rules.specs.Packets.{Holdings, Outcome, apply, take-packet}
@@ -28,7 +28,7 @@ use Rattle.stream.specs.Framing.{Sound, frame-sound}
 use Rattle.ranges.specs.Views.{Room}
 use Rattle.packets.specs.Apply.{Changes}
 use Rattle.packets.specs.declared.apply.Changed.{Changed}
-use Rattle.phases.specs.Ending.{Ending, onward, ending-at, endingOf, is-going, is-done, is-broken}
+use Rattle.phases.specs.Ending.{Ending, onward, ending-at, endingOf, is-going, is-done, is-broken, goes, ends, phase-on, phase-left}
 use Rattle.phases.specs.Ending.Ending.{Going, Done, Broken}
 use Rattle.playing.specs.declared.PacketsPlace.{PacketsPlace}
 use Rattle.playing.specs.declared.PacketsRun.{PacketsRun}
@@ -92,6 +92,16 @@ module _ (at next end : ℕ) (x : Changed) where
 
 pub ruleset going-after = (after-broken, after-going, after-done, needs)
 
+-- ---- take_packet
+
+module _ (b : List ℕ) (at op size : ℕ) (whole : frame-of (drop at b) ≡ Whole op size) where
+  pub takes-framed : (es : List Entry) (h : Holdings) (k : Packet) (r : List ℕ) (x : Changed) (l′ c′ : List ℕ) → k ≡ packet-of op (take size (drop at b)) → Changes (apply es h k) r x l′ c′
+      → Changes (take-packet es h (drop at b)) r x l′ c′
+  unfolding take-packet
+  takes-framed es h k r x l′ c′ read change = rw (whole, ← read) change
+
+pub ruleset taking-packet = (takes-framed, needs)
+
 -- ---- step_packet
 
 by-end : (t : Bool) → endingOf (pick t 0 1) 0 ≡ pick t Going Done
@@ -116,33 +126,50 @@ module _ (b : List ℕ) (end n : ℕ) (e : List ℕ) (p : PacketsPlace) (r l c :
         let s : Sound (drop (p .at) b) op size = frame-sound (drop (p .at) b) op size whole in
         record { fits = omega (arith, s .inside, s .header, length-drop (p .at) b) }
 
-    applied-as : (k : Packet) → k ≡ packet-of op (take size (drop (p .at) b))
-        → take-packet (entriesOf n e) (holdingsOf (p .live) (pick (p .own) l r) (p .made) c) (drop (p .at) b) ≡ apply (entriesOf n e) (holdingsOf (p .live) (pick (p .own) l r) (p .made) c) k
-    unfolding take-packet
-    applied-as k same = rw (whole, same)
+    module _ (x : Changed) (l′ c′ : List ℕ) where
+      after-verdict : (o : Outcome) (next : ℕ) (v : Verdict) → record { verdict = x .verdict; held = holdingsOf (x .live) (pick (x .own) l′ r) (x .made) c′ } ≡ o
+          → playingOf (after-by (p .at) next end x v) r l′ c′ ≡ play-on (p .at) next end (o .held) v
+      after-verdict o next Fine h = rw (by-end (ltb next end)) (ap (λ (y : Outcome). record { at = next; held = y .held; ending = ending-at next end }) h)
+      after-verdict o next (BrokenRule why) h =
+          rw (is-broken 2 (why .code) (omega arith) (omega arith)) (ap (λ (y : Outcome). record { at = p .at; held = y .held; ending = Broken why }) h)
 
-    after-verdict : (o : Outcome) (x : Changed) (l′ c′ : List ℕ) (next : ℕ) (v : Verdict) → record { verdict = x .verdict; held = holdingsOf (x .live) (pick (x .own) l′ r) (x .made) c′ } ≡ o
-        → playingOf (after-by (p .at) next end x v) r l′ c′ ≡ play-on (p .at) next end (o .held) v
-    after-verdict o x l′ c′ next Fine h = rw (by-end (ltb next end)) (ap (λ (y : Outcome). record { at = next; held = y .held; ending = ending-at next end }) h)
-    after-verdict o x l′ c′ next (BrokenRule why) h =
-        rw (is-broken 2 (why .code) (omega arith) (omega arith)) (ap (λ (y : Outcome). record { at = p .at; held = y .held; ending = Broken why }) h)
+      after-room : (next : ℕ) (v : Verdict) → n ≤ most → x .live ≤ most → x .made ≤ most → Room n (after-by (p .at) next end x v .live) (after-by (p .at) next end x v .made)
+      after-room next Fine h i j = record { entries = h; live = i; made = j }
+      after-room next (BrokenRule why) h i j = record { entries = h; live = i; made = j }
 
-    after-room : (x : Changed) (next : ℕ) (v : Verdict) → n ≤ most → x .live ≤ most → x .made ≤ most → Room n (after-by (p .at) next end x v .live) (after-by (p .at) next end x v .made)
-    after-room x next Fine h i j = record { entries = h; live = i; made = j }
-    after-room x next (BrokenRule why) h i j = record { entries = h; live = i; made = j }
+      pub step-taken : (i : ℕ) (y : PacketsPlace) → Room n (p .live) (p .made) → i ≡ size
+          → Changes (take-packet (entriesOf n e) (holdingsOf (p .live) (pick (p .own) l r) (p .made) c) (drop (p .at) b)) r x l′ c′ → y ≡ placeAfter (p .at) (p .at + i) end x → PacketStepped b end n e p r l c y l′ c′
+      unfolding play-step placeAfter
+      step-taken i y room same change is =
+          let o : Outcome = take-packet (entriesOf n e) (holdingsOf (p .live) (pick (p .own) l r) (p .made) c) (drop (p .at) b) in
+          let verdict : x .verdict ≡ o .verdict = ap (λ (z : Outcome). z .verdict) (change .outcome) in
+          record {
+            step = ap (λ (z : PacketsPlace). playingOf z r l′ c′) is ∙ (after-verdict o (p .at + i) (x .verdict) (change .outcome) ∙ rw (whole, ← verdict, same));
+            room = rw is (after-room (p .at + i) (x .verdict) (room .entries) (change .live) (change .made));
+          }
 
-    pub step-applied : (k : Packet) (x : Changed) (i : ℕ) (y : PacketsPlace) (l′ c′ : List ℕ) → Room n (p .live) (p .made) → i ≡ size → k ≡ packet-of op (take size (drop (p .at) b))
-        → Changes (apply (entriesOf n e) (holdingsOf (p .live) (pick (p .own) l r) (p .made) c) k) r x l′ c′ → y ≡ placeAfter (p .at) (p .at + i) end x → PacketStepped b end n e p r l c y l′ c′
-    unfolding play-step placeAfter
-    step-applied k x i y l′ c′ room same read change is =
-        let o : Outcome = apply (entriesOf n e) (holdingsOf (p .live) (pick (p .own) l r) (p .made) c) k in
-        let verdict : x .verdict ≡ o .verdict = ap (λ (z : Outcome). z .verdict) (change .outcome) in
-        record {
-          step =
-              ap (λ (z : PacketsPlace). playingOf z r l′ c′) is
-              ∙ (after-verdict o x l′ c′ (p .at + i) (x .verdict) (change .outcome)
-              ∙ rw (applied-as k read, whole, ← verdict, same));
-          room = rw is (after-room x (p .at + i) (x .verdict) (room .entries) (change .live) (change .made));
-        }
+pub ruleset stepping-packet = (step-misframed, is-framed, next-fits, step-taken, needs)
 
-pub ruleset stepping-packet = (step-misframed, is-framed, next-fits, step-applied, needs)
+-- ---- read_packets
+
+module _ (b : List ℕ) (end n : ℕ) (e : List ℕ) (p₀ : PacketsPlace) (r l₀ c₀ : List ℕ) (a : ℕ) where
+  pub plays-first : runFor playing-goes (play-step (entriesOf n e) b end) a (playingOf p₀ r l₀ c₀) ≡ spent 0 (runFor playing-goes (play-step (entriesOf n e) b end) (a - 0) (playingOf p₀ r l₀ c₀))
+  plays-first = loop-start playing-goes (play-step (entriesOf n e) b end) a (playingOf p₀ r l₀ c₀)
+
+  module _ (u : ℕ) (p : PacketsPlace) (l c : List ℕ)
+      (inv : runFor playing-goes (play-step (entriesOf n e) b end) a (playingOf p₀ r l₀ c₀) ≡ spent u (runFor playing-goes (play-step (entriesOf n e) b end) (a - u) (playingOf p r l c))) where
+    pub plays-no-more : a ≤ u → Room n (p .live) (p .made) → PacketsRan b end n e p₀ r l₀ c₀ a (record { place = p; units = u }) l c
+    plays-no-more h room = record { run = loop-out playing-goes (play-step (entriesOf n e) b end) a u (playingOf p r l c) _ inv h; room = room }
+
+    module _ (more : u < a) (here : p .ending ≡ 0) (q : PacketsPlace) (l′ c′ : List ℕ) (s : PacketStepped b end n e p r l c q l′ c′) where
+      pub plays-on : runFor playing-goes (play-step (entriesOf n e) b end) a (playingOf p₀ r l₀ c₀) ≡ spent (u + 1) (runFor playing-goes (play-step (entriesOf n e) b end) (a - (u + 1)) (playingOf q r l′ c′))
+      plays-on = phase-on playing-goes (play-step (entriesOf n e) b end) a u (playingOf p r l c) _ inv more (goes (p .ending) (p .why) here) (playingOf q r l′ c′) (s .step)
+
+      pub plays-to-end : (q .ending ≡ 0 → ⊥) → PacketsRan b end n e p₀ r l₀ c₀ a (record { place = q; units = u + 1 }) l′ c′
+      plays-to-end h =
+          record {
+            run = phase-left playing-goes (play-step (entriesOf n e) b end) a u (playingOf p r l c) _ inv more (goes (p .ending) (p .why) here) (playingOf q r l′ c′) (s .step) (ends (q .ending) (q .why) h);
+            room = s .room;
+          }
+
+pub ruleset playing-on = (plays-first, plays-no-more, plays-on, plays-to-end, needs)

@@ -14,7 +14,15 @@ use stream::framing::packet_at;
 use widths::index;
 ghost use mathlib.Core.Path.{_≡_};
 ghost use Prim.Native.Nat.{_+_, _≤_, _^_, _<_};
+ghost use lib.ListN.{drop};
+ghost use Rattle.machine.specs.Machine.{pick};
+ghost use Rattle.rules.specs.Stream.{frame-of};
+ghost use Rattle.rules.specs.Packets.{take-packet};
+ghost use Rattle.rules.specs.declared.Frame.the-variants.{Whole};
+ghost use Rattle.entry_rows.specs.Views.{entriesOf};
+ghost use Rattle.rooms.specs.Views.{holdingsOf};
 ghost use Rattle.ranges.specs.Views.{Room};
+ghost use Rattle.packets.specs.Apply.{Changes};
 ghost use Rattle.playing.specs.Playing.{placeAfter, PacketStepped, PacketsRan};
 
 // Where the packets stand: the place in the stream, how many resources and records are held, whether the resources are in the
@@ -70,6 +78,29 @@ fn place_after(at: usize, next: usize, end: usize, x: Changed) -> PacketsPlace
     }
 }
 
+// The packet that was framed at a place of the stream.
+fn take_packet(
+    stream: &[u8],
+    at: usize,
+    op: u32,
+    size: u32,
+    entries: &Entries,
+    n: usize,
+    rooms: &Resources,
+    held: &mut Resources,
+    records: &mut Records,
+    p: PacketsPlace,
+) -> Changed
+    requires { ⌜ (frame-of (drop at (now stream)) ≡ Whole op size) × Room n (p .live) (p .made) ⌝ }
+    ensures { λ x. ⌜ Changes (take-packet (entriesOf n (now (entries .entry))) (holdingsOf (p .live) (pick (p .own) (now (held .entry)) (now (rooms .entry))) (p .made) (now (records .entry))) (drop at (now (stream .entry)))) (now (rooms .entry)) x (now (held .exit)) (now (records .exit)) ⌝ }
+{
+    let packet = packet_at(stream, at, op, size);
+    let own = p.own;
+    let live = p.live;
+    let made = p.made;
+    apply_packet(entries, n, rooms, held, own, live, records, made, packet)
+}
+
 // One unit: the packet at the place.
 fn step_packet(
     stream: &[u8],
@@ -95,18 +126,7 @@ fn step_packet(
             why: why.code,
         },
         Frame::Whole(op, size) => {
-            let packet = packet_at(stream, at, op, size);
-            let x = apply_packet(
-                entries,
-                n,
-                rooms,
-                held,
-                p.own,
-                p.live,
-                records,
-                p.made,
-                packet,
-            );
+            let x = take_packet(stream, at, op, size, entries, n, rooms, held, records, p);
             place_after(at, at + index(size), end, x)
         }
     }

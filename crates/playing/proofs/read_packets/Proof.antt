@@ -6,8 +6,7 @@ use native.Mathlib.Omega.{arith}
 use Rattle.machine.specs.Machine.{spent, runFor}
 use Rattle.entry_rows.specs.Views.{entriesOf}
 use Rattle.ranges.specs.Views.{Room}
-use Rattle.phases.specs.Ending.{phasing}
-use Rattle.playing.specs.Playing.{playing-goes, play-step, playingOf}
+use Rattle.playing.specs.Playing.{playing-goes, play-step, playingOf, playing-on}
 use Rattle.playing.proofs.read_packets.Statement.{statement}
 use Rattle.playing.proofs.read_packets.Tie as tie
 
@@ -23,25 +22,25 @@ abbrev μ-loop : tie.MeasureT-loop
 μ-loop stream end entries n rooms held₀ records₀ allowance p₀ units₀ held records p units = allowance - units
 
 loop-holds : tie.Need-loop-holds Inv-loop μ-loop
-loop-holds c = (omega arith, search phasing, search phasing, search phasing)
+loop-holds c = (omega arith, search playing-on, search playing-on, search playing-on)
 
 step-packet-requires : tie.Need-step-packet-requires Inv-loop μ-loop
-step-packet-requires c κs = search phasing
+step-packet-requires c κs = search playing-on
 
 add-units : tie.Need-add-units Inv-loop μ-loop
 add-units c = omega arith
 
 returns : tie.Need-returns Inv-loop μ-loop
-returns c = search phasing
+returns c = search playing-on
 
 loop-less : tie.Need-loop-less Inv-loop μ-loop
 loop-less c = omega arith
 
 loop-again : tie.Need-loop-again Inv-loop μ-loop
-loop-again c = (omega arith, search phasing, search phasing, search phasing)
+loop-again c = (omega arith, search playing-on, search playing-on, search playing-on)
 
 returns-2 : tie.Need-returns-2 Inv-loop μ-loop
-returns-2 c = search phasing
+returns-2 c = search playing-on
 
 pub read-packets-spec : {M : Type 1} → statement M
 read-packets-spec =

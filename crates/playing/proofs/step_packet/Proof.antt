@@ -12,11 +12,8 @@ enum-known-why c = search needs
 enum-known-op : tie.Need-enum-known-op
 enum-known-op c = search needs
 
-packet-at-requires : tie.Need-packet-at-requires
-packet-at-requires c κs = search stepping-packet
-
-apply-packet-requires : tie.Need-apply-packet-requires
-apply-packet-requires c κs = search needs
+take-packet-requires : tie.Need-take-packet-requires
+take-packet-requires c κs = search stepping-packet
 
 index-requires : tie.Need-index-requires
 index-requires c κs = search needs
@@ -40,8 +37,7 @@ step-packet-spec =
     frame-at-requires
     enum-known-why
     enum-known-op
-    packet-at-requires
-    apply-packet-requires
+    take-packet-requires
     index-requires
     add-place-after
     place-after-requires

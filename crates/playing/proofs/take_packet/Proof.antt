@@ -1,0 +1,16 @@
+use Rattle.playing.specs.Playing.{taking-packet}
+use borrow.Author.Needs.{needs}
+use Rattle.playing.proofs.take_packet.Statement.{statement}
+use Rattle.playing.proofs.take_packet.Tie as tie
+
+packet-at-requires : tie.Need-packet-at-requires
+packet-at-requires c κs = search needs
+
+apply-packet-requires : tie.Need-apply-packet-requires
+apply-packet-requires c κs = search needs
+
+returns : tie.Need-returns
+returns c = search taking-packet
+
+pub take-packet-spec : {M : Type 1} → statement M
+take-packet-spec = tie.close (tie.spec packet-at-requires apply-packet-requires returns)
