@@ -1,11 +1,11 @@
-# How the Rust side is built and run on this machine. For bash, to be sourced: ./play and .ci/run do.
+# How the Rust side is built and run on this machine. For bash, to be sourced: ./play, .ci/run and compare/instructions.sh do.
 #
-#   host_ready           installs what is missing; says what it does, or what is to be done
-#   host_cargo CMD ..    cargo CMD for host/, whatever the caller's folder is
-#   host_program NAME    where `host_cargo build --release` puts a program
-#   host_run PROGRAM ..  runs it
-#   host_counter_ready   installs and builds what host_count needs
-#   host_count PROGRAM .. runs it and ends standard error with the number of x86-64 instructions that it executed
+#   host_ready             installs what is missing; says what it does, or what is to be done
+#   host_cargo CMD ..      cargo CMD for host/, whatever the caller's folder is
+#   host_program NAME      where `host_cargo build --release` puts a program
+#   host_run PROGRAM ..    runs it
+#   host_counter_ready     installs and builds what host_count needs
+#   host_count PROGRAM ..  runs it and ends standard error with the number of x86-64 instructions that it executed
 #
 # libdesk.a is x86-64 code. On x86-64 cargo builds natively. On Arm it builds for x86-64 with Debian's cross linker, and programs
 # and tests run under Debian's qemu-user. Packages are Debian's, and only those that are missing. Instructions are counted by
