@@ -1,10 +1,15 @@
-# How the Rust side is built and run on this machine. For bash, to be sourced: ./play and .ci/run do.
+# How the Rust side is built and run on this machine. For bash, to be sourced: ./play, .ci/run and compare/instructions.sh do.
 #
-#   host_ready           installs what is missing; says what it does, or what is to be done
-#   host_cargo CMD ..    cargo CMD for host/, whatever the caller's folder is
+#   host_ready             installs what is missing; says what it does, or what is to be done
+#   host_cargo CMD ..      cargo CMD for host/, whatever the caller's folder is
+#   host_program NAME      where `host_cargo build --release` puts a program
+#   host_run PROGRAM ..    runs it
+#   host_counter_ready     installs and builds what host_count needs
+#   host_count PROGRAM ..  runs it and ends standard error with the number of x86-64 instructions that it executed
 #
 # libdesk.a is x86-64 code. On x86-64 cargo builds natively. On Arm it builds for x86-64 with Debian's cross linker, and programs
-# and tests run under Debian's qemu-user. Packages are Debian's, and only those that are missing.
+# and tests run under Debian's qemu-user. Packages are Debian's, and only those that are missing. Instructions are counted by
+# valgrind's callgrind on x86-64, and on Arm by a plugin of qemu's, compare/instructions.c.
 
 host_folder=$(cd "$(dirname "${BASH_SOURCE[0]}")" && pwd)
 
@@ -64,6 +69,51 @@ host_cargo() { # CMD ..
         ;;
     *)
         cargo "$command" --offline --manifest-path "$host_folder/Cargo.toml" "$@"
+        ;;
+    esac
+}
+
+host_program() { # NAME
+    case $(uname -m) in
+    aarch64) echo "$host_folder/target/x86_64-unknown-linux-gnu/release/$1" ;;
+    *) echo "$host_folder/target/release/$1" ;;
+    esac
+}
+
+host_run() { # PROGRAM ..
+    case $(uname -m) in
+    aarch64) /usr/bin/qemu-x86_64 "$@" ;;
+    *) "$@" ;;
+    esac
+}
+
+host_counter=$host_folder/target/instructions.so
+
+host_counter_ready() {
+    local missing=()
+    case $(uname -m) in
+    aarch64)
+        command -v cc >/dev/null || missing+=(gcc libc6-dev)
+        [ ${#missing[@]} -eq 0 ] || host_install "${missing[@]}" || return 1
+        mkdir -p "$host_folder/target" &&
+            cc -O2 -shared -fPIC -o "$host_counter" "$host_folder/compare/instructions.c"
+        ;;
+    *)
+        command -v valgrind >/dev/null || host_install valgrind
+        ;;
+    esac
+}
+
+host_count() { # PROGRAM ..
+    # A long copy must not become one string instruction: both counters take each of its bytes for an instruction.
+    local copies=GLIBC_TUNABLES=glibc.cpu.x86_rep_movsb_threshold=1000000000
+    case $(uname -m) in
+    aarch64)
+        # The processor has the vector instructions that callgrind's has, so that copies take as many.
+        /usr/bin/qemu-x86_64 -cpu max -E "$copies" -plugin "$host_counter" "$@"
+        ;;
+    *)
+        env "$copies" valgrind --tool=callgrind --callgrind-out-file=/dev/null "$@"
         ;;
     esac
 }

@@ -4,92 +4,188 @@ use crate::image::Entry;
 use crate::numbers::{MOST_ENTRIES, MOST_RECORDS, MOST_RESOURCES, WRITEBACK};
 use crate::packet::{self, Backing, Copying};
 use crate::random::Random;
+use crate::shape::Shape;
 
 /// The size of every buffer.
-pub const BUFFER: u64 = 64;
+const BUFFER: u64 = 64;
 const ENTRY_ID: u32 = 5;
+const ENTRY_SIZE: u64 = 4096;
+
+/// As flat a texture as has the longest chain of mips, 15; all of them take 4 bytes less than its entry.
+const TEXTURE: Shape = Shape {
+    format: 1,
+    width: 16_384,
+    height: 1,
+    mips: 1,
+    layers: 1,
+    pitch: 4 * 16_384,
+};
+const TEXTURE_ENTRY_SIZE: u64 = 128 * 1024;
 
 /// The units of a slice.
 pub const SLICE: u16 = 16;
 
 #[derive(Clone, Copy, Debug, PartialEq, Eq)]
 pub enum Case {
+    /// Packets of an unknown opcode, as many as fit.
     Unknown,
-    Dirty,
-    Create,
-    Copy,
-    Table,
+    /// One packet of an unknown opcode, beside host-backed buffers.
+    OneUnknown { live: usize },
+    /// Dirty ranges of size 0 of the backed buffer in this row; the entry behind it is the table's last.
+    Dirty {
+        live: usize,
+        row: usize,
+        entries: usize,
+    },
+    /// Dirty ranges of size 0 of a backed texture that lives alone.
+    DirtyTexture { mips: u32 },
+    /// A host-backed buffer is created and destroyed again, beside others.
+    Create { live: usize },
+    /// Copies with writeback between the backed buffers in two rows.
+    Copy { live: usize, from: usize, to: usize },
+    /// A table and no stream.
+    Table { entries: usize },
 }
 
-pub const CASES: [Case; 5] = [
-    Case::Unknown,
-    Case::Dirty,
-    Case::Create,
-    Case::Copy,
-    Case::Table,
+/// A published case: what command lines and what readers call it.
+#[derive(Clone, Copy, Debug)]
+pub struct Published {
+    pub key: &'static str,
+    pub title: &'static str,
+    pub case: Case,
+}
+
+pub const PUBLISHED: [Published; 5] = [
+    Published {
+        key: "unknown",
+        title: "unknown packets of 8 bytes",
+        case: Case::Unknown,
+    },
+    Published {
+        key: "dirty",
+        title: "dirty of size 0, row 40 of 64",
+        case: Case::Dirty {
+            live: MOST_RESOURCES,
+            row: 40,
+            entries: 1,
+        },
+    },
+    Published {
+        key: "create",
+        title: "create and destroy, 33 live",
+        case: Case::Create { live: 33 },
+    },
+    Published {
+        key: "copy",
+        title: "copies with writeback",
+        case: COPY,
+    },
+    Published {
+        key: "table",
+        title: "full table of 64 entries",
+        case: Case::Table {
+            entries: MOST_ENTRIES,
+        },
+    },
 ];
 
+/// The published copies: they leave as many records as there may be.
+pub const COPY: Case = Case::Copy {
+    live: MOST_RESOURCES,
+    from: 20,
+    to: 40,
+};
+
 impl Case {
-    /// What a command line calls it.
-    pub fn key(self) -> &'static str {
-        match self {
-            Case::Unknown => "unknown",
-            Case::Dirty => "dirty",
-            Case::Create => "create",
-            Case::Copy => "copy",
-            Case::Table => "table",
-        }
-    }
-
-    pub fn title(self) -> &'static str {
-        match self {
-            Case::Unknown => "unknown packets of 8 bytes",
-            Case::Dirty => "dirty of size 0, row 40 of 64",
-            Case::Create => "create and destroy, 33 live",
-            Case::Copy => "copies with writeback",
-            Case::Table => "full table of 64 entries",
-        }
-    }
-
     /// What exactly is played.
-    pub fn input(self) -> &'static str {
+    pub fn input(self) -> String {
         match self {
-            Case::Unknown => "7,677 packets of an unknown opcode, 8 bytes each; no table",
-            Case::Dirty => "1,919 dirty ranges of size 0, all of the buffer in row 40 of 64 backed ones; a table of one entry",
-            Case::Create => "1,096 times create a host-backed buffer and destroy it again, beside 33 live ones; no table",
-            Case::Copy => {
-                "1,279 copies with writeback from row 20 to row 40 of 64 backed buffers, the first 64 of 16 bytes (as many \
-                 records as there may be), the rest of size 0; a table of one entry"
-            }
-            Case::Table => "a table of 64 entries, no stream",
+            Case::Unknown => "7,677 packets of an unknown opcode, 8 bytes each; no table".to_string(),
+            Case::OneUnknown { live } => format!(
+                "one packet of an unknown opcode, 8 bytes, beside {} live host-backed buffers; no table",
+                live
+            ),
+            Case::Dirty { live, row, entries } => format!(
+                "1,919 dirty ranges of size 0, all of the buffer in row {} of {} backed ones; a table of {}, the last of which backs them",
+                row,
+                live,
+                counted(entries, "entry", "entries")
+            ),
+            Case::DirtyTexture { mips } => format!(
+                "1,919 dirty ranges of size 0 of the only resource, a backed texture of format 1, 16,384 by 1, with {}; a table of one entry",
+                counted(mips as usize, "mip", "mips")
+            ),
+            Case::Create { live } => format!(
+                "1,096 times create a host-backed buffer and destroy it again, beside {} live ones; no table",
+                live
+            ),
+            Case::Copy { live, from, to } => format!(
+                "1,279 copies with writeback from row {} to row {} of {} backed buffers, the first 64 of 16 bytes (as many records as \
+                 there may be), the rest of size 0; a table of one entry",
+                from, to, live
+            ),
+            Case::Table { entries } => format!("a table of {}, no stream", counted(entries, "entry", "entries")),
         }
     }
 
+    /// Whether the submission is so small that a number of all of it says more than one of a unit.
+    pub fn is_small(self) -> bool {
+        matches!(self, Case::OneUnknown { .. })
+    }
+
+    /// The bytes of guest memory.
+    pub fn memory(self) -> usize {
+        match self {
+            Case::DirtyTexture { .. } => 256 * 1024,
+            _ => 64 * 1024,
+        }
+    }
+
+    /// The resources that live before.
     pub fn live(self) -> usize {
         match self {
-            Case::Unknown | Case::Table => 0,
-            Case::Create => 33,
-            Case::Dirty | Case::Copy => MOST_RESOURCES,
+            Case::Unknown | Case::Table { .. } => 0,
+            Case::DirtyTexture { .. } => 1,
+            Case::OneUnknown { live }
+            | Case::Dirty { live, .. }
+            | Case::Create { live }
+            | Case::Copy { live, .. } => live,
         }
     }
 
-    pub fn backing(self) -> Backing {
-        let id = if self == Case::Create { 0 } else { ENTRY_ID };
+    /// The packet that creates the resource of this row.
+    pub fn created(self, random: &mut Random, row: usize) -> Vec<u8> {
+        let (handle, backing) = (handle_of_row(row), self.backing());
+        match self {
+            Case::DirtyTexture { mips } => {
+                packet::create_texture(random, handle, Shape { mips, ..TEXTURE }, backing)
+            }
+            _ => packet::create_buffer(random, handle, BUFFER, backing),
+        }
+    }
+
+    fn backing(self) -> Backing {
+        let id = match self {
+            Case::OneUnknown { .. } | Case::Create { .. } => 0,
+            Case::Dirty { entries, .. } => entry_id(entries - 1),
+            _ => entry_id(0),
+        };
         Backing { id, offset: 0 }
     }
 
     pub fn entries(self) -> Vec<Entry> {
-        let count = match self {
-            Case::Unknown | Case::Create => 0,
-            Case::Dirty | Case::Copy => 1,
-            Case::Table => MOST_ENTRIES as u32,
+        let (count, size) = match self {
+            Case::Unknown | Case::OneUnknown { .. } | Case::Create { .. } => (0, ENTRY_SIZE),
+            Case::Copy { .. } => (1, ENTRY_SIZE),
+            Case::DirtyTexture { .. } => (1, TEXTURE_ENTRY_SIZE),
+            Case::Dirty { entries, .. } | Case::Table { entries } => (entries, ENTRY_SIZE),
         };
         (0..count)
             .map(|i| Entry {
-                id: ENTRY_ID + i,
+                id: entry_id(i),
                 flags: 0,
-                gpa: u64::from(i) * 64,
-                size: 4096,
+                gpa: i as u64 * 64,
+                size,
             })
             .collect()
     }
@@ -97,21 +193,17 @@ impl Case {
     /// The packet at this place of the stream.
     pub fn packet(self, random: &mut Random, i: usize) -> Option<Vec<u8>> {
         match self {
-            Case::Unknown => Some(packet::any(random, 4_000, 8)),
-            Case::Dirty => Some(packet::dirty(random, handle_of_row(40), 0, 0)),
-            Case::Create if i % 2 == 0 => Some(packet::create_buffer(
-                random,
-                handle_of_row(self.live()),
-                BUFFER,
-                self.backing(),
-            )),
-            Case::Create => Some(packet::destroy(random, handle_of_row(self.live()))),
-            Case::Copy => {
+            Case::OneUnknown { .. } if i > 0 => None,
+            Case::Unknown | Case::OneUnknown { .. } => Some(packet::any(random, 4_000, 8)),
+            Case::Dirty { row, .. } => Some(packet::dirty(random, handle_of_row(row), 0, 0)),
+            Case::DirtyTexture { .. } => Some(packet::dirty(random, handle_of_row(0), 0, 0)),
+            Case::Create { live } if i % 2 == 0 => Some(self.created(random, live)),
+            Case::Create { live } => Some(packet::destroy(random, handle_of_row(live))),
+            Case::Copy { from, to, .. } => {
                 let size = if i < MOST_RECORDS { 16 } else { 0 };
-                let (to, from) = (handle_of_row(40), handle_of_row(20));
                 let copying = Copying {
-                    to,
-                    from,
+                    to: handle_of_row(to),
+                    from: handle_of_row(from),
                     to_offset: 0,
                     from_offset: 0,
                     size,
@@ -119,13 +211,32 @@ impl Case {
                 };
                 Some(packet::copy(random, copying))
             }
-            Case::Table => None,
+            Case::Table { .. } => None,
+        }
+    }
+
+    /// Packets that belong together: a stream has a multiple of them, so that it leaves what it found.
+    pub fn together(self) -> usize {
+        match self {
+            Case::Create { .. } => 2,
+            _ => 1,
         }
     }
 }
 
+fn counted(count: usize, one: &str, more: &str) -> String {
+    match count {
+        1 => format!("one {}", one),
+        _ => format!("{} {}", count, more),
+    }
+}
+
+fn entry_id(i: usize) -> u32 {
+    ENTRY_ID + i as u32
+}
+
 /// Resources are created in the order of their rows.
-pub fn handle_of_row(row: usize) -> u32 {
+fn handle_of_row(row: usize) -> u32 {
     row as u32 + 1
 }
 

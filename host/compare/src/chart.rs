@@ -10,7 +10,9 @@ pub struct Bar {
 }
 
 const WIDTH: f64 = 860.0;
-const LEFT: f64 = 300.0;
+const LEFT: f64 = 320.0;
+/// For the mode, between title and bar.
+const MODE: f64 = 90.0;
 const TOP: f64 = 64.0;
 const BAR: f64 = 20.0;
 const STEP: f64 = 26.0;
@@ -33,7 +35,7 @@ pub fn svg(heading: &str, bars: &[Bar]) -> String {
         if first {
             text(
                 &mut body,
-                (LEFT - 66.0, y + 15.0),
+                (LEFT - MODE, y + 15.0),
                 "end",
                 "#222",
                 &bar.title,

@@ -4,12 +4,13 @@
 //! - One desk's runs cut into random slices come to the same ([`slicing`]).
 //! - Both small exports give the same on random and boundary shapes and tables ([`exports`]).
 //! - What the desks reach is counted ([`coverage`]), so that the generator cannot become empty.
-//! - [`mod@bench`] builds the inputs of the benchmark.
+//! - [`measures`] is what the benchmark measures: submissions ([`mod@bench`]) of its inputs ([`cases`]), and single calls ([`calls`]).
 
 #![forbid(unsafe_code)]
 
 mod author;
 pub mod bench;
+pub mod calls;
 pub mod cases;
 pub mod chart;
 mod contents;
@@ -22,7 +23,9 @@ mod floor;
 pub mod front;
 pub mod generator;
 mod good_packets;
+pub mod host;
 mod image;
+pub mod measures;
 mod meddling;
 mod numbers;
 mod packet;
@@ -34,4 +37,5 @@ pub mod shape;
 pub mod slicing;
 mod submission;
 pub mod twists;
+pub mod verify;
 mod world;

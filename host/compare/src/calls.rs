@@ -1,0 +1,149 @@
+//! Single calls on a front: the same call again and again, all its arguments in turn.
+
+use crate::bench::Bench;
+use crate::cases::{Case, Mode, COPY};
+use crate::host::Host;
+use crate::numbers::MOST_RECORDS;
+use crate::player::Seat;
+use zelezmut::registers::{READABLE, WRITABLE};
+
+#[derive(Clone, Copy, Debug, PartialEq, Eq)]
+pub enum Call {
+    /// The value 1 to every register that can be written.
+    Write,
+    /// Every register that can be read.
+    Read,
+    /// Every record of a submission that waits with 64.
+    Record,
+    /// A run of an enabled device that has nothing to do.
+    Run,
+    /// A good answer to a submission of one unknown packet, nothing live.
+    Answer,
+}
+
+pub const CALLS: [Call; 5] = [
+    Call::Write,
+    Call::Read,
+    Call::Record,
+    Call::Run,
+    Call::Answer,
+];
+
+impl Call {
+    pub fn key(self) -> &'static str {
+        match self {
+            Call::Write => "write",
+            Call::Read => "read",
+            Call::Record => "record",
+            Call::Run => "idle-run",
+            Call::Answer => "answer",
+        }
+    }
+
+    /// What exactly is called.
+    pub fn input(self) -> &'static str {
+        match self {
+            Call::Write => "the value 1 to each of the 9 registers that can be written, in turn",
+            Call::Read => "each of the 18 registers that can be read, in turn",
+            Call::Record => "each of the 64 records of a waiting submission, in turn",
+            Call::Run => "a run of 65,535 units on an enabled device that has nothing to do",
+            Call::Answer => "a good answer to a waiting submission of one unknown packet, nothing live; each to a device of its own",
+        }
+    }
+
+    fn arguments(self) -> Vec<u32> {
+        match self {
+            Call::Write => WRITABLE.to_vec(),
+            Call::Read => READABLE.to_vec(),
+            Call::Record => (0..MOST_RECORDS as u32).collect(),
+            Call::Run | Call::Answer => vec![0],
+        }
+    }
+}
+
+/// A call with its fronts made ready for it: an answer needs a new one each time.
+pub struct Calls<F> {
+    call: Call,
+    arguments: Vec<u32>,
+    pub benches: Vec<Bench<F>>,
+}
+
+impl<F: Host> Calls<F> {
+    /// Ready for so many rounds.
+    pub fn new(call: Call, rounds: usize) -> Calls<F> {
+        let bench = || -> Bench<F> {
+            match call {
+                Call::Write | Call::Read => Bench::new(Case::Unknown),
+                Call::Record => waiting(COPY),
+                Call::Run => idle(Case::Unknown),
+                Call::Answer => waiting(Case::OneUnknown { live: 0 }),
+            }
+        };
+        let benches = if call == Call::Answer { rounds } else { 1 };
+        Calls {
+            call,
+            arguments: call.arguments(),
+            benches: (0..benches).map(|_| bench()).collect(),
+        }
+    }
+
+    /// The calls of a round.
+    pub fn calls(&self) -> u64 {
+        self.arguments.len() as u64
+    }
+
+    /// Calls in the rounds that are marked. The others are gone through too: what they cost cancels in a difference. Gives the
+    /// sum of what the calls said.
+    pub fn play(&mut self, rounds: &[bool]) -> u64 {
+        let steps: Vec<(u32, bool)> = rounds
+            .iter()
+            .flat_map(|&marked| {
+                self.arguments
+                    .iter()
+                    .map(move |&argument| (argument, marked))
+            })
+            .collect();
+        let Seat { front, memory } = &mut self.benches[0].seat;
+        match self.call {
+            Call::Write => sum(&steps, |offset| front.wrote(offset, 1).into()),
+            Call::Read => sum(&steps, |offset| front.value(offset).into()),
+            Call::Record => sum(&steps, |i| front.length(i)),
+            Call::Run => sum(&steps, |_| front.spent(memory).into()),
+            Call::Answer => answers(&mut self.benches, rounds),
+        }
+    }
+}
+
+fn waiting<F: Host>(case: Case) -> Bench<F> {
+    let mut bench = Bench::new(case);
+    bench.arm();
+    bench.run_until_waiting(Mode::Whole);
+    bench
+}
+
+/// A run finds the ring empty, and the doorbell is clear again.
+fn idle<F: Host>(case: Case) -> Bench<F> {
+    let mut bench: Bench<F> = Bench::new(case);
+    bench.seat.front.spent(&mut bench.seat.memory);
+    bench
+}
+
+fn sum(steps: &[(u32, bool)], mut call: impl FnMut(u32) -> u64) -> u64 {
+    let mut sum = 0_u64;
+    for &(argument, marked) in steps {
+        if marked {
+            sum = sum.wrapping_add(call(argument));
+        }
+    }
+    sum
+}
+
+fn answers<F: Host>(benches: &mut [Bench<F>], rounds: &[bool]) -> u64 {
+    let mut sum = 0;
+    for (bench, &marked) in benches.iter_mut().zip(rounds) {
+        if marked {
+            sum += u64::from(bench.seat.front.answered(&mut bench.seat.memory));
+        }
+    }
+    sum
+}

@@ -1,0 +1,87 @@
+//! A host's calls in each front's own words, for what is measured call by call: a common form of the answers would cost
+//! instructions that no host has to spend.
+
+use crate::front::Front;
+use zelezmut::registers::DOORBELL;
+use zelezmut::HostAnswer;
+
+/// Each call gives just one number or truth of its answer, so that no call can be left out.
+pub trait Host: Front {
+    /// Whether the register took it.
+    fn wrote(&mut self, offset: u32, value: u32) -> bool;
+    /// The register's value.
+    fn value(&self, offset: u32) -> u32;
+    /// The record's length.
+    fn length(&self, i: u32) -> u64;
+    /// The units that a run with the largest allowance spent.
+    fn spent(&mut self, memory: &mut [u8]) -> u16;
+    /// Whether something waited for this good answer.
+    fn answered(&mut self, memory: &mut [u8]) -> bool;
+
+    /// A submission from doorbell to good answer: its units.
+    #[inline]
+    fn submission(&mut self, memory: &mut [u8]) -> u16 {
+        let rang = self.wrote(DOORBELL, 1);
+        let units = self.spent(memory);
+        assert!(
+            self.answered(memory) && rang,
+            "{} was not waiting",
+            Self::NAME
+        );
+        units
+    }
+}
+
+impl Host for zelezmut::Desk {
+    #[inline]
+    fn wrote(&mut self, offset: u32, value: u32) -> bool {
+        self.write(offset, value).is_ok()
+    }
+
+    #[inline]
+    fn value(&self, offset: u32) -> u32 {
+        self.read(offset).unwrap_or(0)
+    }
+
+    #[inline]
+    fn length(&self, i: u32) -> u64 {
+        self.record(i).map_or(0, |record| record.length)
+    }
+
+    #[inline]
+    fn spent(&mut self, memory: &mut [u8]) -> u16 {
+        self.run(memory, u16::MAX).map_or(0, |ran| ran.units)
+    }
+
+    #[inline]
+    fn answered(&mut self, memory: &mut [u8]) -> bool {
+        self.answer(memory, HostAnswer::Good).is_ok()
+    }
+}
+
+impl Host for plain::Desk {
+    #[inline]
+    fn wrote(&mut self, offset: u32, value: u32) -> bool {
+        self.write(offset, value) == 0
+    }
+
+    #[inline]
+    fn value(&self, offset: u32) -> u32 {
+        self.read(offset).1
+    }
+
+    #[inline]
+    fn length(&self, i: u32) -> u64 {
+        self.record(i).1.length
+    }
+
+    #[inline]
+    fn spent(&mut self, memory: &mut [u8]) -> u16 {
+        self.run(memory, u16::MAX).units
+    }
+
+    #[inline]
+    fn answered(&mut self, memory: &mut [u8]) -> bool {
+        self.answer(memory, true) == 0
+    }
+}
