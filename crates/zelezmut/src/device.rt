@@ -100,7 +100,12 @@ pub extern "C" fn zelezmut_run(
 
 // Record i of the submission that waits: the call's answer, and says kind, handle, id, GPA and length.
 #[no_mangle]
-pub extern "C" fn zelezmut_record(words: &Words, records: &Records, i: u32, said: &mut [u64; 5]) -> u32
+pub extern "C" fn zelezmut_record(
+    words: &Words,
+    records: &Records,
+    i: u32,
+    said: &mut [u64; 5],
+) -> u32
     ensures { λ r. ⌜ SaysRecord (now (words .entry)) (now (records .entry)) i r (now (said .exit)) ⌝ }
 {
     let x = device_calls::record(words, records, i);

@@ -1,0 +1,24 @@
+-- `zelezmut_answer` meets its contract. Assumes nothing.
+use Rattle.zelezmut.specs.Saying.{handing-on}
+use borrow.Author.Needs.{needs}
+use Rattle.zelezmut.proofs.device.zelezmut_answer.Statement.{statement}
+use Rattle.zelezmut.proofs.device.zelezmut_answer.Tie as tie
+
+wide-requires : tie.Need-wide-requires
+wide-requires c κs = search needs
+
+is-set-requires : tie.Need-is-set-requires
+is-set-requires c κs = search needs
+
+answer-requires : tie.Need-answer-requires
+answer-requires c κs = search needs
+
+same-length : tie.Need-same-length
+same-length c = search needs
+
+returns : tie.Need-returns
+returns c = search handing-on
+
+pub zelezmut-answer-spec : {M : Type 1} → statement M
+zelezmut-answer-spec =
+    tie.close (tie.spec wide-requires is-set-requires answer-requires same-length returns)
