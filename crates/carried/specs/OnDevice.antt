@@ -12,13 +12,13 @@ use Rattle.rules.specs.Numbers.{done, nothing-waits}
 use Rattle.rules.specs.State.{State, World}
 use Rattle.rules.specs.Steps.{run-for, waits, answered}
 use Rattle.rules.specs.Calls.{lent-another, Ran as RanBy, ran, call-run, Told as ToldBy, call-answer}
-use Rattle.device.specs.Views.{worldIn, stateIn, ranOf, toldOf}
+use Rattle.run_state.specs.Views.{worldIn, deskIn}
+use Rattle.device.specs.Views.{worldOf, stateOf, ranOf, toldOf}
 use Rattle.device.specs.declared.Device.{Device}
 use Rattle.device.specs.declared.Ran.{Ran}
 use Rattle.device.specs.declared.Told.{Told}
-use Rattle.lent.specs.Calls.{deviceIn}
-use Rattle.lent_memory.specs.Works.{Runs, Answers}
-use Rattle.lent_memory.specs.declared.Spent.{Spent}
+use Rattle.device_memory_calls.specs.Views.{Runs, Answers}
+use Rattle.device_memory_calls.specs.declared.Spent.{Spent}
 use Rattle.promises.specs.Slices.{played, same-units-same-answers-same-world}
 use Rattle.promises.specs.Night.{Clear, Night, finished-or-waiting-is-unsliced}
 
@@ -33,22 +33,22 @@ pub data Chain : World → List (Event Bool) → World → Type 0 where
 
 module _ {es : List (Event Bool)} {v : World} where
   -- the device's, by value
-  module _ (d : Device) (m m₁ : List ℕ) (here : lent-another (worldIn d m) ≡ false) where
-    pub device-runs : (n : ℕ) (r : Ran) → ranOf r m₁ ≡ call-run (worldIn d m) n → Chain (worldIn (r .device) m₁) es v → Chain (worldIn d m) (run n ∷ es) v
+  module _ (d : Device) (m m₁ : List ℕ) (here : lent-another (worldOf d m) ≡ false) where
+    pub device-runs : (n : ℕ) (r : Ran) → ranOf r m₁ ≡ call-run (worldOf d m) n → Chain (worldOf (r .device) m₁) es v → Chain (worldOf d m) (run n ∷ es) v
     device-runs n r c k = runs n (ranOf r m₁) c here k
 
-    pub device-answers : (good : Bool) (t : Told) → toldOf t m₁ ≡ call-answer (worldIn d m) good → Chain (worldIn (t .device) m₁) es v → Chain (worldIn d m) (told good ∷ es) v
+    pub device-answers : (good : Bool) (t : Told) → toldOf t m₁ ≡ call-answer (worldOf d m) good → Chain (worldOf (t .device) m₁) es v → Chain (worldOf d m) (told good ∷ es) v
     device-answers good t c k = tells good (toldOf t m₁) c here k
 
   -- those over lent state
-  module _ (s e r h c m s₁ m₁ : List ℕ) (here : lent-another (worldIn (deviceIn s e r h c) m) ≡ false) where
-    pub lent-runs : (e₁ h₁ c₁ : List ℕ) (n : ℕ) (x : Spent) → Runs s e r h c m n x s₁ e₁ h₁ c₁ m₁ → Chain (worldIn (deviceIn s₁ e₁ r h₁ c₁) m₁) es v
-        → Chain (worldIn (deviceIn s e r h c) m) (run n ∷ es) v
-    lent-runs e₁ h₁ c₁ n x k later = runs n (record { answer = x .answer; units = x .units; ended = x .ended; world = worldIn (deviceIn s₁ e₁ r h₁ c₁) m₁ }) (k .ran) here later
+  module _ (s e a b c m s₁ m₁ : List ℕ) (here : lent-another (deskIn s e a b c m) ≡ false) where
+    pub lent-runs : (e₁ a₁ b₁ c₁ : List ℕ) (n : ℕ) (x : Spent) → Runs n s e a b c m x s₁ e₁ a₁ b₁ c₁ m₁ → Chain (deskIn s₁ e₁ a₁ b₁ c₁ m₁) es v
+        → Chain (deskIn s e a b c m) (run n ∷ es) v
+    lent-runs e₁ a₁ b₁ c₁ n x k later = runs n (record { answer = x .answer; units = x .units; ended = x .ended; world = deskIn s₁ e₁ a₁ b₁ c₁ m₁ }) (k .ran) here later
 
-    pub lent-answers : (r₁ : List ℕ) (good : Bool) (a : ℕ) → Answers s r h m good a s₁ r₁ m₁ → Chain (worldIn (deviceIn s₁ e r₁ h c) m₁) es v
-        → Chain (worldIn (deviceIn s e r h c) m) (told good ∷ es) v
-    lent-answers r₁ good a k later = tells good (record { answer = a; world = worldIn (deviceIn s₁ e r₁ h c) m₁ }) (k .told e c) here later
+    pub lent-answers : (good : Bool) (answer : ℕ) → Answers s m good answer s₁ m₁ → Chain (deskIn s₁ e a b c m₁) es v
+        → Chain (deskIn s e a b c m) (told good ∷ es) v
+    lent-answers good answer k later = tells good (record { answer = answer; world = deskIn s₁ e a b c m₁ }) (k .told e a b c) here later
 
 -- ---- what a chain's calls say
 
@@ -134,16 +134,17 @@ chain-is-unsliced w v es k c e =
 
 -- memory may move: `lent n` is what stands there at unit n. Two memories that agree at that unit give the same unit there, or the same
 -- run of any length, whatever they held before and whatever they hold later: a front that has read ahead is shut out
-module _ (d d′ : Device) (lent lent′ : ℕ → List ℕ) (n : ℕ) (same : stateIn d ≡ stateIn d′) (agree : lent n ≡ lent′ n) where
-  one-world : worldIn d (lent n) ≡ worldIn d′ (lent′ n)
+module _ (d d′ : Device) (lent lent′ : ℕ → List ℕ) (n : ℕ) (same : stateOf d ≡ stateOf d′) (agree : lent n ≡ lent′ n) where
+  one-world : worldOf d (lent n) ≡ worldOf d′ (lent′ n)
+  unfolding worldIn
   one-world =
       ap {B = World} (λ (x : State). record { state = x; mem = lent n }) same
-      ∙ ap {B = World} (λ (m : List ℕ). record { state = stateIn d′; mem = m }) agree
+      ∙ ap {B = World} (λ (m : List ℕ). record { state = stateOf d′; mem = m }) agree
 
-  pub call-fixed-by-what-is-lent : (allowance : ℕ) (r r′ : Ran) (m₁ m₂ : List ℕ) → ranOf r m₁ ≡ call-run (worldIn d (lent n)) allowance
-      → ranOf r′ m₂ ≡ call-run (worldIn d′ (lent′ n)) allowance → ranOf r m₁ ≡ ranOf r′ m₂
+  pub call-fixed-by-what-is-lent : (allowance : ℕ) (r r′ : Ran) (m₁ m₂ : List ℕ) → ranOf r m₁ ≡ call-run (worldOf d (lent n)) allowance
+      → ranOf r′ m₂ ≡ call-run (worldOf d′ (lent′ n)) allowance → ranOf r m₁ ≡ ranOf r′ m₂
   call-fixed-by-what-is-lent allowance r r′ m₁ m₂ a b = a ∙ (ap (λ (w : World). call-run w allowance) one-world ∙ sym b)
 
-  pub answer-fixed-by-what-is-lent : (good : Bool) (t t′ : Told) (m₁ m₂ : List ℕ) → toldOf t m₁ ≡ call-answer (worldIn d (lent n)) good
-      → toldOf t′ m₂ ≡ call-answer (worldIn d′ (lent′ n)) good → toldOf t m₁ ≡ toldOf t′ m₂
+  pub answer-fixed-by-what-is-lent : (good : Bool) (t t′ : Told) (m₁ m₂ : List ℕ) → toldOf t m₁ ≡ call-answer (worldOf d (lent n)) good
+      → toldOf t′ m₂ ≡ call-answer (worldOf d′ (lent′ n)) good → toldOf t m₁ ≡ toldOf t′ m₂
   answer-fixed-by-what-is-lent good t t′ m₁ m₂ a b = a ∙ (ap (λ (w : World). call-answer w good) one-world ∙ sym b)
