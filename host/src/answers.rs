@@ -7,7 +7,7 @@ use std::fmt;
 #[cold]
 fn none_of_ours(what: &str, number: u64) -> ! {
     unreachable!(
-        "the proved front gives no {} of number {}; was another libdesk.a linked?",
+        "the proved front gives no {} of number {}; was another libzelezmut.a linked?",
         what, number
     )
 }

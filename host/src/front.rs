@@ -1,4 +1,4 @@
-//! The C boundary, and the only module with `unsafe`: the functions of `libdesk.a`, each behind a safe one.
+//! The C boundary, and the only module with `unsafe`: the functions of `libzelezmut.a`, each behind a safe one.
 //!
 //! Why the safe ones are safe. Of every function of the library it is proved, whatever numbers stand in the state, that it
 //! returns and stays within what it is lent; it keeps no pointer and has no state of its own. What it needs in return is that
