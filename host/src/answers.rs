@@ -5,16 +5,11 @@ use std::fmt;
 /// What becomes of a number that is none of the front's. By the rule book it gives no other, so a caller could not act on one:
 /// it means that another library than this crate's was linked.
 #[cold]
-fn none_of_ours(what: &str, number: u64) -> ! {
+fn none_of_ours(what: &str, number: u32) -> ! {
     unreachable!(
         "the proved front gives no {} of number {}; was another libzelezmut.a linked?",
         what, number
     )
-}
-
-/// A value that the front gives in a word, and that fits its own width.
-pub(crate) fn narrow<T: TryFrom<u64>>(word: u64) -> T {
-    T::try_from(word).unwrap_or_else(|_| none_of_ours("value", word))
 }
 
 /// Why a call was refused. A refused call has changed no state and no byte of memory.
@@ -52,7 +47,7 @@ impl Refused {
         }
         match Refused::ALL.iter().find(|r| r.number() == answer) {
             Some(&refused) => Err(refused),
-            None => none_of_ours("call answer", answer.into()),
+            None => none_of_ours("call answer", answer),
         }
     }
 }
@@ -82,7 +77,7 @@ pub enum Ended {
 }
 
 impl Ended {
-    pub(crate) fn from_number(number: u64) -> Ended {
+    pub(crate) fn from_number(number: u32) -> Ended {
         match number {
             0 => Ended::Idle,
             1 => Ended::Waiting,
@@ -120,7 +115,7 @@ impl RecordKind {
         self as u32
     }
 
-    pub(crate) fn from_number(number: u64) -> RecordKind {
+    pub(crate) fn from_number(number: u32) -> RecordKind {
         match number {
             1 => RecordKind::Backs,
             2 => RecordKind::Reads,
@@ -234,7 +229,7 @@ impl DeviceError {
         }
         match DeviceError::from_number(number) {
             Some(error) => Some(error),
-            None => none_of_ours("error", number.into()),
+            None => none_of_ours("error", number),
         }
     }
 }
@@ -309,7 +304,7 @@ mod tests {
         assert_eq!(Ended::from_number(2), Ended::Paused);
         for number in 1..=3 {
             let kind = RecordKind::from_number(number);
-            assert_eq!(u64::from(kind.number()), number);
+            assert_eq!(kind.number(), number);
         }
     }
 

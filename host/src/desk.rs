@@ -1,11 +1,11 @@
 //! The desk: the proved front with its state, as a Rust value with safe methods.
-use crate::answers::{narrow, DeviceError, Ended, HostAnswer, RecordKind, Refused};
+use crate::answers::{DeviceError, Ended, HostAnswer, RecordKind, Refused};
 use crate::{front, registers};
 use std::fmt;
 
 /// An adapter's front for one guest memory.
 ///
-/// It owns its state, some 15 KB in a box: it moves cheaply and no call allocates. A clone goes its own way from there.
+/// It owns its state, some 16 KB in a box: it moves cheaply and no call allocates. A clone goes its own way from there.
 #[derive(Clone)]
 pub struct Desk {
     state: Box<front::State>,
@@ -50,7 +50,7 @@ impl Desk {
     /// A new desk for a guest memory of so many bytes, disabled, with all registers as after power-on.
     pub fn new(memory: usize) -> Desk {
         Desk {
-            state: Box::new(front::make(memory as u64)),
+            state: front::make(memory as u64),
         }
     }
 
@@ -67,9 +67,9 @@ impl Desk {
     /// # Errors
     /// [`Refused::NoRegister`] if no register that can be read has this offset.
     pub fn read(&self, offset: u32) -> Result<u32, Refused> {
-        let (answer, said) = front::read(&self.state, offset);
+        let (answer, value) = front::read(&self.state, offset);
         Refused::from_answer(answer)?;
-        Ok(narrow(said[0]))
+        Ok(value)
     }
 
     /// Works until the allowance of units is spent, nothing is left to do, or a submission waits for the host.
@@ -80,11 +80,11 @@ impl Desk {
     /// # Errors
     /// [`Refused::OtherMemory`] if the memory has another length than the desk was made for.
     pub fn run(&mut self, memory: &mut [u8], allowance: u16) -> Result<Ran, Refused> {
-        let (answer, said) = front::run(&mut self.state, memory, allowance);
+        let (answer, ended, units) = front::run(&mut self.state, memory, allowance);
         Refused::from_answer(answer)?;
         Ok(Ran {
-            units: narrow(said[0]),
-            ended: Ended::from_number(said[1]),
+            units,
+            ended: Ended::from_number(ended),
         })
     }
 
@@ -97,9 +97,9 @@ impl Desk {
         Refused::from_answer(answer)?;
         let [kind, handle, id, gpa, length] = said;
         Ok(Record {
-            kind: RecordKind::from_number(kind),
-            handle: narrow(handle),
-            id: narrow(id),
+            kind: RecordKind::from_number(kind as u32),
+            handle: handle as u32,
+            id: id as u32,
             gpa,
             length,
         })
