@@ -36,17 +36,25 @@ impl Refused {
     ];
 
     /// The call answer of document 01, 1 to 4.
+    #[inline]
     pub fn number(self) -> u32 {
         self as u32
     }
 
     /// A call answer: 0 is done.
+    #[inline]
     pub(crate) fn from_answer(answer: u32) -> Result<(), Refused> {
-        if answer == 0 {
-            return Ok(());
+        match answer {
+            0 => Ok(()),
+            _ => Err(Refused::from_number(answer)),
         }
+    }
+
+    /// By itself and cold, so that a call that is done only asks for 0.
+    #[cold]
+    fn from_number(answer: u32) -> Refused {
         match Refused::ALL.iter().find(|r| r.number() == answer) {
-            Some(&refused) => Err(refused),
+            Some(&refused) => refused,
             None => none_of_ours("call answer", answer),
         }
     }
@@ -77,6 +85,7 @@ pub enum Ended {
 }
 
 impl Ended {
+    #[inline]
     pub(crate) fn from_number(number: u32) -> Ended {
         match number {
             0 => Ended::Idle,
@@ -111,10 +120,12 @@ pub enum RecordKind {
 
 impl RecordKind {
     /// The kind's number in document 01, 1 to 3.
+    #[inline]
     pub fn number(self) -> u32 {
         self as u32
     }
 
+    #[inline]
     pub(crate) fn from_number(number: u32) -> RecordKind {
         match number {
             1 => RecordKind::Backs,
@@ -210,6 +221,7 @@ impl DeviceError {
     ];
 
     /// The error's number in document 01, 10 to 27.
+    #[inline]
     pub fn number(self) -> u32 {
         self as u32
     }
@@ -223,6 +235,7 @@ impl DeviceError {
     }
 
     /// An error number of the front's own, where 0 is none.
+    #[inline]
     pub(crate) fn from_front(number: u32) -> Option<DeviceError> {
         if number == 0 {
             return None;

@@ -58,6 +58,7 @@ impl Desk {
     ///
     /// # Errors
     /// [`Refused::NoRegister`] if no register that can be written has this offset.
+    #[inline]
     pub fn write(&mut self, offset: u32, value: u32) -> Result<(), Refused> {
         Refused::from_answer(front::write(&mut self.state, offset, value))
     }
@@ -66,6 +67,7 @@ impl Desk {
     ///
     /// # Errors
     /// [`Refused::NoRegister`] if no register that can be read has this offset.
+    #[inline]
     pub fn read(&self, offset: u32) -> Result<u32, Refused> {
         let (answer, value) = front::read(&self.state, offset);
         Refused::from_answer(answer)?;
@@ -79,6 +81,7 @@ impl Desk {
     ///
     /// # Errors
     /// [`Refused::OtherMemory`] if the memory has another length than the desk was made for.
+    #[inline]
     pub fn run(&mut self, memory: &mut [u8], allowance: u16) -> Result<Ran, Refused> {
         let (answer, ended, units) = front::run(&mut self.state, memory, allowance);
         Refused::from_answer(answer)?;
@@ -92,6 +95,7 @@ impl Desk {
     ///
     /// # Errors
     /// [`Refused::NoRecord`] if there is none of this index, or no submission waits.
+    #[inline]
     pub fn record(&self, i: u32) -> Result<Record, Refused> {
         let (answer, said) = front::record(&self.state, i);
         Refused::from_answer(answer)?;
@@ -106,6 +110,7 @@ impl Desk {
     }
 
     /// All records of the waiting submission, in the order of its packets; none if no submission waits.
+    #[inline]
     pub fn records(&self) -> impl Iterator<Item = Record> + '_ {
         (0..).map_while(move |i| self.record(i).ok())
     }
@@ -114,6 +119,7 @@ impl Desk {
     ///
     /// # Errors
     /// [`Refused::OtherMemory`] if the memory has another length than the desk was made for, else [`Refused::NothingWaits`].
+    #[inline]
     pub fn answer(&mut self, memory: &mut [u8], answer: HostAnswer) -> Result<(), Refused> {
         let good = answer == HostAnswer::Good;
         Refused::from_answer(front::answer(&mut self.state, memory, good))
@@ -171,6 +177,7 @@ impl fmt::Debug for Desk {
 /// assert_eq!(zelezmut::packed_size(1, 5, 3, 3, 1, 20), Some(72));
 /// assert_eq!(zelezmut::packed_size(1, 5, 3, 3, 1, 19), None);
 /// ```
+#[inline]
 pub fn packed_size(
     format: u32,
     width: u32,
@@ -197,6 +204,7 @@ pub fn packed_size(
 /// assert_eq!(zelezmut::table_error(&table, 4097), None);
 /// assert_eq!(zelezmut::table_error(&table, 4096), Some(DeviceError::BadEntry));
 /// ```
+#[inline]
 pub fn table_error(table: &[u8], memory: u64) -> Option<DeviceError> {
     DeviceError::from_front(front::table_error(table, memory))
 }

@@ -17,7 +17,7 @@ type Entries = [u64; MOST * 4];
 type Resources = [u64; MOST * 11];
 type Records = [u64; MOST * 5];
 
-/// The five words of a record: kind, handle, id, address and length; zeros beside a refusal.
+/// The five words of a record: kind, handle and id, of 32 bits, address and length. Zeros beside a refusal.
 pub(crate) type Said = [u64; 5];
 
 /// A device's state, in words that only the library understands: on this side of the boundary they are only kept.
@@ -70,6 +70,7 @@ mod library {
 }
 
 /// A backed texture's bytes, 0 for a bad shape.
+#[inline]
 pub(crate) fn packed_size(
     format: u32,
     width: u32,
@@ -83,6 +84,7 @@ pub(crate) fn packed_size(
 }
 
 /// A table's first error, 0 for none.
+#[inline]
 pub(crate) fn table_error(table: &[u8], memory: u64) -> u32 {
     // SAFETY: the table's own pointer and length; it is only read.
     unsafe { library::zelezmut_table_error(table.as_ptr(), table.len(), memory) }
@@ -105,12 +107,14 @@ pub(crate) fn make(memory: u64) -> Box<State> {
 }
 
 /// The call's answer.
+#[inline]
 pub(crate) fn write(state: &mut State, offset: u32, value: u32) -> u32 {
     // SAFETY: a reference and numbers.
     unsafe { library::zelezmut_write(&mut state.words, offset, value) }
 }
 
 /// The call's answer, and the register's value.
+#[inline]
 pub(crate) fn read(state: &State, offset: u32) -> (u32, u32) {
     // SAFETY: a reference and a number.
     let said = unsafe { library::zelezmut_read(&state.words, offset) };
@@ -118,6 +122,7 @@ pub(crate) fn read(state: &State, offset: u32) -> (u32, u32) {
 }
 
 /// The call's answer, the number of how it ended, and the units spent.
+#[inline]
 pub(crate) fn run(state: &mut State, memory: &mut [u8], allowance: u16) -> (u32, u32, u16) {
     // SAFETY: references and a number; the memory's own pointer and length.
     let said = unsafe {
@@ -140,6 +145,7 @@ pub(crate) fn run(state: &mut State, memory: &mut [u8], allowance: u16) -> (u32,
 }
 
 /// The call's answer, and the record.
+#[inline]
 pub(crate) fn record(state: &State, i: u32) -> (u32, Said) {
     let mut said = MaybeUninit::uninit();
     // SAFETY: references and a number; the call sets all five words, whatever its answer is.
@@ -150,6 +156,7 @@ pub(crate) fn record(state: &State, i: u32) -> (u32, Said) {
 }
 
 /// The call's answer.
+#[inline]
 pub(crate) fn answer(state: &mut State, memory: &mut [u8], good: bool) -> u32 {
     // SAFETY: a reference and a number; the memory's own pointer and length.
     unsafe {
