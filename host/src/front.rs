@@ -168,3 +168,69 @@ pub(crate) fn answer(state: &mut State, memory: &mut [u8], good: bool) -> u32 {
         )
     }
 }
+
+#[cfg(test)]
+mod tests {
+    use super::*;
+    use std::mem::size_of;
+
+    const MEMORY: usize = 4096;
+    const BESIDE: usize = 64;
+    const UNTOUCHED: u8 = 0xA5;
+
+    #[test]
+    fn the_state_takes_at_most_16_500_bytes() {
+        assert!(size_of::<State>() <= 16_500);
+    }
+
+    /// Numbers of few bits and of many, the same in every run.
+    struct Numbers(u64);
+
+    impl Numbers {
+        fn next(&mut self) -> u64 {
+            self.0 ^= self.0 << 13;
+            self.0 ^= self.0 >> 7;
+            self.0 ^= self.0 << 17;
+            self.0 >> [0, 32, 52, 56, 62, 62, 62, 62][(self.0 % 8) as usize]
+        }
+
+        /// A device of a memory that can be lent, and of any other words.
+        fn state(&mut self) -> Box<State> {
+            let mut state = make(0);
+            let words = state.words.iter_mut();
+            let tables = state.entries.iter_mut().chain(&mut state.records);
+            let resources = state.first.iter_mut().chain(&mut state.second);
+            for word in words.chain(tables).chain(resources) {
+                *word = self.next();
+            }
+            state.words[0] = MEMORY as u64;
+            state
+        }
+    }
+
+    /// What the boundary rests on, tried: any words are some device's, and no call leaves the memory that it is lent.
+    #[test]
+    fn calls_return_whatever_the_state_is() {
+        let mut numbers = Numbers(1);
+        let mut bytes = [UNTOUCHED; BESIDE + MEMORY + BESIDE];
+        for _ in 0..5_000 {
+            let mut state = numbers.state();
+            let memory = &mut bytes[BESIDE..][..MEMORY];
+            memory.fill_with(|| numbers.next() as u8);
+            let (offset, value, i) = (
+                numbers.next() as u32,
+                numbers.next() as u32,
+                numbers.next() as u32,
+            );
+            assert!([0, 2].contains(&read(&state, offset).0));
+            assert!([0, 4].contains(&record(&state, i).0));
+            let allowance = numbers.next() as u16;
+            let (done, ended, units) = run(&mut state, memory, allowance);
+            assert!(done == 0 && ended <= 2 && units <= allowance);
+            assert!([0, 3].contains(&answer(&mut state, memory, value == 0)));
+            assert!([0, 2].contains(&write(&mut state, offset, value)));
+            let beside = bytes[..BESIDE].iter().chain(&bytes[BESIDE + MEMORY..]);
+            assert!(beside.copied().all(|byte| byte == UNTOUCHED));
+        }
+    }
+}
