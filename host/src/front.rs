@@ -21,6 +21,8 @@ type Records = [u64; MOST * 5];
 pub(crate) type Said = [u64; 5];
 
 /// A device's state, in words that only the library understands: on this side of the boundary they are only kept.
+///
+/// The words stand first, where the box points, since every call takes them. `Copy` makes the box's clone a single copy.
 #[derive(Clone, Copy)]
 #[repr(C)]
 pub(crate) struct State {
@@ -48,7 +50,9 @@ mod library {
         pub fn zelezmut_table_error(table: *const u8, len: usize, memory: u64) -> u32;
         pub fn zelezmut_make(words: &mut Words, memory: u64);
         pub fn zelezmut_write(words: &mut Words, offset: u32, value: u32) -> u32;
+        /// The value, and 2^32 times the answer.
         pub fn zelezmut_read(words: &Words, offset: u32) -> u64;
+        /// The answer, 2^8 times how it ended, and 2^16 times the units.
         pub fn zelezmut_run(
             words: &mut Words,
             entries: &mut Entries,
@@ -194,7 +198,7 @@ mod tests {
             self.0 >> [0, 32, 52, 56, 62, 62, 62, 62][(self.0 % 8) as usize]
         }
 
-        /// A device of a memory that can be lent, and of any other words.
+        /// Any words but the first, which is the memory's length: with another one nothing would run.
         fn state(&mut self) -> Box<State> {
             let mut state = make(0);
             let words = state.words.iter_mut();
