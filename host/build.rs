@@ -1,9 +1,9 @@
-//! Links libdesk.a, the proved front, and says what to run where it is missing.
+//! Links libzelezmut.a, the proved front, and says what to run where it is missing.
 use std::env;
 use std::path::{Path, PathBuf};
 use std::process::exit;
 
-const LIBRARY: &str = "libdesk.a";
+const LIBRARY: &str = "libzelezmut.a";
 
 /// Names a folder that has the library, in place of the project's own.
 const FOLDER_VARIABLE: &str = "ZELEZMUT_LIB_DIR";
@@ -18,7 +18,7 @@ fn from_cargo(name: &str) -> String {
     env::var(name).unwrap_or_else(|_| fail(&format!("cargo has not set {}", name)))
 }
 
-/// `rt staticlib desk` writes to target/staticlib in the project's root, the folder above this crate.
+/// `rt staticlib zelezmut` writes to target/staticlib in the project's root, the folder above this crate.
 fn library_folder() -> PathBuf {
     match env::var_os(FOLDER_VARIABLE) {
         Some(folder) => PathBuf::from(folder),
@@ -49,12 +49,12 @@ fn main() {
     if !library.is_file() {
         fail(&format!(
             "the proved front is missing: there is no {}.\n\
-             Run `rt staticlib desk` in the project's root, which proves and builds it, or ./play, which does all.\n\
+             Run `rt staticlib zelezmut` in the project's root, which proves and builds it, or ./play, which does all.\n\
              If it stands in another folder, name that folder in {}.",
             library.display(),
             FOLDER_VARIABLE
         ));
     }
     println!("cargo:rustc-link-search=native={}", folder.display());
-    println!("cargo:rustc-link-lib=static=desk");
+    println!("cargo:rustc-link-lib=static=zelezmut");
 }

@@ -7,9 +7,9 @@
 #   host_counter_ready     installs and builds what host_count needs
 #   host_count PROGRAM ..  runs it and ends standard error with the number of x86-64 instructions that it executed
 #
-# libdesk.a is x86-64 code. On x86-64 cargo builds natively. On Arm it builds for x86-64 with Debian's cross linker, and programs
-# and tests run under Debian's qemu-user. Packages are Debian's, and only those that are missing. Instructions are counted by
-# valgrind's callgrind on x86-64, and on Arm by a plugin of qemu's, compare/instructions.c.
+# libzelezmut.a is x86-64 code. On x86-64 cargo builds natively. On Arm it builds for x86-64 with Debian's cross linker, and
+# programs and tests run under Debian's qemu-user. Packages are Debian's, and only those that are missing. Instructions are
+# counted by valgrind's callgrind on x86-64, and on Arm by a plugin of qemu's, compare/instructions.c.
 
 host_folder=$(cd "$(dirname "${BASH_SOURCE[0]}")" && pwd)
 
@@ -50,7 +50,7 @@ host_ready() {
         dpkg -s libstd-rust-dev:amd64 >/dev/null 2>&1 || missing+=(libstd-rust-dev:amd64)
         ;;
     *)
-        echo "host: libdesk.a is x86-64 code. It is linked on x86-64 and on Arm (aarch64), not on $(uname -m)." >&2
+        echo "host: libzelezmut.a is x86-64 code. It is linked on x86-64 and on Arm (aarch64), not on $(uname -m)." >&2
         return 1
         ;;
     esac

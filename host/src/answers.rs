@@ -5,16 +5,11 @@ use std::fmt;
 /// What becomes of a number that is none of the front's. By the rule book it gives no other, so a caller could not act on one:
 /// it means that another library than this crate's was linked.
 #[cold]
-fn none_of_ours(what: &str, number: u64) -> ! {
+fn none_of_ours(what: &str, number: u32) -> ! {
     unreachable!(
-        "the proved front gives no {} of number {}; was another libdesk.a linked?",
+        "the proved front gives no {} of number {}; was another libzelezmut.a linked?",
         what, number
     )
-}
-
-/// A value that the front gives in a word, and that fits its own width.
-pub(crate) fn narrow<T: TryFrom<u64>>(word: u64) -> T {
-    T::try_from(word).unwrap_or_else(|_| none_of_ours("value", word))
 }
 
 /// Why a call was refused. A refused call has changed no state and no byte of memory.
@@ -41,18 +36,26 @@ impl Refused {
     ];
 
     /// The call answer of document 01, 1 to 4.
+    #[inline]
     pub fn number(self) -> u32 {
         self as u32
     }
 
     /// A call answer: 0 is done.
+    #[inline]
     pub(crate) fn from_answer(answer: u32) -> Result<(), Refused> {
-        if answer == 0 {
-            return Ok(());
+        match answer {
+            0 => Ok(()),
+            _ => Err(Refused::from_number(answer)),
         }
+    }
+
+    /// By itself and cold, so that a call that is done only asks for 0.
+    #[cold]
+    fn from_number(answer: u32) -> Refused {
         match Refused::ALL.iter().find(|r| r.number() == answer) {
-            Some(&refused) => Err(refused),
-            None => none_of_ours("call answer", answer.into()),
+            Some(&refused) => refused,
+            None => none_of_ours("call answer", answer),
         }
     }
 }
@@ -82,7 +85,8 @@ pub enum Ended {
 }
 
 impl Ended {
-    pub(crate) fn from_number(number: u64) -> Ended {
+    #[inline]
+    pub(crate) fn from_number(number: u32) -> Ended {
         match number {
             0 => Ended::Idle,
             1 => Ended::Waiting,
@@ -116,11 +120,13 @@ pub enum RecordKind {
 
 impl RecordKind {
     /// The kind's number in document 01, 1 to 3.
+    #[inline]
     pub fn number(self) -> u32 {
         self as u32
     }
 
-    pub(crate) fn from_number(number: u64) -> RecordKind {
+    #[inline]
+    pub(crate) fn from_number(number: u32) -> RecordKind {
         match number {
             1 => RecordKind::Backs,
             2 => RecordKind::Reads,
@@ -215,6 +221,7 @@ impl DeviceError {
     ];
 
     /// The error's number in document 01, 10 to 27.
+    #[inline]
     pub fn number(self) -> u32 {
         self as u32
     }
@@ -228,13 +235,14 @@ impl DeviceError {
     }
 
     /// An error number of the front's own, where 0 is none.
+    #[inline]
     pub(crate) fn from_front(number: u32) -> Option<DeviceError> {
         if number == 0 {
             return None;
         }
         match DeviceError::from_number(number) {
             Some(error) => Some(error),
-            None => none_of_ours("error", number.into()),
+            None => none_of_ours("error", number),
         }
     }
 }
@@ -309,7 +317,7 @@ mod tests {
         assert_eq!(Ended::from_number(2), Ended::Paused);
         for number in 1..=3 {
             let kind = RecordKind::from_number(number);
-            assert_eq!(u64::from(kind.number()), number);
+            assert_eq!(kind.number(), number);
         }
     }
 

@@ -1,11 +1,11 @@
 //! The desk: the proved front with its state, as a Rust value with safe methods.
-use crate::answers::{narrow, DeviceError, Ended, HostAnswer, RecordKind, Refused};
+use crate::answers::{DeviceError, Ended, HostAnswer, RecordKind, Refused};
 use crate::{front, registers};
 use std::fmt;
 
 /// An adapter's front for one guest memory.
 ///
-/// It owns its state, some 15 KB in a box: it moves cheaply and no call allocates. A clone goes its own way from there.
+/// It owns its state, some 16 KB in a box: it moves cheaply and no call allocates. A clone goes its own way from there.
 #[derive(Clone)]
 pub struct Desk {
     state: Box<front::State>,
@@ -50,7 +50,7 @@ impl Desk {
     /// A new desk for a guest memory of so many bytes, disabled, with all registers as after power-on.
     pub fn new(memory: usize) -> Desk {
         Desk {
-            state: Box::new(front::make(memory as u64)),
+            state: front::make(memory as u64),
         }
     }
 
@@ -58,6 +58,7 @@ impl Desk {
     ///
     /// # Errors
     /// [`Refused::NoRegister`] if no register that can be written has this offset.
+    #[inline]
     pub fn write(&mut self, offset: u32, value: u32) -> Result<(), Refused> {
         Refused::from_answer(front::write(&mut self.state, offset, value))
     }
@@ -66,10 +67,11 @@ impl Desk {
     ///
     /// # Errors
     /// [`Refused::NoRegister`] if no register that can be read has this offset.
+    #[inline]
     pub fn read(&self, offset: u32) -> Result<u32, Refused> {
-        let (answer, said) = front::read(&self.state, offset);
+        let (answer, value) = front::read(&self.state, offset);
         Refused::from_answer(answer)?;
-        Ok(narrow(said[0]))
+        Ok(value)
     }
 
     /// Works until the allowance of units is spent, nothing is left to do, or a submission waits for the host.
@@ -79,12 +81,13 @@ impl Desk {
     ///
     /// # Errors
     /// [`Refused::OtherMemory`] if the memory has another length than the desk was made for.
+    #[inline]
     pub fn run(&mut self, memory: &mut [u8], allowance: u16) -> Result<Ran, Refused> {
-        let (answer, said) = front::run(&mut self.state, memory, allowance);
+        let (answer, ended, units) = front::run(&mut self.state, memory, allowance);
         Refused::from_answer(answer)?;
         Ok(Ran {
-            units: narrow(said[0]),
-            ended: Ended::from_number(said[1]),
+            units,
+            ended: Ended::from_number(ended),
         })
     }
 
@@ -92,20 +95,22 @@ impl Desk {
     ///
     /// # Errors
     /// [`Refused::NoRecord`] if there is none of this index, or no submission waits.
+    #[inline]
     pub fn record(&self, i: u32) -> Result<Record, Refused> {
         let (answer, said) = front::record(&self.state, i);
         Refused::from_answer(answer)?;
         let [kind, handle, id, gpa, length] = said;
         Ok(Record {
-            kind: RecordKind::from_number(kind),
-            handle: narrow(handle),
-            id: narrow(id),
+            kind: RecordKind::from_number(kind as u32),
+            handle: handle as u32,
+            id: id as u32,
             gpa,
             length,
         })
     }
 
     /// All records of the waiting submission, in the order of its packets; none if no submission waits.
+    #[inline]
     pub fn records(&self) -> impl Iterator<Item = Record> + '_ {
         (0..).map_while(move |i| self.record(i).ok())
     }
@@ -114,6 +119,7 @@ impl Desk {
     ///
     /// # Errors
     /// [`Refused::OtherMemory`] if the memory has another length than the desk was made for, else [`Refused::NothingWaits`].
+    #[inline]
     pub fn answer(&mut self, memory: &mut [u8], answer: HostAnswer) -> Result<(), Refused> {
         let good = answer == HostAnswer::Good;
         Refused::from_answer(front::answer(&mut self.state, memory, good))
@@ -171,6 +177,7 @@ impl fmt::Debug for Desk {
 /// assert_eq!(zelezmut::packed_size(1, 5, 3, 3, 1, 20), Some(72));
 /// assert_eq!(zelezmut::packed_size(1, 5, 3, 3, 1, 19), None);
 /// ```
+#[inline]
 pub fn packed_size(
     format: u32,
     width: u32,
@@ -197,6 +204,7 @@ pub fn packed_size(
 /// assert_eq!(zelezmut::table_error(&table, 4097), None);
 /// assert_eq!(zelezmut::table_error(&table, 4096), Some(DeviceError::BadEntry));
 /// ```
+#[inline]
 pub fn table_error(table: &[u8], memory: u64) -> Option<DeviceError> {
     DeviceError::from_front(front::table_error(table, memory))
 }

@@ -1,35 +1,43 @@
-//! The C boundary, and the only module with `unsafe`: the functions of `libdesk.a`, each behind a safe one.
+//! The C boundary, and the only module with `unsafe`: the functions of `libzelezmut.a`, each behind a safe one.
 //!
 //! Why the safe ones are safe. Of every function of the library it is proved, whatever numbers stand in the state, that it
 //! returns and stays within what it is lent; it keeps no pointer and has no state of its own. What it needs in return is that
 //! arrays have their lengths, that a slice's pointer and length belong together, and that nothing lent for writing is lent
-//! twice. The types of [`State`], slices and borrows give just that.
+//! twice. Arrays go in by reference, so their types give the first and the last; slices go in by what they say of themselves.
 #![allow(unsafe_code)]
+
+use std::alloc::{alloc_zeroed, handle_alloc_error, Layout};
+use std::mem::MaybeUninit;
 
 /// Entries, resources and records are rows of words, at most so many of each.
 const MOST: usize = 64;
 
-const SCALARS: usize = 32;
-const ENTRIES: usize = MOST * 4;
-const ROOMS: usize = MOST * 10;
-const RECORDS: usize = MOST * 5;
+type Words = [u64; 32];
+type Entries = [u64; MOST * 4];
+type Resources = [u64; MOST * 11];
+type Records = [u64; MOST * 5];
 
-/// The values that a call gives beside its answer; zeros beside a refusal.
+/// The five words of a record: kind, handle and id, of 32 bits, address and length. Zeros beside a refusal.
 pub(crate) type Said = [u64; 5];
 
 /// A device's state, in words that only the library understands: on this side of the boundary they are only kept.
-#[derive(Clone)]
+///
+/// The words stand first, where the box points, since every call takes them. `Copy` makes the box's clone a single copy.
+#[derive(Clone, Copy)]
+#[repr(C)]
 pub(crate) struct State {
-    scalars: [u64; SCALARS],
-    entries: [u64; ENTRIES],
-    /// The device's resources.
-    rooms: [u64; ROOMS],
-    /// The resources as the submission in work has left them.
-    held: [u64; ROOMS],
-    records: [u64; RECORDS],
+    /// Its numbers. The tables mean something only as far as these say.
+    words: Words,
+    entries: Entries,
+    /// The resources of the device, and as the submission in work has left them: the words say which table is which.
+    first: Resources,
+    second: Resources,
+    records: Records,
 }
 
 mod library {
+    use super::{Entries, MaybeUninit, Records, Resources, Said, Words};
+
     extern "C" {
         pub fn zelezmut_packed_size(
             format: u32,
@@ -39,39 +47,34 @@ mod library {
             layers: u32,
             pitch: u32,
         ) -> u64;
-        pub fn zelezmut_table_error(table: *const u8, length: usize, memory: u64) -> u32;
-        pub fn zelezmut_make(scalars: *mut u64, memory: u64);
-        pub fn zelezmut_write(scalars: *mut u64, offset: u32, value: u32) -> u32;
-        pub fn zelezmut_read(scalars: *const u64, offset: u32, said: *mut u64) -> u32;
+        pub fn zelezmut_table_error(table: *const u8, len: usize, memory: u64) -> u32;
+        pub fn zelezmut_make(words: &mut Words, memory: u64);
+        pub fn zelezmut_write(words: &mut Words, offset: u32, value: u32) -> u32;
+        /// The value, and 2^32 times the answer.
+        pub fn zelezmut_read(words: &Words, offset: u32) -> u64;
+        /// The answer, 2^8 times how it ended, and 2^16 times the units.
         pub fn zelezmut_run(
-            scalars: *mut u64,
-            entries: *mut u64,
-            rooms: *const u64,
-            held: *mut u64,
-            records: *mut u64,
-            memory: *mut u8,
-            length: usize,
+            words: &mut Words,
+            entries: &mut Entries,
+            first: &mut Resources,
+            second: &mut Resources,
+            records: &mut Records,
+            mem: *mut u8,
+            len: usize,
             allowance: u16,
-            said: *mut u64,
-        ) -> u32;
+        ) -> u64;
         pub fn zelezmut_record(
-            scalars: *const u64,
-            records: *const u64,
-            index: u32,
-            said: *mut u64,
+            words: &Words,
+            records: &Records,
+            i: u32,
+            said: &mut MaybeUninit<Said>,
         ) -> u32;
-        pub fn zelezmut_answer(
-            scalars: *mut u64,
-            rooms: *mut u64,
-            held: *const u64,
-            memory: *mut u8,
-            length: usize,
-            good: u32,
-        ) -> u32;
+        pub fn zelezmut_answer(words: &mut Words, mem: *mut u8, len: usize, good: u32) -> u32;
     }
 }
 
 /// A backed texture's bytes, 0 for a bad shape.
+#[inline]
 pub(crate) fn packed_size(
     format: u32,
     width: u32,
@@ -85,86 +88,153 @@ pub(crate) fn packed_size(
 }
 
 /// A table's first error, 0 for none.
+#[inline]
 pub(crate) fn table_error(table: &[u8], memory: u64) -> u32 {
     // SAFETY: the table's own pointer and length; it is only read.
     unsafe { library::zelezmut_table_error(table.as_ptr(), table.len(), memory) }
 }
 
-/// The state of a new device for a memory of so many bytes.
-pub(crate) fn make(memory: u64) -> State {
-    let mut state = State {
-        scalars: [0; SCALARS],
-        entries: [0; ENTRIES],
-        rooms: [0; ROOMS],
-        held: [0; ROOMS],
-        records: [0; RECORDS],
+/// The state of a new device for a memory of so many bytes. It is made where it stays, not copied there.
+pub(crate) fn make(memory: u64) -> Box<State> {
+    let layout = Layout::new::<State>();
+    // SAFETY: the layout has a size, the global allocator gave the place for it, and zeros are words.
+    let mut state = unsafe {
+        let place = alloc_zeroed(layout).cast::<State>();
+        if place.is_null() {
+            handle_alloc_error(layout);
+        }
+        Box::from_raw(place)
     };
-    // SAFETY: the array has its length and is borrowed once.
-    unsafe { library::zelezmut_make(state.scalars.as_mut_ptr(), memory) };
+    // SAFETY: a reference and a number.
+    unsafe { library::zelezmut_make(&mut state.words, memory) };
     state
 }
 
 /// The call's answer.
+#[inline]
 pub(crate) fn write(state: &mut State, offset: u32, value: u32) -> u32 {
-    // SAFETY: the array has its length and is borrowed once.
-    unsafe { library::zelezmut_write(state.scalars.as_mut_ptr(), offset, value) }
+    // SAFETY: a reference and numbers.
+    unsafe { library::zelezmut_write(&mut state.words, offset, value) }
 }
 
 /// The call's answer, and the register's value.
-pub(crate) fn read(state: &State, offset: u32) -> (u32, Said) {
-    let mut said = Said::default();
-    // SAFETY: both arrays have their lengths; `said` alone is written.
-    let answer =
-        unsafe { library::zelezmut_read(state.scalars.as_ptr(), offset, said.as_mut_ptr()) };
-    (answer, said)
+#[inline]
+pub(crate) fn read(state: &State, offset: u32) -> (u32, u32) {
+    // SAFETY: a reference and a number.
+    let said = unsafe { library::zelezmut_read(&state.words, offset) };
+    ((said >> 32) as u32, said as u32)
 }
 
-/// The call's answer; the units spent, and the number of how it ended.
-pub(crate) fn run(state: &mut State, memory: &mut [u8], allowance: u16) -> (u32, Said) {
-    let mut said = Said::default();
-    // SAFETY: each array has its length, `memory` its own pointer and length, and each is borrowed once.
-    let answer = unsafe {
+/// The call's answer, the number of how it ended, and the units spent.
+#[inline]
+pub(crate) fn run(state: &mut State, memory: &mut [u8], allowance: u16) -> (u32, u32, u16) {
+    // SAFETY: references and a number; the memory's own pointer and length.
+    let said = unsafe {
         library::zelezmut_run(
-            state.scalars.as_mut_ptr(),
-            state.entries.as_mut_ptr(),
-            state.rooms.as_ptr(),
-            state.held.as_mut_ptr(),
-            state.records.as_mut_ptr(),
+            &mut state.words,
+            &mut state.entries,
+            &mut state.first,
+            &mut state.second,
+            &mut state.records,
             memory.as_mut_ptr(),
             memory.len(),
             allowance,
-            said.as_mut_ptr(),
         )
     };
-    (answer, said)
+    (
+        u32::from(said as u8),
+        u32::from((said >> 8) as u8),
+        (said >> 16) as u16,
+    )
 }
 
-/// The call's answer; kind, handle, id, address and length.
-pub(crate) fn record(state: &State, index: u32) -> (u32, Said) {
-    let mut said = Said::default();
-    // SAFETY: the arrays have their lengths; `said` alone is written.
-    let answer = unsafe {
-        library::zelezmut_record(
-            state.scalars.as_ptr(),
-            state.records.as_ptr(),
-            index,
-            said.as_mut_ptr(),
-        )
-    };
-    (answer, said)
+/// The call's answer, and the record.
+#[inline]
+pub(crate) fn record(state: &State, i: u32) -> (u32, Said) {
+    let mut said = MaybeUninit::uninit();
+    // SAFETY: references and a number; the call sets all five words, whatever its answer is.
+    unsafe {
+        let answer = library::zelezmut_record(&state.words, &state.records, i, &mut said);
+        (answer, said.assume_init())
+    }
 }
 
 /// The call's answer.
+#[inline]
 pub(crate) fn answer(state: &mut State, memory: &mut [u8], good: bool) -> u32 {
-    // SAFETY: each array has its length, `memory` its own pointer and length, and each is borrowed once.
+    // SAFETY: a reference and a number; the memory's own pointer and length.
     unsafe {
         library::zelezmut_answer(
-            state.scalars.as_mut_ptr(),
-            state.rooms.as_mut_ptr(),
-            state.held.as_ptr(),
+            &mut state.words,
             memory.as_mut_ptr(),
             memory.len(),
             good.into(),
         )
+    }
+}
+
+#[cfg(test)]
+mod tests {
+    use super::*;
+    use std::mem::size_of;
+
+    const MEMORY: usize = 4096;
+    const BESIDE: usize = 64;
+    const UNTOUCHED: u8 = 0xA5;
+
+    #[test]
+    fn the_state_takes_at_most_16_500_bytes() {
+        assert!(size_of::<State>() <= 16_500);
+    }
+
+    /// Numbers of few bits and of many, the same in every run.
+    struct Numbers(u64);
+
+    impl Numbers {
+        fn next(&mut self) -> u64 {
+            self.0 ^= self.0 << 13;
+            self.0 ^= self.0 >> 7;
+            self.0 ^= self.0 << 17;
+            self.0 >> [0, 32, 52, 56, 62, 62, 62, 62][(self.0 % 8) as usize]
+        }
+
+        /// Any words but the first, which is the memory's length: with another one nothing would run.
+        fn state(&mut self) -> Box<State> {
+            let mut state = make(0);
+            let words = state.words.iter_mut();
+            let tables = state.entries.iter_mut().chain(&mut state.records);
+            let resources = state.first.iter_mut().chain(&mut state.second);
+            for word in words.chain(tables).chain(resources) {
+                *word = self.next();
+            }
+            state.words[0] = MEMORY as u64;
+            state
+        }
+    }
+
+    /// What the boundary rests on, tried: any words are some device's, and no call leaves the memory that it is lent.
+    #[test]
+    fn calls_return_whatever_the_state_is() {
+        let mut numbers = Numbers(1);
+        let mut bytes = [UNTOUCHED; BESIDE + MEMORY + BESIDE];
+        for _ in 0..5_000 {
+            let mut state = numbers.state();
+            let memory = &mut bytes[BESIDE..][..MEMORY];
+            memory.fill_with(|| numbers.next() as u8);
+            let (offset, value, i) = (
+                numbers.next() as u32,
+                numbers.next() as u32,
+                numbers.next() as u32,
+            );
+            assert!([0, 2].contains(&read(&state, offset).0));
+            assert!([0, 4].contains(&record(&state, i).0));
+            let allowance = numbers.next() as u16;
+            let (done, ended, units) = run(&mut state, memory, allowance);
+            assert!(done == 0 && ended <= 2 && units <= allowance);
+            assert!([0, 3].contains(&answer(&mut state, memory, value == 0)));
+            assert!([0, 2].contains(&write(&mut state, offset, value)));
+            let beside = bytes[..BESIDE].iter().chain(&bytes[BESIDE + MEMORY..]);
+            assert!(beside.copied().all(|byte| byte == UNTOUCHED));
+        }
     }
 }

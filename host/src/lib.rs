@@ -4,9 +4,9 @@
 //! one unit at a time, hands the ranges they name to the host as [`Record`]s, and finishes fences. What a resource holds,
 //! shaders and scanout are the host's own business.
 //!
-//! The rules are not in this crate. They are in `libdesk.a`, written in Rattle and proved to meet the rule book, which states
-//! document 01 as definitions; this crate lends it state and memory, and gives its numbers names. Its one module with `unsafe`
-//! is the C boundary.
+//! The rules are not in this crate. They are in `libzelezmut.a`, written in Rattle and proved to meet the rule book, which
+//! states document 01 as definitions; this crate lends it state and memory, and gives its numbers names. Its one module with
+//! `unsafe` is the C boundary.
 //!
 //! # A submission, from ring to fence
 //!
@@ -63,8 +63,8 @@
 //!   it during such a call. Between calls the guest may write anywhere; what was checked is kept, not read again.
 //! - A call ends. One unit is one step (an opening, a table entry or a packet), and a run takes no more than its allowance.
 //! - No call panics on what a guest wrote, and none allocates once the desk is made.
-//! - The static library is x86-64 code. `rt staticlib desk` in the project's root builds it, and so does `./play` there; the
-//!   build script says so if it is missing.
+//! - The static library is x86-64 code. `rt staticlib zelezmut` in the project's root builds it, and so does `./play` there;
+//!   the build script says so if it is missing.
 #![deny(unsafe_code)]
 #![warn(missing_docs)]
 
