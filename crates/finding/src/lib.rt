@@ -60,14 +60,17 @@ fn by_eight(rows: &[u64], width: usize, from: usize, count: usize, key: u32) -> 
     ensures { λ r. ⌜ r ≡ from + indexOf firstWord key (tableFrom (λ r. r) width from count (now (rows .entry))) ⌝ }
 {
     let mut i = from;
-    while i != count {
+    let place = loop {
+        if i == count {
+            break count;
+        }
         let r = of_eight(rows, width, i, key);
         if r < 8 {
-            return i + r;
+            break i + r;
         }
         i += 8;
-    }
-    count
+    };
+    place
 }
 
 // Finds a key among the first words of the first `count` rows: the row's index, or `count`. A key is four bytes wide.
@@ -78,12 +81,15 @@ pub fn find_row(rows: &[u64], width: usize, count: usize, key: u32) -> usize
 {
     let few = count % 8;
     let mut i: usize = 0;
-    while i < few {
+    let place = loop {
+        if i >= few {
+            break by_eight(rows, width, few, count, key);
+        }
         let r = of_one(rows, width, i, key);
         if r < 1 {
-            return i + r;
+            break i + r;
         }
         i += 1;
-    }
-    by_eight(rows, width, few, count, key)
+    };
+    place
 }

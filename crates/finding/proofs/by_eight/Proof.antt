@@ -22,11 +22,8 @@ loop-holds c = (search needs, refl)
 of-eight-requires : tie.Need-of-eight-requires Inv-loop μ-loop
 of-eight-requires c κs = search scanning
 
-add-result : tie.Need-add-result Inv-loop μ-loop
-add-result c = search scanning
-
-returns : tie.Need-returns Inv-loop μ-loop
-returns c = search scanning
+add-place : tie.Need-add-place Inv-loop μ-loop
+add-place c = search scanning
 
 add-i : tie.Need-add-i Inv-loop μ-loop
 add-i c = search scanning
@@ -36,6 +33,9 @@ loop-less c = omega arith
 
 loop-again : tie.Need-loop-again Inv-loop μ-loop
 loop-again c = (omega arith, search scanning)
+
+returns : tie.Need-returns Inv-loop μ-loop
+returns c = search scanning
 
 returns-2 : tie.Need-returns-2 Inv-loop μ-loop
 returns-2 c = search scanning
@@ -48,9 +48,9 @@ by-eight-spec =
     μ-loop
     loop-holds
     of-eight-requires
-    add-result
-    returns
+    add-place
     add-i
     loop-less
     loop-again
+    returns
     returns-2)

@@ -18,14 +18,14 @@ abbrev μ-loop : tie.MeasureT-loop
 loop-holds : tie.Need-loop-holds Inv-loop μ-loop
 loop-holds c = (omega arith, search scanning)
 
+by-eight-requires : tie.Need-by-eight-requires Inv-loop μ-loop
+by-eight-requires c κs = search scanning
+
 of-one-requires : tie.Need-of-one-requires Inv-loop μ-loop
 of-one-requires c κs = search scanning
 
-add-result : tie.Need-add-result Inv-loop μ-loop
-add-result c = search scanning
-
-returns : tie.Need-returns Inv-loop μ-loop
-returns c = search scanning
+add-place : tie.Need-add-place Inv-loop μ-loop
+add-place c = search scanning
 
 add-i : tie.Need-add-i Inv-loop μ-loop
 add-i c = omega arith
@@ -36,8 +36,8 @@ loop-less c = omega arith
 loop-again : tie.Need-loop-again Inv-loop μ-loop
 loop-again c = (omega arith, search scanning)
 
-by-eight-requires : tie.Need-by-eight-requires Inv-loop μ-loop
-by-eight-requires c κs = search scanning
+returns : tie.Need-returns Inv-loop μ-loop
+returns c = search scanning
 
 returns-2 : tie.Need-returns-2 Inv-loop μ-loop
 returns-2 c = search scanning
@@ -49,11 +49,11 @@ find-row-spec =
     Inv-loop
     μ-loop
     loop-holds
+    by-eight-requires
     of-one-requires
-    add-result
-    returns
+    add-place
     add-i
     loop-less
     loop-again
-    by-eight-requires
+    returns
     returns-2)
