@@ -2,8 +2,8 @@
 
 use crate::draft::Resource;
 use crate::event::Event;
-use crate::generator::Target;
 use crate::random::Random;
+use crate::target::Target;
 use crate::world::World;
 use zelezmut::registers::{
     CONTROL, CONTROL_ENABLE, CONTROL_RESET, DOORBELL, FENCE_GPA_HI, FENCE_GPA_LO, RING_GPA_HI,

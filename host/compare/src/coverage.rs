@@ -2,9 +2,10 @@
 
 use crate::event::{Event, EVENTS};
 use crate::front::{Ended, Front};
-use crate::generator::{Drawn, Target};
+use crate::generator::Drawn;
 use crate::numbers::error::{HOST_FAILED, RING};
 use crate::player::{Said, Seat};
+use crate::target::Target;
 use crate::twists::{Aim, Outcome};
 use std::collections::{BTreeMap, BTreeSet};
 use std::fmt;

@@ -5,8 +5,9 @@ use crate::author::{Author, PLENTY};
 use crate::event::Event;
 use crate::numbers::RING_HEAD;
 use crate::submission::{some_submission, Belief, Submission};
+use crate::target::Target;
+use crate::twists;
 use crate::twists::ring::Ring;
-use crate::twists::{self, Aim};
 use crate::world::Scale;
 use zelezmut::registers::{CONTROL_ENABLE, CONTROL_RESET, IRQ_ENABLE};
 use zelezmut::script::Operation;
@@ -22,13 +23,6 @@ pub struct Drawn {
     pub head_at: u64,
     /// What else happens in it, in order.
     pub events: Vec<Event>,
-}
-
-/// An aim, and the ring's head when its submission is the next: by it one can tell which submission waits.
-#[derive(Clone, Copy, Debug)]
-pub struct Target {
-    pub aim: Aim,
-    pub head: u32,
 }
 
 pub fn draw(seed: u64) -> Drawn {

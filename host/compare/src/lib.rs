@@ -36,6 +36,7 @@ mod schedule;
 pub mod shape;
 pub mod slicing;
 mod submission;
+pub mod target;
 pub mod twists;
 pub mod verify;
 mod world;
