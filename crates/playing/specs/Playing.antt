@@ -24,7 +24,7 @@ use Rattle.rules.specs.declared.Verdict.{Verdict}
 use Rattle.rules.specs.declared.Verdict.the-variants.{Fine, Broken as BrokenRule}
 use Rattle.entry_rows.specs.Views.{entriesOf}
 use Rattle.rooms.specs.Views.{holdingsOf}
-use Rattle.stream.specs.Framing.{Sound, frame-sound}
+use Rattle.stream.specs.Framing.{Sound, frame-sound, Passed}
 use Rattle.ranges.specs.Views.{Room}
 use Rattle.packets.specs.Apply.{Changes}
 use Rattle.packets.specs.declared.apply.Changed.{Changed}
@@ -32,6 +32,7 @@ use Rattle.phases.specs.Ending.{Ending, onward, ending-at, endingOf, is-going, 
 use Rattle.phases.specs.Ending.Ending.{Going, Done, Broken}
 use Rattle.playing.specs.declared.PacketsPlace.{PacketsPlace}
 use Rattle.playing.specs.declared.PacketsRun.{PacketsRun}
+use Rattle.playing.specs.declared.Skipped.{Skipped}
 
 pub record Playing : Type 0 where
   pub at : ℕ
@@ -150,6 +151,46 @@ module _ (b : List ℕ) (end n : ℕ) (e : List ℕ) (p : PacketsPlace) (r l c :
 
 pub ruleset stepping-packet = (step-misframed, is-framed, next-fits, step-taken, needs)
 
+-- ---- skip_unknown
+
+abbrev pub playing-at : ℕ → Holdings → Playing
+playing-at at h = record { at = at; held = h; ending = Going }
+
+-- what was true of a run at the place and the units before is true of it at those after, whatever is held
+pub record Skips (b : List ℕ) (bound at u a : ℕ) (x : Skipped) : Type 0 where
+  pub least : u ≤ x .units
+  pub room : x .units ≤ a
+  pub run : (es : List Entry) (end : ℕ) (h : Holdings) (o : Out Playing) → bound ≤ end
+      → o ≡ spent u (runFor playing-goes (play-step es b end) (a - u) (playing-at at h))
+      → o ≡ spent (x .units) (runFor playing-goes (play-step es b end) (a - x .units) (playing-at (x .at) h))
+
+module _ (b : List ℕ) (bound at u a : ℕ) where
+  pub skips-none : u ≤ a → Skips b bound at u a (record { at = at; units = u })
+  skips-none h = record { least = omega arith; room = h; run = λ es end h o le e. e }
+
+  module _ (here size v : ℕ) (before : Skips b bound at u a (record { at = here; units = v })) (passed : Passed b here bound size) (some : size ≡ 0 → ⊥) where
+    skip-step : (es : List Entry) (end : ℕ) (h : Holdings) → bound ≤ end → playing-at (here + size) h ≡ play-step es b end (playing-at here h)
+    unfolding play-step take-packet apply
+    skip-step es end h le =
+        let below : here + size < bound = passed .before some in
+        rw (passed .whole some, ← (passed .nothing some), lt-ltb (here + size) end (omega arith))
+
+    pub skips-on : v < a → Skips b bound at u a (record { at = here + size; units = v + 1 })
+    skips-on more =
+        record {
+          least = omega (arith, before .least);
+          room = omega arith;
+          run = λ es end h o le e. phase-on playing-goes (play-step es b end) a v (playing-at here h) o (before .run es end h o le e) more refl (playing-at (here + size) h) (skip-step es end h le);
+        }
+
+    pub skips-below : here + size < bound
+    skips-below = passed .before some
+
+    pub skips-fits : bound ≤ length b - 7 → length b < 2 ^ 64 → Fits w64 (here + size)
+    skips-fits h g = let below : here + size < bound = passed .before some in record { fits = omega arith }
+
+pub ruleset skipping = (skips-none, skips-on, skips-below, skips-fits, needs)
+
 -- ---- read_packets
 
 module _ (b : List ℕ) (end n : ℕ) (e : List ℕ) (p₀ : PacketsPlace) (r l₀ c₀ : List ℕ) (a : ℕ) where
@@ -161,15 +202,33 @@ module _ (b : List ℕ) (end n : ℕ) (e : List ℕ) (p₀ : PacketsPlace) (r l�
     pub plays-no-more : a ≤ u → Room n (p .live) (p .made) → PacketsRan b end n e p₀ r l₀ c₀ a (record { place = p; units = u }) l c
     plays-no-more h room = record { run = loop-out playing-goes (play-step (entriesOf n e) b end) a u (playingOf p r l c) _ inv h; room = room }
 
-    module _ (more : u < a) (here : p .ending ≡ 0) (q : PacketsPlace) (l′ c′ : List ℕ) (s : PacketStepped b end n e p r l c q l′ c′) where
-      pub plays-on : runFor playing-goes (play-step (entriesOf n e) b end) a (playingOf p₀ r l₀ c₀) ≡ spent (u + 1) (runFor playing-goes (play-step (entriesOf n e) b end) (a - (u + 1)) (playingOf q r l′ c′))
-      plays-on = phase-on playing-goes (play-step (entriesOf n e) b end) a u (playingOf p r l c) _ inv more (goes (p .ending) (p .why) here) (playingOf q r l′ c′) (s .step)
+    -- over unknown packets first
+    module _ (here : p .ending ≡ 0) (bound : ℕ) (x : Skipped) (skips : Skips b bound (p .at) u a x) (inner : bound ≤ end) where
+      abbrev moved : PacketsPlace
+      moved = record { at = x .at; live = p .live; made = p .made; own = p .own; ending = p .ending; why = p .why }
 
-      pub plays-to-end : (q .ending ≡ 0 → ⊥) → PacketsRan b end n e p₀ r l₀ c₀ a (record { place = q; units = u + 1 }) l′ c′
-      plays-to-end h =
-          record {
-            run = phase-left playing-goes (play-step (entriesOf n e) b end) a u (playingOf p r l c) _ inv more (goes (p .ending) (p .why) here) (playingOf q r l′ c′) (s .step) (ends (q .ending) (q .why) h);
-            room = s .room;
-          }
+      after : runFor playing-goes (play-step (entriesOf n e) b end) a (playingOf p₀ r l₀ c₀) ≡ spent (x .units) (runFor playing-goes (play-step (entriesOf n e) b end) (a - x .units) (playingOf moved r l c))
+      after =
+          let held : Holdings = holdingsOf (p .live) (pick (p .own) l r) (p .made) c in
+          let there : _≡_ {A = Playing} (playingOf p r l c) (playing-at (p .at) held) = rw (is-going (p .ending) (p .why) here) in
+          let then : _≡_ {A = Playing} (playingOf moved r l c) (playing-at (x .at) held) = rw (is-going (p .ending) (p .why) here) in
+          skips .run (entriesOf n e) end held _ inner (inv ∙ rw there) ∙ rw then
 
-pub ruleset playing-on = (plays-first, plays-no-more, plays-on, plays-to-end, needs)
+      pub skips-to-last : a ≤ x .units → Room n (p .live) (p .made) → PacketsRan b end n e p₀ r l₀ c₀ a (record { place = moved; units = x .units }) l c
+      skips-to-last h room = record { run = loop-out playing-goes (play-step (entriesOf n e) b end) a (x .units) (playingOf moved r l c) _ after h; room = room }
+
+      pub skips-less : x .units < a → a - (x .units + 1) < a - u
+      skips-less more = omega (arith, skips .least)
+
+      module _ (more : x .units < a) (q : PacketsPlace) (l′ c′ : List ℕ) (s : PacketStepped b end n e moved r l c q l′ c′) where
+        pub plays-on : runFor playing-goes (play-step (entriesOf n e) b end) a (playingOf p₀ r l₀ c₀) ≡ spent (x .units + 1) (runFor playing-goes (play-step (entriesOf n e) b end) (a - (x .units + 1)) (playingOf q r l′ c′))
+        plays-on = phase-on playing-goes (play-step (entriesOf n e) b end) a (x .units) (playingOf moved r l c) _ after more (goes (p .ending) (p .why) here) (playingOf q r l′ c′) (s .step)
+
+        pub plays-to-end : (q .ending ≡ 0 → ⊥) → PacketsRan b end n e p₀ r l₀ c₀ a (record { place = q; units = x .units + 1 }) l′ c′
+        plays-to-end h =
+            record {
+              run = phase-left playing-goes (play-step (entriesOf n e) b end) a (x .units) (playingOf moved r l c) _ after more (goes (p .ending) (p .why) here) (playingOf q r l′ c′) (s .step) (ends (q .ending) (q .why) h);
+              room = s .room;
+            }
+
+pub ruleset playing-on = (plays-first, plays-no-more, skips-to-last, skips-less, plays-on, plays-to-end, needs)

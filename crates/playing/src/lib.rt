@@ -11,10 +11,11 @@ use rules::Frame;
 use rules::Verdict;
 use stream::framing::frame_at;
 use stream::framing::packet_at;
+use stream::framing::unknown_size;
 use widths::index;
 ghost use mathlib.Core.Path.{_≡_};
-ghost use Prim.Native.Nat.{_+_, _≤_, _^_, _<_};
-ghost use lib.ListN.{drop};
+ghost use Prim.Native.Nat.{_+_, _-_, _≤_, _^_, _<_};
+ghost use lib.ListN.{length, drop};
 ghost use Rattle.machine.specs.Machine.{pick};
 ghost use Rattle.rules.specs.Stream.{frame-of};
 ghost use Rattle.rules.specs.Packets.{take-packet};
@@ -23,7 +24,7 @@ ghost use Rattle.entry_rows.specs.Views.{entriesOf};
 ghost use Rattle.rooms.specs.Views.{holdingsOf};
 ghost use Rattle.ranges.specs.Views.{Room};
 ghost use Rattle.packets.specs.Apply.{Changes};
-ghost use Rattle.playing.specs.Playing.{placeAfter, PacketStepped, PacketsRan};
+ghost use Rattle.playing.specs.Playing.{placeAfter, PacketStepped, Skips, PacketsRan};
 
 // Where the packets stand: the place in the stream, how many resources and records are held, whether the resources are in the
 // submission's own table, how the phase stands, and the number of a rule that is broken, 0 otherwise.
@@ -132,6 +133,49 @@ fn step_packet(
     }
 }
 
+// A place of the stream that packets before it begin below the end and have their header.
+fn inner_bound(stream: &[u8], end: usize) -> usize
+    ensures { λ r. ⌜ (r ≤ length (now (stream .entry)) - 7) × (r ≤ end) ⌝ }
+{
+    let long = stream.len();
+    if long < 7 {
+        return 0;
+    }
+    let last = long - 7;
+    if end < last {
+        return end;
+    }
+    last
+}
+
+// Where a row of unknown packets was left, and the units spent by then.
+struct Skipped {
+    at: usize,
+    units: u16,
+}
+
+// Goes over packets that we do not know, a unit each, up to the first that a step has to look at. It is a loop of its own so that
+// nothing of what other packets need is kept in it.
+fn skip_unknown(stream: &[u8], bound: usize, from: usize, spent: u16, allowance: u16) -> Skipped
+    requires { ⌜ (bound ≤ length (now stream) - 7) × (spent ≤ allowance) ⌝ }
+    ensures { λ r. ⌜ Skips (now (stream .entry)) bound from spent allowance r ⌝ }
+{
+    let mut at = from;
+    let mut units = spent;
+    if at >= bound {
+        return Skipped { at, units };
+    }
+    while units < allowance {
+        let size = unknown_size(stream, at, bound);
+        if size == 0 {
+            return Skipped { at, units };
+        }
+        at += size;
+        units += 1;
+    }
+    Skipped { at, units }
+}
+
 // Packets, one a unit, until the allowance is spent, the stream is done or a rule is broken. `rooms` is the device's table of
 // resources, `held` the submission's own.
 pub fn read_packets(
@@ -148,9 +192,16 @@ pub fn read_packets(
     requires { ⌜ Room n (from .live) (from .made) × (from .ending ≡ 0) ⌝ }
     ensures { λ r. ⌜ PacketsRan (now (stream .entry)) end n (now (entries .entry)) from (now (rooms .entry)) (now (held .entry)) (now (records .entry)) allowance r (now (held .exit)) (now (records .exit)) ⌝ }
 {
+    let bound = inner_bound(stream, end);
     let mut p = from;
     let mut units: u16 = 0;
     while units < allowance {
+        let s = skip_unknown(stream, bound, p.at, units, allowance);
+        p.at = s.at;
+        units = s.units;
+        if units >= allowance {
+            return PacketsRun { place: p, units };
+        }
         p = step_packet(stream, end, entries, n, rooms, held, records, p);
         units += 1;
         if p.ending != GOING {
