@@ -17,6 +17,7 @@ use Rattle.rules.specs.Packets.{Holdings, Outcome, apply, take-packet}
 use Rattle.rules.specs.Steps.{next-place}
 use Rattle.rules.specs.declared.Entry.{Entry}
 use Rattle.rules.specs.declared.Packet.{Packet}
+use Rattle.rules.specs.declared.Packet.the-variants.{Unknown}
 use Rattle.rules.specs.declared.Frame.{Frame}
 use Rattle.rules.specs.declared.Frame.the-variants.{Whole, Misframed}
 use Rattle.rules.specs.declared.Refusal.{Refusal}
@@ -26,7 +27,7 @@ use Rattle.entry_rows.specs.Views.{entriesOf}
 use Rattle.rooms.specs.Views.{holdingsOf}
 use Rattle.stream.specs.Framing.{Sound, frame-sound, Passed}
 use Rattle.ranges.specs.Views.{Room}
-use Rattle.packets.specs.Apply.{Changes}
+use Rattle.packets.specs.Apply.{Changes, unknown-applied}
 use Rattle.packets.specs.declared.apply.Changed.{Changed}
 use Rattle.phases.specs.Ending.{Ending, onward, ending-at, endingOf, is-going, is-done, is-broken, goes, ends, phase-on, phase-left}
 use Rattle.phases.specs.Ending.Ending.{Going, Done, Broken}
@@ -101,7 +102,7 @@ module _ (b : List ℕ) (at op size : ℕ) (whole : frame-of (drop at b) ≡ Who
   unfolding take-packet
   takes-framed es h k r x l′ c′ read change = rw (whole, ← read) change
 
-pub ruleset taking-packet = (takes-framed, needs)
+pub ruleset taking-packet = (takes-framed, unknown-applied, needs)
 
 -- ---- step_packet
 
@@ -202,33 +203,30 @@ module _ (b : List ℕ) (end n : ℕ) (e : List ℕ) (p₀ : PacketsPlace) (r l�
     pub plays-no-more : a ≤ u → Room n (p .live) (p .made) → PacketsRan b end n e p₀ r l₀ c₀ a (record { place = p; units = u }) l c
     plays-no-more h room = record { run = loop-out playing-goes (play-step (entriesOf n e) b end) a u (playingOf p r l c) _ inv h; room = room }
 
-    -- over unknown packets first
-    module _ (here : p .ending ≡ 0) (bound : ℕ) (x : Skipped) (skips : Skips b bound (p .at) u a x) (inner : bound ≤ end) where
-      abbrev moved : PacketsPlace
-      moved = record { at = x .at; live = p .live; made = p .made; own = p .own; ending = p .ending; why = p .why }
+    module _ (more : u < a) (here : p .ending ≡ 0) (q : PacketsPlace) (l′ c′ : List ℕ) (s : PacketStepped b end n e p r l c q l′ c′) where
+      pub plays-on : runFor playing-goes (play-step (entriesOf n e) b end) a (playingOf p₀ r l₀ c₀) ≡ spent (u + 1) (runFor playing-goes (play-step (entriesOf n e) b end) (a - (u + 1)) (playingOf q r l′ c′))
+      plays-on = phase-on playing-goes (play-step (entriesOf n e) b end) a u (playingOf p r l c) _ inv more (goes (p .ending) (p .why) here) (playingOf q r l′ c′) (s .step)
 
-      after : runFor playing-goes (play-step (entriesOf n e) b end) a (playingOf p₀ r l₀ c₀) ≡ spent (x .units) (runFor playing-goes (play-step (entriesOf n e) b end) (a - x .units) (playingOf moved r l c))
-      after =
-          let held : Holdings = holdingsOf (p .live) (pick (p .own) l r) (p .made) c in
-          let there : _≡_ {A = Playing} (playingOf p r l c) (playing-at (p .at) held) = rw (is-going (p .ending) (p .why) here) in
-          let then : _≡_ {A = Playing} (playingOf moved r l c) (playing-at (x .at) held) = rw (is-going (p .ending) (p .why) here) in
-          skips .run (entriesOf n e) end held _ inner (inv ∙ rw there) ∙ rw then
+      pub plays-to-end : (q .ending ≡ 0 → ⊥) → PacketsRan b end n e p₀ r l₀ c₀ a (record { place = q; units = u + 1 }) l′ c′
+      plays-to-end h =
+          record {
+            run = phase-left playing-goes (play-step (entriesOf n e) b end) a u (playingOf p r l c) _ inv more (goes (p .ending) (p .why) here) (playingOf q r l′ c′) (s .step) (ends (q .ending) (q .why) h);
+            room = s .room;
+          }
 
-      pub skips-to-last : a ≤ x .units → Room n (p .live) (p .made) → PacketsRan b end n e p₀ r l₀ c₀ a (record { place = moved; units = x .units }) l c
-      skips-to-last h room = record { run = loop-out playing-goes (play-step (entriesOf n e) b end) a (x .units) (playingOf moved r l c) _ after h; room = room }
+      -- and over unknown packets after it
+      module _ (going : q .ending ≡ 0) (bound : ℕ) (inner : bound ≤ end) (x : Skipped) (skips : Skips b bound (q .at) (u + 1) a x) where
+        abbrev moved : PacketsPlace
+        moved = record { at = x .at; live = q .live; made = q .made; own = q .own; ending = q .ending; why = q .why }
 
-      pub skips-less : x .units < a → a - (x .units + 1) < a - u
-      skips-less more = omega (arith, skips .least)
+        pub plays-skipped : runFor playing-goes (play-step (entriesOf n e) b end) a (playingOf p₀ r l₀ c₀) ≡ spent (x .units) (runFor playing-goes (play-step (entriesOf n e) b end) (a - x .units) (playingOf moved r l′ c′))
+        plays-skipped =
+            let held : Holdings = holdingsOf (q .live) (pick (q .own) l′ r) (q .made) c′ in
+            let from : _≡_ {A = Playing} (playingOf q r l′ c′) (playing-at (q .at) held) = rw (is-going (q .ending) (q .why) going) in
+            let to : _≡_ {A = Playing} (playingOf moved r l′ c′) (playing-at (x .at) held) = rw (is-going (q .ending) (q .why) going) in
+            skips .run (entriesOf n e) end held _ inner (plays-on ∙ rw from) ∙ rw to
 
-      module _ (more : x .units < a) (q : PacketsPlace) (l′ c′ : List ℕ) (s : PacketStepped b end n e moved r l c q l′ c′) where
-        pub plays-on : runFor playing-goes (play-step (entriesOf n e) b end) a (playingOf p₀ r l₀ c₀) ≡ spent (x .units + 1) (runFor playing-goes (play-step (entriesOf n e) b end) (a - (x .units + 1)) (playingOf q r l′ c′))
-        plays-on = phase-on playing-goes (play-step (entriesOf n e) b end) a (x .units) (playingOf moved r l c) _ after more (goes (p .ending) (p .why) here) (playingOf q r l′ c′) (s .step)
+pub skips-less : (b : List ℕ) (bound at u a : ℕ) (x : Skipped) → u < a → Skips b bound at (u + 1) a x → a - x .units < a - u
+skips-less b bound at u a x more skips = omega (arith, skips .least, skips .room)
 
-        pub plays-to-end : (q .ending ≡ 0 → ⊥) → PacketsRan b end n e p₀ r l₀ c₀ a (record { place = q; units = x .units + 1 }) l′ c′
-        plays-to-end h =
-            record {
-              run = phase-left playing-goes (play-step (entriesOf n e) b end) a (x .units) (playingOf moved r l c) _ after more (goes (p .ending) (p .why) here) (playingOf q r l′ c′) (s .step) (ends (q .ending) (q .why) h);
-              room = s .room;
-            }
-
-pub ruleset playing-on = (plays-first, plays-no-more, skips-to-last, skips-less, plays-on, plays-to-end, needs)
+pub ruleset playing-on = (plays-first, plays-no-more, plays-on, plays-to-end, plays-skipped, skips-less, needs)

@@ -8,6 +8,7 @@ use phases::ending::GOING;
 use records::Records;
 use rooms::resources::Resources;
 use rules::Frame;
+use rules::Packet;
 use rules::Verdict;
 use stream::framing::frame_at;
 use stream::framing::packet_at;
@@ -79,6 +80,13 @@ fn place_after(at: usize, next: usize, end: usize, x: Changed) -> PacketsPlace
     }
 }
 
+// What a packet came to, and whether it is one that we do not know. That is a hint and nothing is said of it: more such packets are
+// likely to come.
+struct Taken {
+    changed: Changed,
+    unknown: bool,
+}
+
 // The packet that was framed at a place of the stream.
 fn take_packet(
     stream: &[u8],
@@ -91,15 +99,35 @@ fn take_packet(
     held: &mut Resources,
     records: &mut Records,
     p: PacketsPlace,
-) -> Changed
+) -> Taken
     requires { ⌜ (frame-of (drop at (now stream)) ≡ Whole op size) × Room n (p .live) (p .made) ⌝ }
-    ensures { λ x. ⌜ Changes (take-packet (entriesOf n (now (entries .entry))) (holdingsOf (p .live) (pick (p .own) (now (held .entry)) (now (rooms .entry))) (p .made) (now (records .entry))) (drop at (now (stream .entry)))) (now (rooms .entry)) x (now (held .exit)) (now (records .exit)) ⌝ }
+    ensures { λ x. ⌜ Changes (take-packet (entriesOf n (now (entries .entry))) (holdingsOf (p .live) (pick (p .own) (now (held .entry)) (now (rooms .entry))) (p .made) (now (records .entry))) (drop at (now (stream .entry)))) (now (rooms .entry)) (x .changed) (now (held .exit)) (now (records .exit)) ⌝ }
 {
     let packet = packet_at(stream, at, op, size);
     let own = p.own;
     let live = p.live;
     let made = p.made;
-    apply_packet(entries, n, rooms, held, own, live, records, made, packet)
+    match packet {
+        Packet::Unknown => Taken {
+            changed: Changed {
+                verdict: Verdict::Fine,
+                live,
+                made,
+                own,
+            },
+            unknown: true,
+        },
+        _ => Taken {
+            changed: apply_packet(entries, n, rooms, held, own, live, records, made, packet),
+            unknown: false,
+        },
+    }
+}
+
+// The place after a unit, and the hint of its packet.
+struct Stepped {
+    place: PacketsPlace,
+    unknown: bool,
 }
 
 // One unit: the packet at the place.
@@ -112,23 +140,29 @@ fn step_packet(
     held: &mut Resources,
     records: &mut Records,
     p: PacketsPlace,
-) -> PacketsPlace
+) -> Stepped
     requires { ⌜ Room n (p .live) (p .made) ⌝ }
-    ensures { λ r. ⌜ PacketStepped (now (stream .entry)) end n (now (entries .entry)) p (now (rooms .entry)) (now (held .entry)) (now (records .entry)) r (now (held .exit)) (now (records .exit)) ⌝ }
+    ensures { λ r. ⌜ PacketStepped (now (stream .entry)) end n (now (entries .entry)) p (now (rooms .entry)) (now (held .entry)) (now (records .entry)) (r .place) (now (held .exit)) (now (records .exit)) ⌝ }
 {
     let at = p.at;
     match frame_at(stream, at) {
-        Frame::Misframed(why) => PacketsPlace {
-            at,
-            live: p.live,
-            made: p.made,
-            own: p.own,
-            ending: BROKEN,
-            why: why.code,
+        Frame::Misframed(why) => Stepped {
+            place: PacketsPlace {
+                at,
+                live: p.live,
+                made: p.made,
+                own: p.own,
+                ending: BROKEN,
+                why: why.code,
+            },
+            unknown: false,
         },
         Frame::Whole(op, size) => {
-            let x = take_packet(stream, at, op, size, entries, n, rooms, held, records, p);
-            place_after(at, at + index(size), end, x)
+            let t = take_packet(stream, at, op, size, entries, n, rooms, held, records, p);
+            Stepped {
+                place: place_after(at, at + index(size), end, t.changed),
+                unknown: t.unknown,
+            }
         }
     }
 }
@@ -196,16 +230,16 @@ pub fn read_packets(
     let mut p = from;
     let mut units: u16 = 0;
     while units < allowance {
-        let s = skip_unknown(stream, bound, p.at, units, allowance);
-        p.at = s.at;
-        units = s.units;
-        if units >= allowance {
-            return PacketsRun { place: p, units };
-        }
-        p = step_packet(stream, end, entries, n, rooms, held, records, p);
+        let t = step_packet(stream, end, entries, n, rooms, held, records, p);
+        p = t.place;
         units += 1;
         if p.ending != GOING {
             return PacketsRun { place: p, units };
+        }
+        if t.unknown {
+            let s = skip_unknown(stream, bound, p.at, units, allowance);
+            p.at = s.at;
+            units = s.units;
         }
     }
     PacketsRun { place: p, units }

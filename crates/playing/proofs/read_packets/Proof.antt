@@ -27,29 +27,32 @@ inner-bound-requires c κs = search playing-on
 loop-holds : tie.Need-loop-holds Inv-loop μ-loop
 loop-holds c = (omega arith, search playing-on, search playing-on, search playing-on)
 
-skip-unknown-requires : tie.Need-skip-unknown-requires Inv-loop μ-loop
-skip-unknown-requires c κs = search playing-on
-
-returns : tie.Need-returns Inv-loop μ-loop
-returns c = search playing-on
-
 step-packet-requires : tie.Need-step-packet-requires Inv-loop μ-loop
 step-packet-requires c κs = search playing-on
 
 add-units : tie.Need-add-units Inv-loop μ-loop
 add-units c = omega arith
 
-returns-2 : tie.Need-returns-2 Inv-loop μ-loop
-returns-2 c = search playing-on
+returns : tie.Need-returns Inv-loop μ-loop
+returns c = search playing-on
+
+skip-unknown-requires : tie.Need-skip-unknown-requires Inv-loop μ-loop
+skip-unknown-requires c κs = search playing-on
 
 loop-less : tie.Need-loop-less Inv-loop μ-loop
 loop-less c = search playing-on
 
 loop-again : tie.Need-loop-again Inv-loop μ-loop
-loop-again c = (omega arith, search playing-on, search playing-on, search playing-on)
+loop-again c = (search playing-on, search playing-on, search playing-on, search playing-on)
 
-returns-3 : tie.Need-returns-3 Inv-loop μ-loop
-returns-3 c = search playing-on
+loop-less-2 : tie.Need-loop-less-2 Inv-loop μ-loop
+loop-less-2 c = search playing-on
+
+loop-again-2 : tie.Need-loop-again-2 Inv-loop μ-loop
+loop-again-2 c = (omega arith, search playing-on, search playing-on, search playing-on)
+
+returns-2 : tie.Need-returns-2 Inv-loop μ-loop
+returns-2 c = search playing-on
 
 pub read-packets-spec : {M : Type 1} → statement M
 read-packets-spec =
@@ -59,11 +62,12 @@ read-packets-spec =
     μ-loop
     inner-bound-requires
     loop-holds
-    skip-unknown-requires
-    returns
     step-packet-requires
     add-units
-    returns-2
+    returns
+    skip-unknown-requires
     loop-less
     loop-again
-    returns-3)
+    loop-less-2
+    loop-again-2
+    returns-2)
