@@ -169,11 +169,12 @@ module _ (b : List ℕ) (bound at u a : ℕ) where
   pub skips-none : u ≤ a → Skips b bound at u a (record { at = at; units = u })
   skips-none h = record { least = omega arith; room = h; run = λ es end h o le e. e }
 
-  module _ (here size v : ℕ) (before : Skips b bound at u a (record { at = here; units = v })) (passed : Passed b here bound size) (some : size ≡ 0 → ⊥) where
+  module _ (here room size v : ℕ) (before : Skips b bound at u a (record { at = here; units = v })) (upto : here + room ≡ bound) (passed : Passed b here room size)
+      (some : size ≡ 0 → ⊥) where
     skip-step : (es : List Entry) (end : ℕ) (h : Holdings) → bound ≤ end → playing-at (here + size) h ≡ play-step es b end (playing-at here h)
     unfolding play-step take-packet apply
     skip-step es end h le =
-        let below : here + size < bound = passed .before some in
+        let below : size < room = passed .within some in
         rw (passed .whole some, ← (passed .nothing some), lt-ltb (here + size) end (omega arith))
 
     pub skips-on : v < a → Skips b bound at u a (record { at = here + size; units = v + 1 })
@@ -184,13 +185,19 @@ module _ (b : List ℕ) (bound at u a : ℕ) where
           run = λ es end h o le e. phase-on playing-goes (play-step es b end) a v (playing-at here h) o (before .run es end h o le e) more refl (playing-at (here + size) h) (skip-step es end h le);
         }
 
-    pub skips-below : here + size < bound
-    skips-below = passed .before some
+    pub skips-within : size ≤ room
+    skips-within = let below : size < room = passed .within some in omega arith
+
+    pub skips-some : 0 < room - size
+    skips-some = let below : size < room = passed .within some in omega arith
+
+    pub skips-upto : here + size + (room - size) ≡ bound
+    skips-upto = let below : size < room = passed .within some in omega arith
 
     pub skips-fits : bound ≤ length b - 7 → length b < 2 ^ 64 → Fits w64 (here + size)
-    skips-fits h g = let below : here + size < bound = passed .before some in record { fits = omega arith }
+    skips-fits h g = let below : size < room = passed .within some in record { fits = omega arith }
 
-pub ruleset skipping = (skips-none, skips-on, skips-below, skips-fits, needs)
+pub ruleset skipping = (skips-none, skips-on, skips-within, skips-some, skips-upto, skips-fits, needs)
 
 -- ---- read_packets
 

@@ -199,12 +199,14 @@ fn skip_unknown(stream: &[u8], bound: usize, from: usize, spent: u16, allowance:
     if at >= bound {
         return Skipped { at, units };
     }
+    let mut room = bound - at;
     while units < allowance {
-        let size = unknown_size(stream, at, bound);
+        let size = unknown_size(stream, at, room);
         if size == 0 {
             return Skipped { at, units };
         }
         at += size;
+        room -= size;
         units += 1;
     }
     Skipped { at, units }

@@ -1,18 +1,18 @@
 -- The frame of a packet: what the framer asks for, and what a whole packet is known by. Assumes nothing.
 use mathlib.Core.Path.{_≡_, refl, sym, _∙_}
-use mathlib.Core.Bool.{Bool, true, false, not, _&&_, _||_}
+use mathlib.Core.Bool.{Bool, true, false, not, _&&_}
 use mathlib.Core.List.{List}
-use mathlib.Core.Logic.{_⊎_, inl, inr, ⊎-elim}
-use Prim.Native.Nat.{ℕ, _+_, _-_, _%_, _≤_, _<_}
+use mathlib.Core.Logic.{⊎-elim}
+use Prim.Native.Nat.{ℕ, _+_, _-_, _/_, _%_, _≤_, _<_}
 use native.Mathlib.Omega.{arith}
 use borrow.Author.Needs.{needs}
-use borrow.Author.Tests.{eq-eqb, ne-eqb, lt-ltb, le-ltb, ltb-true, ltb-false, eqb-true, not-false}
+use borrow.Author.Tests.{eq-eqb, ne-eqb, lt-ltb, le-ltb, ltb-false, eqb-true, not-false}
 use lib.Dec.{ltb, eqb}
 use lib.ListN.{length, take, drop, length-drop}
 use lib.Seq.{drop-drop, length-take-le}
 use Rattle.rows.specs.Keys.{same-or-not}
 use Rattle.fields.specs.Fields.{knowing, known-none, says-nothing}
-use Rattle.rules.specs.Numbers.{bad-packet, create-buffer, copy-buffer}
+use Rattle.rules.specs.Numbers.{bad-packet}
 use Rattle.laws.specs.Fine.{all-kept}
 use Rattle.rules.specs.Judging.{refusal, rule, _▹_}
 use Rattle.rules.specs.Layouts.{word, packet-header-size}
@@ -197,56 +197,32 @@ module _ (m : List ℕ) (at op size : ℕ) (f : Frame) (said : f ≡ frame-of (d
 
 pub ruleset going-on = (is-whole, next-inside, next-nearer, needs)
 
--- ---- outside
-
--- an opcode below or above all those of the table
-unfoldable pub outside : ℕ → Bool
-outside op = ltb op create-buffer || ltb copy-buffer op
-
-module _ (op : ℕ) where
-  pub outside-below : op < create-buffer → true ≡ outside op
-  unfolding outside
-  outside-below h = rw (lt-ltb op create-buffer h)
-
-  pub outside-above : create-buffer ≤ op → ltb copy-buffer op ≡ outside op
-  unfolding outside
-  outside-above h = rw (le-ltb op create-buffer h)
-
-pub ruleset telling-outside = (outside-below, outside-above, needs)
-
 -- ---- unknown_size
 
--- a size that is not 0 is of a whole packet of an unknown opcode, before the bound
-pub record Passed (b : List ℕ) (at bound size : ℕ) : Type 0 where
+-- a size that is not 0 is of a whole packet of an unknown opcode, smaller than the room
+pub record Passed (b : List ℕ) (at room size : ℕ) : Type 0 where
   pub whole : (size ≡ 0 → ⊥) → frame-of (drop at b) ≡ Whole (word b at) size
   pub nothing : (size ≡ 0 → ⊥) → Unknown ≡ packet-of (word b at) (take size (drop at b))
-  pub before : (size ≡ 0 → ⊥) → at + size < bound
+  pub within : (size ≡ 0 → ⊥) → size < room
 
-module _ (b : List ℕ) (at bound : ℕ) where
-  pub passes-none : Passed b at bound 0
-  passes-none = record { whole = λ n. absurd (n refl); nothing = λ n. absurd (n refl); before = λ n. absurd (n refl) }
+module _ (b : List ℕ) (at room : ℕ) where
+  pub passes-none : Passed b at room 0
+  passes-none = record { whole = λ n. absurd (n refl); nothing = λ n. absurd (n refl); within = λ n. absurd (n refl) }
 
-  module _ (here : at < bound) (inside : bound ≤ length b - 7) (op size room : ℕ) (po : op ≡ word b at) (ps : size ≡ word b (at + 4)) (same : room ≡ size)
-      (above : room < bound - at) (head : packet-header-size ≤ room) (fours : size % 4 ≡ 0) where
-    passes-other : (op < create-buffer) ⊎ (copy-buffer < op) → Passed b at bound room
-    passes-other other =
-        let n : (k : ℕ) → create-buffer ≤ k → k ≤ copy-buffer → op ≡ k → ⊥ = λ k l m e. ⊎-elim (λ o. omega arith) (λ o. omega arith) other in
-        let right : false ≡ wrong-size op size = unknown-right op size (known-none op (n _ (omega arith) (omega arith)) (n _ (omega arith) (omega arith)) (n _ (omega arith) (omega arith)) (n _ (omega arith) (omega arith)) (n _ (omega arith) (omega arith))) in
-        let by : Whole op size ≡ frame-by (length b - at) op size = whole (length b - at) op size room same (omega arith) head fours false right refl in
+  module _ (some : 0 < room) (inside : at + room ≤ length b - 7) (op size long : ℕ) (po : op ≡ word b at) (other : op / 8 ≡ 32 → ⊥) (ps : size ≡ word b (at + 4))
+      (same : long ≡ size) (below : long < room) (head : packet-header-size ≤ long) (fours : size % 4 ≡ 0) where
+    not-that : (k : ℕ) → k / 8 ≡ 32 → op ≡ k → ⊥
+    not-that k h e = other (rw e h)
+
+    pub passes : Passed b at room long
+    passes =
+        let right : false ≡ wrong-size op size = unknown-right op size (known-none op (not-that _ refl) (not-that _ refl) (not-that _ refl) (not-that _ refl) (not-that _ refl)) in
+        let by : Whole op size ≡ frame-by (length b - at) op size = whole (length b - at) op size long same (omega arith) head fours false right refl in
         let is : Whole op size ≡ frame-of (drop at b) = frame-read b at (omega arith) op size (Whole op size) (omega arith) po ps by in
         record {
           whole = λ _. sym is ∙ rw (po, same);
-          nothing = λ _. rw (← po) (says-nothing op (n _ (omega arith) (omega arith)) (n _ (omega arith) (omega arith)) (n _ (omega arith) (omega arith)) (n _ (omega arith) (omega arith)) (n _ (omega arith) (omega arith)) (take room (drop at b)));
-          before = λ _. omega arith;
+          nothing = λ _. rw (← po) (says-nothing op (not-that _ refl) (not-that _ refl) (not-that _ refl) (not-that _ refl) (not-that _ refl) (take long (drop at b)));
+          within = λ _. below;
         }
-
-    pub passes : (t : Bool) → t ≡ outside op → not t ≡ false → Passed b at bound room
-    unfolding outside
-    passes t e g = passes-other (by-test (ltb op create-buffer) (ltb copy-buffer op) refl refl (sym (not-false t g) ∙ e))
-      where
-        by-test : (x y : Bool) → ltb op create-buffer ≡ x → ltb copy-buffer op ≡ y → true ≡ x || y → (op < create-buffer) ⊎ (copy-buffer < op)
-        by-test true y p q h = inl (ltb-true _ _ p)
-        by-test false true p q h = inr (ltb-true _ _ q)
-        by-test false false p q h = let z : _≡_ {A = ℕ} 0 1 = cc in absurd (omega arith)
 
 pub ruleset passing = (passes-none, passes, needs)

@@ -4,7 +4,7 @@ ghost use mathlib.Core.Path.{_≡_};
 ghost use Prim.Native.Nat.{_+_, _-_, _≤_, _<_};
 ghost use lib.ListN.{length, take, drop};
 ghost use Rattle.rules.specs.Stream.{wrong-size, frame-of, packet-of};
-ghost use Rattle.stream.specs.Framing.{frame-by, outside, Passed};
+ghost use Rattle.stream.specs.Framing.{frame-by, Passed};
 ghost use Rattle.rules.specs.declared.Frame.the-variants.{Whole};
 use fields::packet_from;
 use rules::Frame;
@@ -79,39 +79,29 @@ pub fn frame_at(stream: &[u8], at: usize) -> Frame
     frame_by(left, op, size)
 }
 
-// Whether an opcode is below or above all that we know.
-fn outside(op: u32) -> bool
-    ensures { λ r. ⌜ r ≡ outside op ⌝ }
-{
-    if op < CREATE_BUFFER {
-        return true;
-    }
-    op > COPY_BUFFER
-}
-
-// The size of a packet that is framed, is none that we know and ends before a bound; 0 of any other, and of some whose opcode is
-// between those that we know. For a loop that goes over such packets: the header is known to be there, and one test of the size
-// is enough for this packet and for the header of the next.
-pub fn unknown_size(stream: &[u8], at: usize, bound: usize) -> usize
-    requires { ⌜ (at < bound) × (bound ≤ length (now stream) - 7) ⌝ }
-    ensures { λ r. ⌜ Passed (now (stream .entry)) at bound r ⌝ }
+// The size of a packet that is framed, is none that we know and is smaller than the room; 0 of any other, and of those whose opcode
+// is among the eight that have all that we know. For a loop that goes over such packets: the header is known to be there, and one
+// test of the size is enough for this packet and for the header of the next.
+pub fn unknown_size(stream: &[u8], at: usize, room: usize) -> usize
+    requires { ⌜ (0 < room) × (at + room ≤ length (now stream) - 7) ⌝ }
+    ensures { λ r. ⌜ Passed (now (stream .entry)) at room r ⌝ }
 {
     let op = u32_at(stream, at);
-    if !outside(op) {
+    if op / 8 == CREATE_BUFFER / 8 {
         return 0;
     }
     let size = u32_at(stream, at + 4);
-    let room = index(size);
-    if room >= bound - at {
+    let long = index(size);
+    if long >= room {
         return 0;
     }
-    if room < PACKET_HEADER_SIZE {
+    if long < PACKET_HEADER_SIZE {
         return 0;
     }
     if size % 4 != 0 {
         return 0;
     }
-    room
+    long
 }
 
 // A packet's own part of the stream.

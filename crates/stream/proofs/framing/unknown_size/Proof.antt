@@ -7,9 +7,6 @@ use Rattle.stream.proofs.framing.unknown_size.Tie as tie
 u32-at-requires : tie.Need-u32-at-requires
 u32-at-requires c κs = search needs
 
-outside-requires : tie.Need-outside-requires
-outside-requires c κs = search needs
-
 returns : tie.Need-returns
 returns c = search passing
 
@@ -21,9 +18,6 @@ u32-at-requires-2 c κs = search needs
 
 index-requires : tie.Need-index-requires
 index-requires c κs = search needs
-
-sub-if2 : tie.Need-sub-if2
-sub-if2 c = search needs
 
 returns-2 : tie.Need-returns-2
 returns-2 c = search passing
@@ -42,12 +36,10 @@ unknown-size-spec =
     tie.close
     (tie.spec
     u32-at-requires
-    outside-requires
     returns
     add-u32-at
     u32-at-requires-2
     index-requires
-    sub-if2
     returns-2
     returns-3
     returns-4
