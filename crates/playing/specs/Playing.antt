@@ -17,6 +17,7 @@ use Rattle.rules.specs.Packets.{Holdings, Outcome, apply, take-packet}
 use Rattle.rules.specs.Steps.{next-place}
 use Rattle.rules.specs.declared.Entry.{Entry}
 use Rattle.rules.specs.declared.Packet.{Packet}
+use Rattle.rules.specs.declared.Packet.the-variants.{Unknown}
 use Rattle.rules.specs.declared.Frame.{Frame}
 use Rattle.rules.specs.declared.Frame.the-variants.{Whole, Misframed}
 use Rattle.rules.specs.declared.Refusal.{Refusal}
@@ -24,14 +25,15 @@ use Rattle.rules.specs.declared.Verdict.{Verdict}
 use Rattle.rules.specs.declared.Verdict.the-variants.{Fine, Broken as BrokenRule}
 use Rattle.entry_rows.specs.Views.{entriesOf}
 use Rattle.rooms.specs.Views.{holdingsOf}
-use Rattle.stream.specs.Framing.{Sound, frame-sound}
+use Rattle.stream.specs.Framing.{Sound, frame-sound, Passed}
 use Rattle.ranges.specs.Views.{Room}
-use Rattle.packets.specs.Apply.{Changes}
+use Rattle.packets.specs.Apply.{Changes, unknown-applied}
 use Rattle.packets.specs.declared.apply.Changed.{Changed}
 use Rattle.phases.specs.Ending.{Ending, onward, ending-at, endingOf, is-going, is-done, is-broken, goes, ends, phase-on, phase-left}
 use Rattle.phases.specs.Ending.Ending.{Going, Done, Broken}
 use Rattle.playing.specs.declared.PacketsPlace.{PacketsPlace}
 use Rattle.playing.specs.declared.PacketsRun.{PacketsRun}
+use Rattle.playing.specs.declared.Skipped.{Skipped}
 
 pub record Playing : Type 0 where
   pub at : ℕ
@@ -100,7 +102,7 @@ module _ (b : List ℕ) (at op size : ℕ) (whole : frame-of (drop at b) ≡ Who
   unfolding take-packet
   takes-framed es h k r x l′ c′ read change = rw (whole, ← read) change
 
-pub ruleset taking-packet = (takes-framed, needs)
+pub ruleset taking-packet = (takes-framed, unknown-applied, needs)
 
 -- ---- step_packet
 
@@ -150,6 +152,53 @@ module _ (b : List ℕ) (end n : ℕ) (e : List ℕ) (p : PacketsPlace) (r l c :
 
 pub ruleset stepping-packet = (step-misframed, is-framed, next-fits, step-taken, needs)
 
+-- ---- skip_unknown
+
+abbrev pub playing-at : ℕ → Holdings → Playing
+playing-at at h = record { at = at; held = h; ending = Going }
+
+-- what was true of a run at the place and the units before is true of it at those after, whatever is held
+pub record Skips (b : List ℕ) (bound at u a : ℕ) (x : Skipped) : Type 0 where
+  pub least : u ≤ x .units
+  pub room : x .units ≤ a
+  pub run : (es : List Entry) (end : ℕ) (h : Holdings) (o : Out Playing) → bound ≤ end
+      → o ≡ spent u (runFor playing-goes (play-step es b end) (a - u) (playing-at at h))
+      → o ≡ spent (x .units) (runFor playing-goes (play-step es b end) (a - x .units) (playing-at (x .at) h))
+
+module _ (b : List ℕ) (bound at u a : ℕ) where
+  pub skips-none : u ≤ a → Skips b bound at u a (record { at = at; units = u })
+  skips-none h = record { least = omega arith; room = h; run = λ es end h o le e. e }
+
+  module _ (here room size v : ℕ) (before : Skips b bound at u a (record { at = here; units = v })) (upto : here + room ≡ bound) (passed : Passed b here room size)
+      (some : size ≡ 0 → ⊥) where
+    skip-step : (es : List Entry) (end : ℕ) (h : Holdings) → bound ≤ end → playing-at (here + size) h ≡ play-step es b end (playing-at here h)
+    unfolding play-step take-packet apply
+    skip-step es end h le =
+        let below : size < room = passed .within some in
+        rw (passed .whole some, ← (passed .nothing some), lt-ltb (here + size) end (omega arith))
+
+    pub skips-on : v < a → Skips b bound at u a (record { at = here + size; units = v + 1 })
+    skips-on more =
+        record {
+          least = omega (arith, before .least);
+          room = omega arith;
+          run = λ es end h o le e. phase-on playing-goes (play-step es b end) a v (playing-at here h) o (before .run es end h o le e) more refl (playing-at (here + size) h) (skip-step es end h le);
+        }
+
+    pub skips-within : size ≤ room
+    skips-within = let below : size < room = passed .within some in omega arith
+
+    pub skips-some : 0 < room - size
+    skips-some = let below : size < room = passed .within some in omega arith
+
+    pub skips-upto : here + size + (room - size) ≡ bound
+    skips-upto = let below : size < room = passed .within some in omega arith
+
+    pub skips-fits : bound ≤ length b - 7 → length b < 2 ^ 64 → Fits w64 (here + size)
+    skips-fits h g = let below : size < room = passed .within some in record { fits = omega arith }
+
+pub ruleset skipping = (skips-none, skips-on, skips-within, skips-some, skips-upto, skips-fits, needs)
+
 -- ---- read_packets
 
 module _ (b : List ℕ) (end n : ℕ) (e : List ℕ) (p₀ : PacketsPlace) (r l₀ c₀ : List ℕ) (a : ℕ) where
@@ -172,4 +221,19 @@ module _ (b : List ℕ) (end n : ℕ) (e : List ℕ) (p₀ : PacketsPlace) (r l�
             room = s .room;
           }
 
-pub ruleset playing-on = (plays-first, plays-no-more, plays-on, plays-to-end, needs)
+      -- and over unknown packets after it
+      module _ (going : q .ending ≡ 0) (bound : ℕ) (inner : bound ≤ end) (x : Skipped) (skips : Skips b bound (q .at) (u + 1) a x) where
+        abbrev moved : PacketsPlace
+        moved = record { at = x .at; live = q .live; made = q .made; own = q .own; ending = q .ending; why = q .why }
+
+        pub plays-skipped : runFor playing-goes (play-step (entriesOf n e) b end) a (playingOf p₀ r l₀ c₀) ≡ spent (x .units) (runFor playing-goes (play-step (entriesOf n e) b end) (a - x .units) (playingOf moved r l′ c′))
+        plays-skipped =
+            let held : Holdings = holdingsOf (q .live) (pick (q .own) l′ r) (q .made) c′ in
+            let from : _≡_ {A = Playing} (playingOf q r l′ c′) (playing-at (q .at) held) = rw (is-going (q .ending) (q .why) going) in
+            let to : _≡_ {A = Playing} (playingOf moved r l′ c′) (playing-at (x .at) held) = rw (is-going (q .ending) (q .why) going) in
+            skips .run (entriesOf n e) end held _ inner (plays-on ∙ rw from) ∙ rw to
+
+pub skips-less : (b : List ℕ) (bound at u a : ℕ) (x : Skipped) → u < a → Skips b bound at (u + 1) a x → a - x .units < a - u
+skips-less b bound at u a x more skips = omega (arith, skips .least, skips .room)
+
+pub ruleset playing-on = (plays-first, plays-no-more, plays-on, plays-to-end, plays-skipped, skips-less, needs)

@@ -8,13 +8,15 @@ use phases::ending::GOING;
 use records::Records;
 use rooms::resources::Resources;
 use rules::Frame;
+use rules::Packet;
 use rules::Verdict;
 use stream::framing::frame_at;
 use stream::framing::packet_at;
+use stream::framing::unknown_size;
 use widths::index;
 ghost use mathlib.Core.Path.{_≡_};
-ghost use Prim.Native.Nat.{_+_, _≤_, _^_, _<_};
-ghost use lib.ListN.{drop};
+ghost use Prim.Native.Nat.{_+_, _-_, _≤_, _^_, _<_};
+ghost use lib.ListN.{length, drop};
 ghost use Rattle.machine.specs.Machine.{pick};
 ghost use Rattle.rules.specs.Stream.{frame-of};
 ghost use Rattle.rules.specs.Packets.{take-packet};
@@ -23,7 +25,7 @@ ghost use Rattle.entry_rows.specs.Views.{entriesOf};
 ghost use Rattle.rooms.specs.Views.{holdingsOf};
 ghost use Rattle.ranges.specs.Views.{Room};
 ghost use Rattle.packets.specs.Apply.{Changes};
-ghost use Rattle.playing.specs.Playing.{placeAfter, PacketStepped, PacketsRan};
+ghost use Rattle.playing.specs.Playing.{placeAfter, PacketStepped, Skips, PacketsRan};
 
 // Where the packets stand: the place in the stream, how many resources and records are held, whether the resources are in the
 // submission's own table, how the phase stands, and the number of a rule that is broken, 0 otherwise.
@@ -78,6 +80,13 @@ fn place_after(at: usize, next: usize, end: usize, x: Changed) -> PacketsPlace
     }
 }
 
+// What a packet came to, and whether it is one that we do not know. That is a hint and nothing is said of it: more such packets are
+// likely to come.
+struct Taken {
+    changed: Changed,
+    unknown: bool,
+}
+
 // The packet that was framed at a place of the stream.
 fn take_packet(
     stream: &[u8],
@@ -90,15 +99,35 @@ fn take_packet(
     held: &mut Resources,
     records: &mut Records,
     p: PacketsPlace,
-) -> Changed
+) -> Taken
     requires { ⌜ (frame-of (drop at (now stream)) ≡ Whole op size) × Room n (p .live) (p .made) ⌝ }
-    ensures { λ x. ⌜ Changes (take-packet (entriesOf n (now (entries .entry))) (holdingsOf (p .live) (pick (p .own) (now (held .entry)) (now (rooms .entry))) (p .made) (now (records .entry))) (drop at (now (stream .entry)))) (now (rooms .entry)) x (now (held .exit)) (now (records .exit)) ⌝ }
+    ensures { λ x. ⌜ Changes (take-packet (entriesOf n (now (entries .entry))) (holdingsOf (p .live) (pick (p .own) (now (held .entry)) (now (rooms .entry))) (p .made) (now (records .entry))) (drop at (now (stream .entry)))) (now (rooms .entry)) (x .changed) (now (held .exit)) (now (records .exit)) ⌝ }
 {
     let packet = packet_at(stream, at, op, size);
     let own = p.own;
     let live = p.live;
     let made = p.made;
-    apply_packet(entries, n, rooms, held, own, live, records, made, packet)
+    match packet {
+        Packet::Unknown => Taken {
+            changed: Changed {
+                verdict: Verdict::Fine,
+                live,
+                made,
+                own,
+            },
+            unknown: true,
+        },
+        _ => Taken {
+            changed: apply_packet(entries, n, rooms, held, own, live, records, made, packet),
+            unknown: false,
+        },
+    }
+}
+
+// The place after a unit, and the hint of its packet.
+struct Stepped {
+    place: PacketsPlace,
+    unknown: bool,
 }
 
 // One unit: the packet at the place.
@@ -111,25 +140,76 @@ fn step_packet(
     held: &mut Resources,
     records: &mut Records,
     p: PacketsPlace,
-) -> PacketsPlace
+) -> Stepped
     requires { ⌜ Room n (p .live) (p .made) ⌝ }
-    ensures { λ r. ⌜ PacketStepped (now (stream .entry)) end n (now (entries .entry)) p (now (rooms .entry)) (now (held .entry)) (now (records .entry)) r (now (held .exit)) (now (records .exit)) ⌝ }
+    ensures { λ r. ⌜ PacketStepped (now (stream .entry)) end n (now (entries .entry)) p (now (rooms .entry)) (now (held .entry)) (now (records .entry)) (r .place) (now (held .exit)) (now (records .exit)) ⌝ }
 {
     let at = p.at;
     match frame_at(stream, at) {
-        Frame::Misframed(why) => PacketsPlace {
-            at,
-            live: p.live,
-            made: p.made,
-            own: p.own,
-            ending: BROKEN,
-            why: why.code,
+        Frame::Misframed(why) => Stepped {
+            place: PacketsPlace {
+                at,
+                live: p.live,
+                made: p.made,
+                own: p.own,
+                ending: BROKEN,
+                why: why.code,
+            },
+            unknown: false,
         },
         Frame::Whole(op, size) => {
-            let x = take_packet(stream, at, op, size, entries, n, rooms, held, records, p);
-            place_after(at, at + index(size), end, x)
+            let t = take_packet(stream, at, op, size, entries, n, rooms, held, records, p);
+            Stepped {
+                place: place_after(at, at + index(size), end, t.changed),
+                unknown: t.unknown,
+            }
         }
     }
+}
+
+// A place of the stream that packets before it begin below the end and have their header.
+fn inner_bound(stream: &[u8], end: usize) -> usize
+    ensures { λ r. ⌜ (r ≤ length (now (stream .entry)) - 7) × (r ≤ end) ⌝ }
+{
+    let long = stream.len();
+    if long < 7 {
+        return 0;
+    }
+    let last = long - 7;
+    if end < last {
+        return end;
+    }
+    last
+}
+
+// Where a row of unknown packets was left, and the units spent by then.
+struct Skipped {
+    at: usize,
+    units: u16,
+}
+
+// Goes over packets that we do not know, a unit each, up to the first that a step has to look at. It is a loop of its own so that
+// nothing of what other packets need is kept in it.
+fn skip_unknown(stream: &[u8], bound: usize, from: usize, spent: u16, allowance: u16) -> Skipped
+    requires { ⌜ (bound ≤ length (now stream) - 7) × (spent ≤ allowance) ⌝ }
+    ensures { λ r. ⌜ Skips (now (stream .entry)) bound from spent allowance r ⌝ }
+{
+    let mut at = from;
+    let mut units = spent;
+    if at >= bound {
+        return Skipped { at, units };
+    }
+    let mut room = bound - at;
+    while units < allowance {
+        let size = unknown_size(stream, at, room);
+        if size == 0 {
+            return Skipped { at, units };
+        }
+        at += size;
+        room -= size;
+        units += 1;
+    }
+    Skipped { at, units }
 }
 
 // Packets, one a unit, until the allowance is spent, the stream is done or a rule is broken. `rooms` is the device's table of
@@ -148,13 +228,20 @@ pub fn read_packets(
     requires { ⌜ Room n (from .live) (from .made) × (from .ending ≡ 0) ⌝ }
     ensures { λ r. ⌜ PacketsRan (now (stream .entry)) end n (now (entries .entry)) from (now (rooms .entry)) (now (held .entry)) (now (records .entry)) allowance r (now (held .exit)) (now (records .exit)) ⌝ }
 {
+    let bound = inner_bound(stream, end);
     let mut p = from;
     let mut units: u16 = 0;
     while units < allowance {
-        p = step_packet(stream, end, entries, n, rooms, held, records, p);
+        let t = step_packet(stream, end, entries, n, rooms, held, records, p);
+        p = t.place;
         units += 1;
         if p.ending != GOING {
             return PacketsRun { place: p, units };
+        }
+        if t.unknown {
+            let s = skip_unknown(stream, bound, p.at, units, allowance);
+            p.at = s.at;
+            units = s.units;
         }
     }
     PacketsRun { place: p, units }

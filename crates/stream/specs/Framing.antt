@@ -3,7 +3,7 @@ use mathlib.Core.Path.{_≡_, refl, sym, _∙_}
 use mathlib.Core.Bool.{Bool, true, false, not, _&&_}
 use mathlib.Core.List.{List}
 use mathlib.Core.Logic.{⊎-elim}
-use Prim.Native.Nat.{ℕ, _+_, _-_, _%_, _≤_, _<_}
+use Prim.Native.Nat.{ℕ, _+_, _-_, _/_, _%_, _≤_, _<_}
 use native.Mathlib.Omega.{arith}
 use borrow.Author.Needs.{needs}
 use borrow.Author.Tests.{eq-eqb, ne-eqb, lt-ltb, le-ltb, ltb-false, eqb-true, not-false}
@@ -11,7 +11,7 @@ use lib.Dec.{ltb, eqb}
 use lib.ListN.{length, take, drop, length-drop}
 use lib.Seq.{drop-drop, length-take-le}
 use Rattle.rows.specs.Keys.{same-or-not}
-use Rattle.fields.specs.Fields.{knowing}
+use Rattle.fields.specs.Fields.{knowing, known-none, says-nothing}
 use Rattle.rules.specs.Numbers.{bad-packet}
 use Rattle.laws.specs.Fine.{all-kept}
 use Rattle.rules.specs.Judging.{refusal, rule, _▹_}
@@ -20,6 +20,7 @@ use Rattle.rules.specs.Stream.{known-size, wrong-size, frame-rules, framed, fra
 use Rattle.rules.specs.declared.Verdict.{Verdict}
 use Rattle.rules.specs.declared.Verdict.the-variants.{Fine, Broken}
 use Rattle.rules.specs.declared.Packet.{Packet}
+use Rattle.rules.specs.declared.Packet.the-variants.{Unknown}
 use Rattle.rules.specs.declared.Frame.{Frame}
 use Rattle.rules.specs.declared.Frame.the-variants.{Whole, Misframed}
 
@@ -195,3 +196,33 @@ module _ (m : List ℕ) (at op size : ℕ) (f : Frame) (said : f ≡ frame-of (d
         omega arith
 
 pub ruleset going-on = (is-whole, next-inside, next-nearer, needs)
+
+-- ---- unknown_size
+
+-- a size that is not 0 is of a whole packet of an unknown opcode, smaller than the room
+pub record Passed (b : List ℕ) (at room size : ℕ) : Type 0 where
+  pub whole : (size ≡ 0 → ⊥) → frame-of (drop at b) ≡ Whole (word b at) size
+  pub nothing : (size ≡ 0 → ⊥) → Unknown ≡ packet-of (word b at) (take size (drop at b))
+  pub within : (size ≡ 0 → ⊥) → size < room
+
+module _ (b : List ℕ) (at room : ℕ) where
+  pub passes-none : Passed b at room 0
+  passes-none = record { whole = λ n. absurd (n refl); nothing = λ n. absurd (n refl); within = λ n. absurd (n refl) }
+
+  module _ (some : 0 < room) (inside : at + room ≤ length b - 7) (op size long : ℕ) (po : op ≡ word b at) (other : op / 8 ≡ 32 → ⊥) (ps : size ≡ word b (at + 4))
+      (same : long ≡ size) (below : long < room) (head : packet-header-size ≤ long) (fours : size % 4 ≡ 0) where
+    not-that : (k : ℕ) → k / 8 ≡ 32 → op ≡ k → ⊥
+    not-that k h e = other (rw e h)
+
+    pub passes : Passed b at room long
+    passes =
+        let right : false ≡ wrong-size op size = unknown-right op size (known-none op (not-that _ refl) (not-that _ refl) (not-that _ refl) (not-that _ refl) (not-that _ refl)) in
+        let by : Whole op size ≡ frame-by (length b - at) op size = whole (length b - at) op size long same (omega arith) head fours false right refl in
+        let is : Whole op size ≡ frame-of (drop at b) = frame-read b at (omega arith) op size (Whole op size) (omega arith) po ps by in
+        record {
+          whole = λ _. sym is ∙ rw (po, same);
+          nothing = λ _. rw (← po) (says-nothing op (not-that _ refl) (not-that _ refl) (not-that _ refl) (not-that _ refl) (not-that _ refl) (take long (drop at b)));
+          within = λ _. below;
+        }
+
+pub ruleset passing = (passes-none, passes, needs)

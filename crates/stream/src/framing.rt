@@ -1,10 +1,10 @@
 // Where a packet of the stream ends, judged from its first eight bytes, and its own part of the stream.
 // A reader goes on by the frame's size until no byte is left.
 ghost use mathlib.Core.Path.{_≡_};
-ghost use Prim.Native.Nat.{_+_, _≤_};
+ghost use Prim.Native.Nat.{_+_, _-_, _≤_, _<_};
 ghost use lib.ListN.{length, take, drop};
 ghost use Rattle.rules.specs.Stream.{wrong-size, frame-of, packet-of};
-ghost use Rattle.stream.specs.Framing.{frame-by};
+ghost use Rattle.stream.specs.Framing.{frame-by, Passed};
 ghost use Rattle.rules.specs.declared.Frame.the-variants.{Whole};
 use fields::packet_from;
 use rules::Frame;
@@ -77,6 +77,31 @@ pub fn frame_at(stream: &[u8], at: usize) -> Frame
     let op = u32_at(stream, at);
     let size = u32_at(stream, at + 4);
     frame_by(left, op, size)
+}
+
+// The size of a packet that is framed, is none that we know and is smaller than the room; 0 of any other, and of those whose opcode
+// is among the eight that have all that we know. For a loop that goes over such packets: the header is known to be there, and one
+// test of the size is enough for this packet and for the header of the next.
+pub fn unknown_size(stream: &[u8], at: usize, room: usize) -> usize
+    requires { ⌜ (0 < room) × (at + room ≤ length (now stream) - 7) ⌝ }
+    ensures { λ r. ⌜ Passed (now (stream .entry)) at room r ⌝ }
+{
+    let op = u32_at(stream, at);
+    if op / 8 == CREATE_BUFFER / 8 {
+        return 0;
+    }
+    let size = u32_at(stream, at + 4);
+    let long = index(size);
+    if long >= room {
+        return 0;
+    }
+    if long < PACKET_HEADER_SIZE {
+        return 0;
+    }
+    if size % 4 != 0 {
+        return 0;
+    }
+    long
 }
 
 // A packet's own part of the stream.

@@ -11,7 +11,7 @@ use Rattle.playing.proofs.read_packets.Statement.{statement}
 use Rattle.playing.proofs.read_packets.Tie as tie
 
 abbrev Inv-loop : tie.InvT-loop
-Inv-loop stream end entries n rooms held₀ records₀ allowance p₀ units₀ held records p units =
+Inv-loop stream end entries n rooms held₀ records₀ allowance bound p₀ units₀ held records p units =
     (units ≤ allowance)
     × (p .ending ≡ 0)
     × Room n (p .live) (p .made)
@@ -19,7 +19,10 @@ Inv-loop stream end entries n rooms held₀ records₀ allowance p₀ units₀ h
     ≡ spent units (runFor playing-goes (play-step (entriesOf n entries) stream end) (allowance - units) (playingOf p rooms held records)))
 
 abbrev μ-loop : tie.MeasureT-loop
-μ-loop stream end entries n rooms held₀ records₀ allowance p₀ units₀ held records p units = allowance - units
+μ-loop stream end entries n rooms held₀ records₀ allowance bound p₀ units₀ held records p units = allowance - units
+
+inner-bound-requires : tie.Need-inner-bound-requires Inv-loop μ-loop
+inner-bound-requires c κs = search playing-on
 
 loop-holds : tie.Need-loop-holds Inv-loop μ-loop
 loop-holds c = (omega arith, search playing-on, search playing-on, search playing-on)
@@ -33,11 +36,20 @@ add-units c = omega arith
 returns : tie.Need-returns Inv-loop μ-loop
 returns c = search playing-on
 
+skip-unknown-requires : tie.Need-skip-unknown-requires Inv-loop μ-loop
+skip-unknown-requires c κs = search playing-on
+
 loop-less : tie.Need-loop-less Inv-loop μ-loop
-loop-less c = omega arith
+loop-less c = search playing-on
 
 loop-again : tie.Need-loop-again Inv-loop μ-loop
-loop-again c = (omega arith, search playing-on, search playing-on, search playing-on)
+loop-again c = (search playing-on, search playing-on, search playing-on, search playing-on)
+
+loop-less-2 : tie.Need-loop-less-2 Inv-loop μ-loop
+loop-less-2 c = search playing-on
+
+loop-again-2 : tie.Need-loop-again-2 Inv-loop μ-loop
+loop-again-2 c = (omega arith, search playing-on, search playing-on, search playing-on)
 
 returns-2 : tie.Need-returns-2 Inv-loop μ-loop
 returns-2 c = search playing-on
@@ -48,10 +60,14 @@ read-packets-spec =
     (tie.spec
     Inv-loop
     μ-loop
+    inner-bound-requires
     loop-holds
     step-packet-requires
     add-units
     returns
+    skip-unknown-requires
     loop-less
     loop-again
+    loop-less-2
+    loop-again-2
     returns-2)
