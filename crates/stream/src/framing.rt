@@ -52,7 +52,7 @@ fn frame_by(left: usize, op: u32, size: u32) -> Frame
     if room < PACKET_HEADER_SIZE {
         return Frame::Misframed(Refusal { code: BAD_PACKET });
     }
-    if size % 4 != 0 {
+    if size % 4 != 0 { // sizes are multiples of 4
         return Frame::Misframed(Refusal { code: BAD_PACKET });
     }
     if wrong_size(op, size) {
