@@ -20,7 +20,7 @@ use Rattle.registers.specs.Map.{shown}
 use Rattle.registers.specs.declared.Shown.{Shown}
 use Rattle.registers.specs.declared.Shown.the-variants.{Value, NoRegister as NoShown}
 use Rattle.rows.specs.Rows.{rowAt, table, tab}
-use Rattle.rooms.specs.Views.{recordOf, recordsOf}
+use Rattle.kept_resources.specs.Views.{recordOf, recordsOf}
 use Rattle.run_state.specs.Views.{countIn, setIn, registersIn, tagIn, worldIn, stateIn, sideIn}
 use Rattle.run_state.specs.Reading.{none-live}
 use Rattle.run_state.specs.Stages.{waits-in, outs-in}

@@ -1,7 +1,7 @@
 // The calls on a device's words that are lent no guest memory: make, read, record (write is register_writes'). None asks anything of its
 // caller; a refused one gives its number and zeros.
-use records::Records;
-use records::record_row;
+use kept_records::Records;
+use kept_records::record_row;
 use registers::Shown;
 use rules::Record;
 use rules::numbers::DONE;

@@ -1,8 +1,8 @@
 // The calls on a device's words and tables that are lent guest memory: run and answer. Another memory than the device was made for is
 // refused before anything else; a refused call writes no word, no row and no byte.
-use entry_rows::Entries;
-use records::Records;
-use rooms::resources::Resources;
+use kept_entries::Entries;
+use kept_records::Records;
+use kept_resources::resources::Resources;
 use rules::Ended;
 use rules::Refusal;
 use rules::numbers::DONE;

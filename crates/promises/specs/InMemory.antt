@@ -35,8 +35,8 @@ use Rattle.rules.specs.declared.Verdict.{Verdict}
 use Rattle.rules.specs.declared.Verdict.the-variants.{Fine, Broken}
 use Rattle.rules.specs.declared.Opening.{Opening}
 use Rattle.rules.specs.declared.Opening.the-variants.{BadRing, NoWork, Refused, Started}
-use Rattle.packets.specs.Held.{Every, every-none, every-pushed, Within, Inside}
-use Rattle.laws.specs.Fine.{fine-first, fine-later, kept-rule}
+use Rattle.packet_apply.specs.Held.{Every, every-none, every-pushed, Within, Inside}
+use Rattle.rule_laws.specs.Fine.{fine-first, fine-later, kept-rule}
 use Rattle.promises.specs.Sound.{SoundState, waiting-ranges-inside}
 use Rattle.promises.specs.Memory.{unit-writes-by-settling, touched-length}
 use Rattle.promises.specs.Writes.{Written, write-keeps-or-drops}

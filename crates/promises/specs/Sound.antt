@@ -33,9 +33,9 @@ use Rattle.rules.specs.declared.Verdict.the-variants.{Fine, Broken}
 use Rattle.rules.specs.declared.Opening.{Opening}
 use Rattle.rules.specs.declared.Opening.the-variants.{BadRing, NoWork, Refused, Started}
 use Rattle.rows.specs.Keys.{Once, once-nil, once-pushed}
-use Rattle.packets.specs.Effects.{KeepsBytes}
-use Rattle.packets.specs.Held.{Every, Inside, SoundResources, none-sound, Sound, first-sound, take-sound}
-use Rattle.laws.specs.Fine.{fine-later, kept-rule, both-left}
+use Rattle.packet_apply.specs.Effects.{KeepsBytes}
+use Rattle.packet_apply.specs.Held.{Every, Inside, SoundResources, none-sound, Sound, first-sound, take-sound}
+use Rattle.rule_laws.specs.Fine.{fine-later, kept-rule, both-left}
 
 -- ---- the entries of a table: at most 64, each id once
 

@@ -35,7 +35,7 @@ use Rattle.rules.specs.declared.Verdict.{Verdict}
 use Rattle.rules.specs.declared.Verdict.the-variants.{Fine, Broken}
 use Rattle.rules.specs.declared.Opening.{Opening}
 use Rattle.rules.specs.declared.Opening.the-variants.{BadRing, NoWork, Refused, Started}
-use Rattle.laws.specs.Fine.{fine-first, fine-later, kept-rule, kept-only, both-left}
+use Rattle.rule_laws.specs.Fine.{fine-first, fine-later, kept-rule, kept-only, both-left}
 use Rattle.table_header.specs.Header.{Sized, fine-sized}
 use Rattle.stream_header.specs.Header.{stream-sound}
 use Rattle.promises.specs.Whole.{midst, Course, course-none, course-join, reading, after-table, entries-end, placed, after-stream, packets-end}

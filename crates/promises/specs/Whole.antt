@@ -15,8 +15,8 @@ use Rattle.rules.specs.Table.{Judged, entry-place, entry-rules, keep, in-reach,
 use Rattle.rules.specs.Stream.{frame-of, packet-of, size-of, before, cut, stream-bytes}
 use Rattle.rules.specs.Packets.{Holdings, at-first, apply, apply-frame, take-packet}
 use Rattle.rules.specs.Unsliced.{Reckoned, one-further, judge-packets}
-use Rattle.stream.specs.Framing.{Sound, frame-sound}
-use Rattle.stream.specs.Listing.{cut-none, cut-next}
+use Rattle.stream_packets.specs.Framing.{Sound, frame-sound}
+use Rattle.stream_packets.specs.Listing.{cut-none, cut-next}
 use Rattle.rules.specs.State.{Work, World, working}
 use Rattle.rules.specs.State.Work.{resting, entries, packets, waiting}
 use Rattle.rules.specs.Settle.{settled, settled-keeping}

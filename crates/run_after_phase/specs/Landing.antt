@@ -7,12 +7,12 @@ use lib.ListN.{length, getD, set}
 use Rattle.rules.specs.Numbers.{most}
 use Rattle.rules.specs.Judging.{refusal}
 use Rattle.rules.specs.State.{World}
-use Rattle.phases.specs.Ending.{Ending, endingOf, is-going, is-done, is-broken}
-use Rattle.phases.specs.Ending.Ending.{Going, Done, Broken}
-use Rattle.phases.specs.Entries.{readingOf}
-use Rattle.phases.specs.declared.entries.EntriesPlace.{EntriesPlace}
-use Rattle.playing.specs.Playing.{playingOf}
-use Rattle.playing.specs.declared.PacketsPlace.{PacketsPlace}
+use Rattle.run_entries.specs.Ending.{Ending, endingOf, is-going, is-done, is-broken}
+use Rattle.run_entries.specs.Ending.Ending.{Going, Done, Broken}
+use Rattle.run_entries.specs.Entries.{readingOf}
+use Rattle.run_entries.specs.declared.entries.EntriesPlace.{EntriesPlace}
+use Rattle.run_packets.specs.Playing.{playingOf}
+use Rattle.run_packets.specs.declared.PacketsPlace.{PacketsPlace}
 use Rattle.run_state.specs.Views.{flagOf, tagIn, jobIn, streamIn, openedIn, keptIn, worldIn, bareIn}
 use Rattle.run_state.specs.Reading.{flag-as, count-as}
 use Rattle.run_state.specs.Spelled.{spell}

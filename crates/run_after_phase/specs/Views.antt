@@ -14,12 +14,12 @@ use Rattle.rules.specs.declared.Job.{Job}
 use Rattle.rules.specs.declared.Stream.{Stream}
 use Rattle.rules.specs.declared.Opened.{Opened}
 use Rattle.rules.specs.declared.Verdict.the-variants.{Broken as BrokenRule}
-use Rattle.phases.specs.Ending.{Ending}
-use Rattle.phases.specs.Ending.Ending.{Going, Done, Broken}
-use Rattle.phases.specs.Entries.{Reading, readingOf}
-use Rattle.phases.specs.declared.entries.EntriesPlace.{EntriesPlace}
-use Rattle.playing.specs.Playing.{Playing, playingOf}
-use Rattle.playing.specs.declared.PacketsPlace.{PacketsPlace}
+use Rattle.run_entries.specs.Ending.{Ending}
+use Rattle.run_entries.specs.Ending.Ending.{Going, Done, Broken}
+use Rattle.run_entries.specs.Entries.{Reading, readingOf}
+use Rattle.run_entries.specs.declared.entries.EntriesPlace.{EntriesPlace}
+use Rattle.run_packets.specs.Playing.{Playing, playingOf}
+use Rattle.run_packets.specs.declared.PacketsPlace.{PacketsPlace}
 use Rattle.run_state.specs.Views.{jobIn, streamIn, openedIn, keptIn, worldIn, bareIn}
 
 -- a device whose entries have come so far

@@ -1,9 +1,9 @@
 // Where a phase has come to, on the device's words: going on, done, or broken by a rule. A refusal settles within its unit, and the
 // device's resources stay as they were.
-use phases::ending::DONE;
-use phases::ending::GOING;
-use phases::entries::EntriesPlace;
-use playing::PacketsPlace;
+use run_entries::ending::DONE;
+use run_entries::ending::GOING;
+use run_entries::entries::EntriesPlace;
+use run_packets::PacketsPlace;
 use rules::Refusal;
 use run_begin::begin_packets;
 use run_settle::settle_refused;

@@ -18,7 +18,7 @@ use Rattle.rules.specs.Steps.{packets-at}
 use Rattle.rules.specs.declared.Job.{Job}
 use Rattle.rules.specs.declared.Opened.{Opened}
 use Rattle.rows.specs.Rows.{table-zero}
-use Rattle.entry_rows.specs.Views.{entryOf, entriesOf}
+use Rattle.kept_entries.specs.Views.{entryOf, entriesOf}
 use Rattle.run_state.specs.Views.{setIn, flagOf, smallIn, countIn, jobIn, streamIn, openedIn, resourcesIn, worldIn, bareIn}
 use Rattle.run_state.specs.Reading.{flag-as, small-as, count-as, none-kept, none-made}
 use Rattle.run_state.specs.Spelled.{spell}

@@ -10,7 +10,7 @@ use Rattle.rules.specs.State.Work.{entries}
 use Rattle.rules.specs.Steps.{packets-at, entries-at}
 use Rattle.rules.specs.declared.Job.{Job}
 use Rattle.rules.specs.declared.Opened.{Opened}
-use Rattle.entry_rows.specs.Views.{entriesOf}
+use Rattle.kept_entries.specs.Views.{entriesOf}
 use Rattle.run_state.specs.Views.{jobIn, streamIn, openedIn, resourcesIn, worldIn, bareIn}
 
 -- the packets come next, after so many entries; the same table stays the device's

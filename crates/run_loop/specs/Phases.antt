@@ -25,12 +25,12 @@ use Rattle.rules.specs.declared.Stream.{Stream}
 use Rattle.rules.specs.declared.Opened.{Opened}
 use Rattle.rules.specs.declared.Verdict.{Verdict}
 use Rattle.rules.specs.declared.Verdict.the-variants.{Fine, Broken as BrokenRule}
-use Rattle.phases.specs.Ending.{Ending, onward}
-use Rattle.phases.specs.Ending.Ending.{Going, Done, Broken}
-use Rattle.phases.specs.Entries.{Reading, reading-goes, read-on, read-step}
-use Rattle.playing.specs.Playing.{Playing, playing-goes, play-on, play-step, PacketsRan}
-use Rattle.playing.specs.declared.PacketsPlace.{PacketsPlace}
-use Rattle.playing.specs.declared.PacketsRun.{PacketsRun}
+use Rattle.run_entries.specs.Ending.{Ending, onward}
+use Rattle.run_entries.specs.Ending.Ending.{Going, Done, Broken}
+use Rattle.run_entries.specs.Entries.{Reading, reading-goes, read-on, read-step}
+use Rattle.run_packets.specs.Playing.{Playing, playing-goes, play-on, play-step, PacketsRan}
+use Rattle.run_packets.specs.declared.PacketsPlace.{PacketsPlace}
+use Rattle.run_packets.specs.declared.PacketsRun.{PacketsRun}
 use Rattle.run_after_phase.specs.Views.{laid-on, laid, played-on, played}
 
 -- ---- stream_part

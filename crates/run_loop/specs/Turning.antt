@@ -17,13 +17,13 @@ use Rattle.rules.specs.Steps.{go, step, after-opening, open-step, run-for}
 use Rattle.rules.specs.Ring.{opening-of}
 use Rattle.rules.specs.declared.Table.{Table}
 use Rattle.rules.specs.declared.Stream.{Stream}
-use Rattle.ranges.specs.Views.{Room}
-use Rattle.phases.specs.Ending.{is-going, goes}
-use Rattle.phases.specs.Entries.{reading-goes, read-step, EntriesRan, from-row, outOf as entriesOut}
-use Rattle.phases.specs.declared.entries.EntriesRun.{EntriesRun}
-use Rattle.playing.specs.Playing.{playing-goes, play-step, playingOf, PacketsRan, outOf as packetsOut}
-use Rattle.playing.specs.declared.PacketsPlace.{PacketsPlace}
-use Rattle.playing.specs.declared.PacketsRun.{PacketsRun}
+use Rattle.packet_ranges.specs.Views.{Room}
+use Rattle.run_entries.specs.Ending.{is-going, goes}
+use Rattle.run_entries.specs.Entries.{reading-goes, read-step, EntriesRan, from-row, outOf as entriesOut}
+use Rattle.run_entries.specs.declared.entries.EntriesRun.{EntriesRun}
+use Rattle.run_packets.specs.Playing.{playing-goes, play-step, playingOf, PacketsRan, outOf as packetsOut}
+use Rattle.run_packets.specs.declared.PacketsPlace.{PacketsPlace}
+use Rattle.run_packets.specs.declared.PacketsRun.{PacketsRun}
 use Rattle.run_state.specs.Views.{setIn, smallIn, countIn, registersIn, tagIn, jobIn, tableIn, streamIn, openedIn, placeIn, keptIn, heldIn, worldIn, bareIn}
 use Rattle.run_state.specs.Reading.{unset, is-set}
 use Rattle.run_state.specs.Stages.{rests-in, reads-in, plays-in, waits-in}

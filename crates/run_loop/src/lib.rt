@@ -1,13 +1,13 @@
 // A run on the device's words, turn by turn: an opening is one unit, a phase as many as the allowance and its own length let.
 // So the hot loops are the phases', and the contract is still unit by unit.
-use entry_rows::Entries;
-use phases::ending::GOING;
-use phases::entries::read_entries;
-use playing::PacketsPlace;
-use playing::PacketsRun;
-use playing::read_packets;
-use records::Records;
-use rooms::resources::Resources;
+use kept_entries::Entries;
+use run_entries::ending::GOING;
+use run_entries::entries::read_entries;
+use run_packets::PacketsPlace;
+use run_packets::PacketsRun;
+use run_packets::read_packets;
+use kept_records::Records;
+use kept_resources::resources::Resources;
 use rules::Stream;
 use run_after_phase::land_entries;
 use run_after_phase::land_packets;
@@ -33,8 +33,8 @@ use widths::place;
 ghost use mathlib.Core.Path.{_≡_};
 ghost use Prim.Native.Nat.{_<_};
 ghost use Rattle.rules.specs.Stream.{stream-bytes};
-ghost use Rattle.ranges.specs.Views.{Room};
-ghost use Rattle.playing.specs.Playing.{PacketsRan};
+ghost use Rattle.packet_ranges.specs.Views.{Room};
+ghost use Rattle.run_packets.specs.Playing.{PacketsRan};
 ghost use Rattle.run_state.specs.Views.{tagIn};
 ghost use Rattle.run_loop.specs.Views.{EntriesTurn, PacketsTurn, TurnOf, Advanced};
 

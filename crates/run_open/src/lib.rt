@@ -1,6 +1,6 @@
 // One unit: the opening of the ring that the registers name now. It comes to a bad ring or no work, to a refusal, or to a submission
 // that has begun.
-use ring::opening::open;
+use ring_opening::opening::open;
 use rules::Opening;
 use rules::numbers::BAD_RING;
 use run_begin::start;
@@ -14,7 +14,7 @@ use run_state::FAILED;
 use run_state::RING;
 use run_state::RING_SIZE;
 use run_state::Words;
-use signals::one_more;
+use settle_registers::one_more;
 use widths::wide;
 use words::low32;
 ghost use mathlib.Core.Path.{_≡_};

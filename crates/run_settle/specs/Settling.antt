@@ -12,7 +12,7 @@ use Rattle.rules.specs.Shapes.{larger}
 use Rattle.rules.specs.Settle.{one-more, faulted, signalled, ended-by, head-written, marked, settled}
 use Rattle.rules.specs.declared.Job.{Job}
 use Rattle.rules.specs.declared.Refusal.{Refusal}
-use Rattle.rooms.specs.Views.{resourcesOf}
+use Rattle.kept_resources.specs.Views.{resourcesOf}
 use Rattle.settle.specs.Settling.{page-put}
 use Rattle.settle.specs.Laws.{marks-as}
 use Rattle.run_state.specs.Views.{setIn, flagOf, smallIn, countIn, registersIn, jobIn, worldIn, bareIn, deskIn}

@@ -16,8 +16,8 @@ use Rattle.rules.specs.declared.Job.{Job}
 use Rattle.rules.specs.declared.Table.{Table}
 use Rattle.rules.specs.declared.Stream.{Stream}
 use Rattle.rows.specs.Rows.{table-zero}
-use Rattle.entry_rows.specs.Views.{entriesOf}
-use Rattle.rooms.specs.Views.{resourcesOf, recordsOf}
+use Rattle.kept_entries.specs.Views.{entriesOf}
+use Rattle.kept_resources.specs.Views.{resourcesOf, recordsOf}
 use Rattle.run_state.specs.Views.{setIn, flagOf, smallIn, countIn, registersIn, jobIn, tableIn, streamIn}
 
 -- ---- one word

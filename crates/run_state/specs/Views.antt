@@ -19,8 +19,8 @@ use Rattle.rules.specs.declared.Job.{Job}
 use Rattle.rules.specs.declared.Table.{Table}
 use Rattle.rules.specs.declared.Stream.{Stream}
 use Rattle.rules.specs.declared.Opened.{Opened}
-use Rattle.entry_rows.specs.Views.{entriesOf}
-use Rattle.rooms.specs.Views.{resourcesOf, holdingsOf}
+use Rattle.kept_entries.specs.Views.{entriesOf}
+use Rattle.kept_resources.specs.Views.{resourcesOf, holdingsOf}
 
 -- ---- one word
 

@@ -17,7 +17,7 @@ use Rattle.rules.specs.declared.Stream.{Stream}
 use Rattle.rules.specs.declared.StreamHeader.{StreamHeader}
 use Rattle.rules.specs.declared.Verdict.{Verdict}
 use Rattle.rules.specs.declared.Verdict.the-variants.{Fine, Broken}
-use Rattle.laws.specs.Fine.{all-kept}
+use Rattle.rule_laws.specs.Fine.{all-kept}
 use Rattle.stream_header.specs.declared.header.Begun.{Begun}
 use Rattle.stream_header.specs.declared.header.Begun.the-variants.{Good, Bad}
 

@@ -19,7 +19,7 @@ use Rattle.rules.specs.declared.Table.{Table}
 use Rattle.rules.specs.declared.TableHeader.{TableHeader}
 use Rattle.rules.specs.declared.Verdict.{Verdict}
 use Rattle.rules.specs.declared.Verdict.the-variants.{Fine, Broken}
-use Rattle.laws.specs.Fine.{fine-first, fine-later, kept-rule}
+use Rattle.rule_laws.specs.Fine.{fine-first, fine-later, kept-rule}
 use Rattle.table_header.specs.declared.header.Headed.{Headed}
 use Rattle.table_header.specs.declared.header.Headed.the-variants.{Good, Bad}
 

@@ -1,8 +1,8 @@
 // The device over state that the host owns: its words and its four tables. Zero or not, any words mean some device; `zelezmut_make` makes a
 // new one of them. A call's values stand beside its answer in one number, or, for a record, in five words.
-use entry_rows::Entries;
-use records::Records;
-use rooms::resources::Resources;
+use kept_entries::Entries;
+use kept_records::Records;
+use kept_resources::resources::Resources;
 use rules::Ended;
 use rules::Record;
 use run_state::Words;

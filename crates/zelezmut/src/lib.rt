@@ -18,7 +18,7 @@ pub extern "C" fn zelezmut_packed_size(
 ) -> u64
     ensures { λ r. ⌜ r ≡ packed-size (record { format = format; width = width; height = height; mips = mips; layers = layers }) pitch ⌝ }
 {
-    sizes::packed_size(format, width, height, mips, layers, pitch)
+    texture_sizes::packed_size(format, width, height, mips, layers, pitch)
 }
 
 // The first error of an allocation table that lies in the lent bytes, for a guest memory of so many bytes: 13, 19, 14 or 15 as the
@@ -27,5 +27,5 @@ pub extern "C" fn zelezmut_packed_size(
 pub extern "C" fn zelezmut_table_error(table: &[u8], memory: u64) -> u32
     ensures { λ r. ⌜ r ≡ table-error (now (table .entry)) memory ⌝ }
 {
-    whole_table::whole::first_error(table, memory)
+    table_whole::whole::first_error(table, memory)
 }

@@ -1,0 +1,62 @@
+// A resource as a row of eleven words: handle, tag (0 for a buffer), bytes, format, width, height, mips, layers, pitch, backing,
+// offset. Of a buffer's row the five words after its bytes say nothing.
+use rules::Kind;
+use rules::Resource;
+use rules::Shape;
+ghost use mathlib.Core.Path.{_≡_};
+ghost use Prim.Native.Nat.{_+_, _-_, _≤_, _<_};
+ghost use Rattle.rules.specs.Numbers.{most};
+ghost use Rattle.rules.specs.Lists.{indexOf};
+ghost use Rattle.rules.specs.Packets.{handle-of};
+ghost use Rattle.rows.specs.Rows.{rowAt};
+ghost use Rattle.kept_resources.specs.Views.{resourceOf, resourcesOf, kindIn};
+
+// A table of resources, 64 rows.
+pub type Resources = [u64; 704];
+
+// The words of a resource.
+pub const WORDS: usize = 11;
+
+pub const BUFFER: u64 = 0;
+
+// What the resource of a row is.
+fn kind_at(rooms: &Resources, b: usize) -> Kind
+    requires { ⌜ b + 11 ≤ 704 ⌝ }
+    ensures { λ r. ⌜ r ≡ kindIn (now (rooms .entry)) b ⌝ }
+{
+    if rooms[b + 1] == BUFFER {
+        return Kind::Buffer;
+    }
+    Kind::Texture(Shape {
+        format: words::low32(rooms[b + 3]),
+        width: words::low32(rooms[b + 4]),
+        height: words::low32(rooms[b + 5]),
+        mips: words::low32(rooms[b + 6]),
+        layers: words::low32(rooms[b + 7]),
+    })
+}
+
+// The resource of row i.
+pub fn resource_row(rooms: &Resources, i: usize) -> Resource
+    requires { ⌜ i < most ⌝ }
+    ensures { λ r. ⌜ r ≡ resourceOf (rowAt 11 (now (rooms .entry)) i) ⌝ }
+{
+    let b = WORDS * i;
+    let kind = kind_at(rooms, b);
+    Resource {
+        handle: words::low32(rooms[b]),
+        kind,
+        bytes: rooms[b + 2],
+        pitch: words::low32(rooms[b + 8]),
+        backing: words::low32(rooms[b + 9]),
+        offset: words::low32(rooms[b + 10]),
+    }
+}
+
+// The place of the live resource that has a handle, or `n`.
+pub fn find_resource(rooms: &Resources, n: usize, handle: u32) -> usize
+    requires { ⌜ n ≤ most ⌝ }
+    ensures { λ r. ⌜ r ≡ indexOf handle-of handle (resourcesOf n (now (rooms .entry))) ⌝ }
+{
+    finding::find_row(rooms, WORDS, n, handle)
+}

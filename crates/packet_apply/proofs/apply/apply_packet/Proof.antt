@@ -1,0 +1,77 @@
+use Rattle.packet_apply.specs.Apply.{applying}
+use borrow.Author.Needs.{needs}
+use Rattle.packet_apply.proofs.apply.apply_packet.Statement.{statement}
+use Rattle.packet_apply.proofs.apply.apply_packet.Tie as tie
+
+enum-known-p : tie.Need-enum-known-p
+enum-known-p c = search needs
+
+make-buffer-requires : tie.Need-make-buffer-requires
+make-buffer-requires c κs = search needs
+
+enum-known-p-2 : tie.Need-enum-known-p-2
+enum-known-p-2 c = search needs
+
+make-texture-requires : tie.Need-make-texture-requires
+make-texture-requires c κs = search needs
+
+enum-known-p-3 : tie.Need-enum-known-p-3
+enum-known-p-3 c = search needs
+
+destroy-requires : tie.Need-destroy-requires
+destroy-requires c κs = search needs
+
+enum-known-p-4 : tie.Need-enum-known-p-4
+enum-known-p-4 c = search needs
+
+dirty-requires : tie.Need-dirty-requires
+dirty-requires c κs = search needs
+
+enum-known-p-5 : tie.Need-enum-known-p-5
+enum-known-p-5 c = search needs
+
+copy-requires : tie.Need-copy-requires
+copy-requires c κs = search needs
+
+enum-told : tie.Need-enum-told
+enum-told c = search needs
+
+returns : tie.Need-returns
+returns c = search applying
+
+returns-2 : tie.Need-returns-2
+returns-2 c = search applying
+
+returns-3 : tie.Need-returns-3
+returns-3 c = search applying
+
+returns-4 : tie.Need-returns-4
+returns-4 c = search applying
+
+returns-5 : tie.Need-returns-5
+returns-5 c = search applying
+
+returns-6 : tie.Need-returns-6
+returns-6 c = search applying
+
+pub apply-packet-spec : {M : Type 1} → statement M
+apply-packet-spec =
+    tie.close
+    (tie.spec
+    enum-known-p
+    make-buffer-requires
+    enum-known-p-2
+    make-texture-requires
+    enum-known-p-3
+    destroy-requires
+    enum-known-p-4
+    dirty-requires
+    enum-known-p-5
+    copy-requires
+    enum-told
+    returns
+    returns-2
+    returns-3
+    returns-4
+    returns-5
+    returns-6)

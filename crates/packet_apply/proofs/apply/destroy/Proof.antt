@@ -1,0 +1,19 @@
+use Rattle.packet_apply.specs.Apply.{changing}
+use borrow.Author.Needs.{needs}
+use Rattle.packet_apply.proofs.apply.destroy.Statement.{statement}
+use Rattle.packet_apply.proofs.apply.destroy.Tie as tie
+
+take-own-requires : tie.Need-take-own-requires
+take-own-requires c κs = search needs
+
+on-destroy-requires : tie.Need-on-destroy-requires
+on-destroy-requires c κs = search needs
+
+with-own-requires : tie.Need-with-own-requires
+with-own-requires c κs = search needs
+
+returns : tie.Need-returns
+returns c = search changing
+
+pub destroy-spec : {M : Type 1} → statement M
+destroy-spec = tie.close (tie.spec take-own-requires on-destroy-requires with-own-requires returns)

@@ -1,0 +1,185 @@
+// One packet that was framed and read, whatever it is. One whose opcode we do not know touches nothing.
+// A submission's resources are the device's until its first create or destroy; that copies them to a table of its own.
+use packet_copy::copy::on_copy;
+use packet_create::create::on_buffer;
+use packet_create::create::on_texture;
+use packet_destroy::destroy::on_destroy;
+use packet_dirty::dirty::on_dirty;
+use kept_entries::Entries;
+use kept_changes::storing::copy_resources;
+use packet_ranges::applied::Applied;
+use kept_records::Records;
+use kept_resources::resources::Resources;
+use rules::CopyBuffer;
+use rules::CreateBuffer;
+use rules::CreateTexture;
+use rules::DestroyResource;
+use rules::DirtyRange;
+use rules::Packet;
+use rules::Verdict;
+ghost use mathlib.Core.Path.{_≡_};
+ghost use Prim.Native.Nat.{_≤_};
+ghost use Rattle.machine.specs.Machine.{pick};
+ghost use Rattle.rules.specs.Numbers.{most};
+ghost use Rattle.rules.specs.Packets.{on-buffer-packet, on-texture-packet, on-destroy-packet, on-dirty-packet, on-copy-packet, apply};
+ghost use Rattle.kept_entries.specs.Views.{entriesOf};
+ghost use Rattle.kept_resources.specs.Views.{resourcesOf, holdingsOf};
+ghost use Rattle.packet_ranges.specs.Views.{Room};
+ghost use Rattle.packet_apply.specs.Apply.{changedOf, Changes};
+
+// What a packet came to: its verdict, how many resources and records are held after it, and whether the resources are in the
+// submission's own table.
+pub struct Changed {
+    pub verdict: Verdict,
+    pub live: usize,
+    pub made: usize,
+    pub own: bool,
+}
+
+fn with_own(a: Applied, own: bool) -> Changed
+    ensures { λ x. ⌜ x ≡ changedOf a own ⌝ }
+{
+    let verdict = a.verdict;
+    Changed {
+        verdict,
+        live: a.live,
+        made: a.made,
+        own,
+    }
+}
+
+// The table that has the submission's resources.
+fn chosen<'a>(rooms: &'a Resources, held: &'a Resources, own: bool) -> &'a Resources
+    ensures { λ r. ⌜ now r ≡ pick own (now (held .entry)) (now (rooms .entry)) ⌝ }
+{
+    if own { held } else { rooms }
+}
+
+// Sees that the submission's resources are in its own table.
+fn take_own(rooms: &Resources, held: &mut Resources, own: bool, live: usize)
+    requires { ⌜ live ≤ most ⌝ }
+    ensures { λ _. ⌜ resourcesOf live (now (held .exit)) ≡ resourcesOf live (pick own (now (held .entry)) (now (rooms .entry))) ⌝ }
+{
+    if !own {
+        copy_resources(rooms, held, live);
+    }
+}
+
+fn make_buffer(
+    entries: &Entries,
+    n: usize,
+    rooms: &Resources,
+    held: &mut Resources,
+    own: bool,
+    live: usize,
+    records: &mut Records,
+    made: usize,
+    c: CreateBuffer,
+) -> Changed
+    requires { ⌜ Room n live made ⌝ }
+    ensures { λ x. ⌜ Changes (on-buffer-packet (entriesOf n (now (entries .entry))) (holdingsOf live (pick own (now (held .entry)) (now (rooms .entry))) made (now (records .entry))) c) (now (rooms .entry)) x (now (held .exit)) (now (records .exit)) ⌝ }
+{
+    take_own(rooms, held, own, live);
+    with_own(on_buffer(entries, n, held, live, records, made, c), true)
+}
+
+fn make_texture(
+    entries: &Entries,
+    n: usize,
+    rooms: &Resources,
+    held: &mut Resources,
+    own: bool,
+    live: usize,
+    records: &mut Records,
+    made: usize,
+    c: CreateTexture,
+) -> Changed
+    requires { ⌜ Room n live made ⌝ }
+    ensures { λ x. ⌜ Changes (on-texture-packet (entriesOf n (now (entries .entry))) (holdingsOf live (pick own (now (held .entry)) (now (rooms .entry))) made (now (records .entry))) c) (now (rooms .entry)) x (now (held .exit)) (now (records .exit)) ⌝ }
+{
+    take_own(rooms, held, own, live);
+    with_own(on_texture(entries, n, held, live, records, made, c), true)
+}
+
+fn destroy(
+    rooms: &Resources,
+    held: &mut Resources,
+    own: bool,
+    live: usize,
+    records: &Records,
+    made: usize,
+    c: DestroyResource,
+) -> Changed
+    requires { ⌜ (live ≤ most) × (made ≤ most) ⌝ }
+    ensures { λ x. ⌜ Changes (on-destroy-packet (holdingsOf live (pick own (now (held .entry)) (now (rooms .entry))) made (now (records .entry))) c) (now (rooms .entry)) x (now (held .exit)) (now (records .entry)) ⌝ }
+{
+    take_own(rooms, held, own, live);
+    with_own(on_destroy(held, live, made, c), true)
+}
+
+fn dirty<'a>(
+    entries: &Entries,
+    n: usize,
+    rooms: &'a Resources,
+    held: &'a Resources,
+    own: bool,
+    live: usize,
+    records: &mut Records,
+    made: usize,
+    c: DirtyRange,
+) -> Changed
+    requires { ⌜ Room n live made ⌝ }
+    ensures { λ x. ⌜ Changes (on-dirty-packet (entriesOf n (now (entries .entry))) (holdingsOf live (pick own (now (held .entry)) (now (rooms .entry))) made (now (records .entry))) c) (now (rooms .entry)) x (now (held .entry)) (now (records .exit)) ⌝ }
+{
+    let resources = chosen(rooms, held, own);
+    with_own(on_dirty(entries, n, resources, live, records, made, c), own)
+}
+
+fn copy<'a>(
+    entries: &Entries,
+    n: usize,
+    rooms: &'a Resources,
+    held: &'a Resources,
+    own: bool,
+    live: usize,
+    records: &mut Records,
+    made: usize,
+    c: CopyBuffer,
+) -> Changed
+    requires { ⌜ Room n live made ⌝ }
+    ensures { λ x. ⌜ Changes (on-copy-packet (entriesOf n (now (entries .entry))) (holdingsOf live (pick own (now (held .entry)) (now (rooms .entry))) made (now (records .entry))) c) (now (rooms .entry)) x (now (held .entry)) (now (records .exit)) ⌝ }
+{
+    let resources = chosen(rooms, held, own);
+    with_own(on_copy(entries, n, resources, live, records, made, c), own)
+}
+
+// What a packet does to the resources and records that a submission holds, by the entries of its table. `rooms` is the device's
+// table, `held` the submission's own, which has its resources where `own` says so.
+pub fn apply_packet(
+    entries: &Entries,
+    n: usize,
+    rooms: &Resources,
+    held: &mut Resources,
+    own: bool,
+    live: usize,
+    records: &mut Records,
+    made: usize,
+    p: Packet,
+) -> Changed
+    requires { ⌜ Room n live made ⌝ }
+    ensures { λ x. ⌜ Changes (apply (entriesOf n (now (entries .entry))) (holdingsOf live (pick own (now (held .entry)) (now (rooms .entry))) made (now (records .entry))) p) (now (rooms .entry)) x (now (held .exit)) (now (records .exit)) ⌝ }
+{
+    match p {
+        Packet::Buffer(c) => make_buffer(entries, n, rooms, held, own, live, records, made, c),
+        Packet::Texture(c) => make_texture(entries, n, rooms, held, own, live, records, made, c),
+        Packet::Destroy(c) => destroy(rooms, held, own, live, records, made, c),
+        Packet::Dirty(c) => dirty(entries, n, rooms, held, own, live, records, made, c),
+        Packet::Copy(c) => copy(entries, n, rooms, held, own, live, records, made, c),
+        Packet::Unknown => Changed {
+            verdict: Verdict::Fine,
+            live,
+            made,
+            own,
+        },
+    }
+}

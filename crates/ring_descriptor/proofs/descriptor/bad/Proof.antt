@@ -1,0 +1,29 @@
+use Rattle.ring_descriptor.specs.Descriptor.{ranging}
+use borrow.Author.Needs.{needs}
+use Rattle.ring_descriptor.proofs.descriptor.bad.Statement.{statement}
+use Rattle.ring_descriptor.proofs.descriptor.bad.Tie as tie
+
+returns : tie.Need-returns
+returns c = search ranging
+
+returns-2 : tie.Need-returns-2
+returns-2 c = search ranging
+
+returns-3 : tie.Need-returns-3
+returns-3 c = search ranging
+
+wide-requires : tie.Need-wide-requires
+wide-requires c κs = search needs
+
+sub-if4 : tie.Need-sub-if4
+sub-if4 c = search needs
+
+returns-4 : tie.Need-returns-4
+returns-4 c = search ranging
+
+returns-5 : tie.Need-returns-5
+returns-5 c = search ranging
+
+pub bad-spec : {M : Type 1} → statement M
+bad-spec =
+    tie.close (tie.spec returns returns-2 returns-3 wide-requires sub-if4 returns-4 returns-5)

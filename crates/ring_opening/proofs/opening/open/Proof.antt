@@ -1,0 +1,53 @@
+use Rattle.ring_opening.specs.Opening.{opening-ring}
+use borrow.Author.Needs.{needs}
+use Rattle.ring_opening.proofs.opening.open.Statement.{statement}
+use Rattle.ring_opening.proofs.opening.open.Tie as tie
+
+long-requires : tie.Need-long-requires
+long-requires c κs = search needs
+
+wide-requires : tie.Need-wide-requires
+wide-requires c κs = search needs
+
+returns : tie.Need-returns
+returns c = search opening-ring
+
+returns-2 : tie.Need-returns-2
+returns-2 c = search opening-ring
+
+returns-3 : tie.Need-returns-3
+returns-3 c = search opening-ring
+
+place-requires : tie.Need-place-requires
+place-requires c κs = search needs
+
+header-at-requires : tie.Need-header-at-requires
+header-at-requires c κs = search needs
+
+good-requires : tie.Need-good-requires
+good-requires c κs = search needs
+
+returns-4 : tie.Need-returns-4
+returns-4 c = search opening-ring
+
+open-head-requires : tie.Need-open-head-requires
+open-head-requires c κs = search opening-ring
+
+returns-5 : tie.Need-returns-5
+returns-5 c = search opening-ring
+
+pub open-spec : {M : Type 1} → statement M
+open-spec =
+    tie.close
+    (tie.spec
+    long-requires
+    wide-requires
+    returns
+    returns-2
+    returns-3
+    place-requires
+    header-at-requires
+    good-requires
+    returns-4
+    open-head-requires
+    returns-5)

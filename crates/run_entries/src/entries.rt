@@ -1,0 +1,86 @@
+// The phase of entries: one a unit, each over the memory lent at that unit.
+use crate::ending::BROKEN;
+use crate::ending::DONE;
+use crate::ending::GOING;
+use kept_entries::Entries;
+use rules::Table;
+use rules::Verdict;
+ghost use mathlib.Core.Path.{_≡_};
+ghost use Prim.Native.Nat.{_+_, _≤_};
+ghost use Rattle.rules.specs.Numbers.{most};
+ghost use Rattle.run_entries.specs.Entries.{EntryStepped, EntriesRan};
+
+// Where the entries stand: how many are kept, how the phase stands, and the number of a rule that is broken, 0 otherwise.
+pub struct EntriesPlace {
+    pub n: usize,
+    pub ending: u32,
+    pub why: u32,
+}
+
+pub struct EntriesRun {
+    pub place: EntriesPlace,
+    pub units: u16,
+}
+
+fn size(x: u32) -> usize
+    ensures { λ r. ⌜ r ≡ x ⌝ }
+{
+    x as usize
+}
+
+// One unit: the entry after those that are kept.
+fn step_entry(mem: &[u8], t: Table, kept: &mut Entries, p: EntriesPlace) -> EntriesPlace
+    requires { ⌜ p .n ≤ most ⌝ }
+    ensures { λ r. ⌜ EntryStepped (now (mem .entry)) t p (now (kept .entry)) r (now (kept .exit)) ⌝ }
+{
+    let n = p.n;
+    match table_entries::entry::take_entry(mem, t, kept, n) {
+        Verdict::Broken(why) => EntriesPlace {
+            n,
+            ending: BROKEN,
+            why: why.code,
+        },
+        Verdict::Fine => {
+            let next = n + 1;
+            if next < size(t.count) {
+                return EntriesPlace {
+                    n: next,
+                    ending: GOING,
+                    why: 0,
+                };
+            }
+            EntriesPlace {
+                n: next,
+                ending: DONE,
+                why: 0,
+            }
+        }
+    }
+}
+
+// Entries, one a unit, until the allowance is spent, the table is done or a rule is broken.
+pub fn read_entries(
+    mem: &[u8],
+    t: Table,
+    kept: &mut Entries,
+    n: usize,
+    allowance: u16,
+) -> EntriesRun
+    requires { ⌜ n ≤ most ⌝ }
+    ensures { λ r. ⌜ EntriesRan (now (mem .entry)) t n (now (kept .entry)) allowance r (now (kept .exit)) ⌝ }
+{
+    let mut p = EntriesPlace {
+        n,
+        ending: GOING,
+        why: 0,
+    };
+    let mut units: u16 = 0;
+    while units < allowance {
+        p = step_entry(mem, t, kept, p);
+        units += 1;
+        if p.ending != GOING {
+            return EntriesRun { place: p, units };
+        }
+    }
+    EntriesRun { place: p, units }
+}

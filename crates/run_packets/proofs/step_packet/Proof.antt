@@ -1,0 +1,45 @@
+use Rattle.run_packets.specs.Playing.{stepping-packet}
+use borrow.Author.Needs.{needs}
+use Rattle.run_packets.proofs.step_packet.Statement.{statement}
+use Rattle.run_packets.proofs.step_packet.Tie as tie
+
+frame-at-requires : tie.Need-frame-at-requires
+frame-at-requires c κs = search needs
+
+enum-known-why : tie.Need-enum-known-why
+enum-known-why c = search needs
+
+enum-known-op : tie.Need-enum-known-op
+enum-known-op c = search needs
+
+take-packet-requires : tie.Need-take-packet-requires
+take-packet-requires c κs = search stepping-packet
+
+index-requires : tie.Need-index-requires
+index-requires c κs = search needs
+
+add-place-after : tie.Need-add-place-after
+add-place-after c = search stepping-packet
+
+place-after-requires : tie.Need-place-after-requires
+place-after-requires c κs = search needs
+
+returns : tie.Need-returns
+returns c = search stepping-packet
+
+returns-2 : tie.Need-returns-2
+returns-2 c = search stepping-packet
+
+pub step-packet-spec : {M : Type 1} → statement M
+step-packet-spec =
+    tie.close
+    (tie.spec
+    frame-at-requires
+    enum-known-why
+    enum-known-op
+    take-packet-requires
+    index-requires
+    add-place-after
+    place-after-requires
+    returns
+    returns-2)

@@ -1,0 +1,239 @@
+-- The phase of packets as a machine over the place and what is held; and what its code asks. Assumes nothing.
+use mathlib.Core.Path.{_≡_, refl, sym, ap, _∙_}
+use mathlib.Core.Bool.{Bool, true, false}
+use mathlib.Core.List.{List}
+use Prim.Native.Nat.{ℕ, _+_, _-_, _^_, _≤_, _<_}
+use native.Mathlib.Omega.{arith}
+use borrow.Author.Needs.{needs}
+use borrow.Author.Tests.{lt-ltb, le-ltb}
+use lib.Dec.{ltb}
+use lib.ListN.{length, take, drop, length-drop}
+use mir.Syntax.{w64}
+use mir.Val.{Fits}
+use Rattle.machine.specs.Machine.{pick, Out, spent, runFor, loop-start, loop-out}
+use Rattle.rules.specs.Numbers.{most}
+use Rattle.rules.specs.Stream.{frame-of, packet-of}
+use Rattle.rules.specs.Packets.{Holdings, Outcome, apply, take-packet}
+use Rattle.rules.specs.Steps.{next-place}
+use Rattle.rules.specs.declared.Entry.{Entry}
+use Rattle.rules.specs.declared.Packet.{Packet}
+use Rattle.rules.specs.declared.Packet.the-variants.{Unknown}
+use Rattle.rules.specs.declared.Frame.{Frame}
+use Rattle.rules.specs.declared.Frame.the-variants.{Whole, Misframed}
+use Rattle.rules.specs.declared.Refusal.{Refusal}
+use Rattle.rules.specs.declared.Verdict.{Verdict}
+use Rattle.rules.specs.declared.Verdict.the-variants.{Fine, Broken as BrokenRule}
+use Rattle.kept_entries.specs.Views.{entriesOf}
+use Rattle.kept_resources.specs.Views.{holdingsOf}
+use Rattle.stream_packets.specs.Framing.{Sound, frame-sound, Passed}
+use Rattle.packet_ranges.specs.Views.{Room}
+use Rattle.packet_apply.specs.Apply.{Changes, unknown-applied}
+use Rattle.packet_apply.specs.declared.apply.Changed.{Changed}
+use Rattle.run_entries.specs.Ending.{Ending, onward, ending-at, endingOf, is-going, is-done, is-broken, goes, ends, phase-on, phase-left}
+use Rattle.run_entries.specs.Ending.Ending.{Going, Done, Broken}
+use Rattle.run_packets.specs.declared.PacketsPlace.{PacketsPlace}
+use Rattle.run_packets.specs.declared.PacketsRun.{PacketsRun}
+use Rattle.run_packets.specs.declared.Skipped.{Skipped}
+
+pub record Playing : Type 0 where
+  pub at : ℕ
+  pub held : Holdings
+  pub ending : Ending
+
+abbrev pub playing-goes : Playing → Bool
+playing-goes s = onward (s .ending)
+
+abbrev pub play-on : ℕ → ℕ → ℕ → Holdings → Verdict → Playing
+play-on at next end h Fine = record { at = next; held = h; ending = ending-at next end }
+play-on at next end h (BrokenRule r) = record { at = at; held = h; ending = Broken r }
+
+-- the packet at the place, of the stream's bytes
+unfoldable pub play-step : List Entry → List ℕ → ℕ → Playing → Playing
+play-step es b end s =
+    play-on (s .at) (next-place (s .at) (drop (s .at) b)) end (take-packet es (s .held) (drop (s .at) b) .held) (take-packet es (s .held) (drop (s .at) b) .verdict)
+
+-- ---- views
+
+-- the place, the device's rows, the submission's own rows, its records
+abbrev pub playingOf : PacketsPlace → List ℕ → List ℕ → List ℕ → Playing
+playingOf p r l c = record { at = p .at; held = holdingsOf (p .live) (pick (p .own) l r) (p .made) c; ending = endingOf (p .ending) (p .why) }
+
+abbrev pub outOf : PacketsRun → List ℕ → List ℕ → List ℕ → Out Playing
+outOf x r l c = record { state = playingOf (x .place) r l c; units = x .units }
+
+pub record PacketStepped (b : List ℕ) (end n : ℕ) (e : List ℕ) (p : PacketsPlace) (r l c : List ℕ) (q : PacketsPlace) (l′ c′ : List ℕ) : Type 0 where
+  pub step : playingOf q r l′ c′ ≡ play-step (entriesOf n e) b end (playingOf p r l c)
+  pub room : Room n (q .live) (q .made)
+
+pub record PacketsRan (b : List ℕ) (end n : ℕ) (e : List ℕ) (p : PacketsPlace) (r l c : List ℕ) (allowance : ℕ) (x : PacketsRun) (l′ c′ : List ℕ) : Type 0 where
+  pub run : outOf x r l′ c′ ≡ runFor playing-goes (play-step (entriesOf n e) b end) allowance (playingOf p r l c)
+  pub room : Room n (x .place .live) (x .place .made)
+
+-- ---- place_after
+
+abbrev pub after-by : ℕ → ℕ → ℕ → Changed → Verdict → PacketsPlace
+after-by at next end x Fine = record { at = next; live = x .live; made = x .made; own = x .own; ending = pick (ltb next end) 0 1; why = 0 }
+after-by at next end x (BrokenRule r) = record { at = at; live = x .live; made = x .made; own = x .own; ending = 2; why = r .code }
+
+unfoldable pub placeAfter : ℕ → ℕ → ℕ → Changed → PacketsPlace
+placeAfter at next end x = after-by at next end x (x .verdict)
+
+module _ (at next end : ℕ) (x : Changed) where
+  pub after-broken : (r : Refusal) → x .verdict ≡ BrokenRule r
+      → record { at = at; live = x .live; made = x .made; own = x .own; ending = 2; why = r .code } ≡ placeAfter at next end x
+  unfolding placeAfter
+  after-broken r e = rw e
+
+  pub after-going : x .verdict ≡ Fine → next < end → record { at = next; live = x .live; made = x .made; own = x .own; ending = 0; why = 0 } ≡ placeAfter at next end x
+  unfolding placeAfter
+  after-going e h = rw (e, lt-ltb _ _ h)
+
+  pub after-done : x .verdict ≡ Fine → end ≤ next → record { at = next; live = x .live; made = x .made; own = x .own; ending = 1; why = 0 } ≡ placeAfter at next end x
+  unfolding placeAfter
+  after-done e h = rw (e, le-ltb _ _ h)
+
+pub ruleset going-after = (after-broken, after-going, after-done, needs)
+
+-- ---- take_packet
+
+module _ (b : List ℕ) (at op size : ℕ) (whole : frame-of (drop at b) ≡ Whole op size) where
+  pub takes-framed : (es : List Entry) (h : Holdings) (k : Packet) (r : List ℕ) (x : Changed) (l′ c′ : List ℕ) → k ≡ packet-of op (take size (drop at b)) → Changes (apply es h k) r x l′ c′
+      → Changes (take-packet es h (drop at b)) r x l′ c′
+  unfolding take-packet
+  takes-framed es h k r x l′ c′ read change = rw (whole, ← read) change
+
+pub ruleset taking-packet = (takes-framed, unknown-applied, needs)
+
+-- ---- step_packet
+
+by-end : (t : Bool) → endingOf (pick t 0 1) 0 ≡ pick t Going Done
+by-end true = is-going 0 0 refl
+by-end false = is-done 1 0 refl
+
+module _ (b : List ℕ) (end n : ℕ) (e : List ℕ) (p : PacketsPlace) (r l c : List ℕ) (f : Frame) (framed : f ≡ frame-of (drop (p .at) b)) where
+  pub step-misframed : (why : Refusal) → Room n (p .live) (p .made) → f ≡ Misframed why
+      → PacketStepped b end n e p r l c (record { at = p .at; live = p .live; made = p .made; own = p .own; ending = 2; why = why .code }) l c
+  unfolding play-step take-packet
+  step-misframed why room q = record { step = rw (is-broken 2 (why .code) (omega arith) (omega arith), ← framed, q); room = room }
+
+  module _ (op size : ℕ) (q : f ≡ Whole op size) where
+    whole : frame-of (drop (p .at) b) ≡ Whole op size
+    whole = sym framed ∙ q
+
+    pub is-framed : frame-of (drop (p .at) b) ≡ Whole op size
+    is-framed = whole
+
+    pub next-fits : (k : ℕ) → k ≡ size → p .at < 2 ^ 64 → length b < 2 ^ 64 → Fits w64 (p .at + k)
+    next-fits k same h g =
+        let s : Sound (drop (p .at) b) op size = frame-sound (drop (p .at) b) op size whole in
+        record { fits = omega (arith, s .inside, s .header, length-drop (p .at) b) }
+
+    module _ (x : Changed) (l′ c′ : List ℕ) where
+      after-verdict : (o : Outcome) (next : ℕ) (v : Verdict) → record { verdict = x .verdict; held = holdingsOf (x .live) (pick (x .own) l′ r) (x .made) c′ } ≡ o
+          → playingOf (after-by (p .at) next end x v) r l′ c′ ≡ play-on (p .at) next end (o .held) v
+      after-verdict o next Fine h = rw (by-end (ltb next end)) (ap (λ (y : Outcome). record { at = next; held = y .held; ending = ending-at next end }) h)
+      after-verdict o next (BrokenRule why) h =
+          rw (is-broken 2 (why .code) (omega arith) (omega arith)) (ap (λ (y : Outcome). record { at = p .at; held = y .held; ending = Broken why }) h)
+
+      after-room : (next : ℕ) (v : Verdict) → n ≤ most → x .live ≤ most → x .made ≤ most → Room n (after-by (p .at) next end x v .live) (after-by (p .at) next end x v .made)
+      after-room next Fine h i j = record { entries = h; live = i; made = j }
+      after-room next (BrokenRule why) h i j = record { entries = h; live = i; made = j }
+
+      pub step-taken : (i : ℕ) (y : PacketsPlace) → Room n (p .live) (p .made) → i ≡ size
+          → Changes (take-packet (entriesOf n e) (holdingsOf (p .live) (pick (p .own) l r) (p .made) c) (drop (p .at) b)) r x l′ c′ → y ≡ placeAfter (p .at) (p .at + i) end x → PacketStepped b end n e p r l c y l′ c′
+      unfolding play-step placeAfter
+      step-taken i y room same change is =
+          let o : Outcome = take-packet (entriesOf n e) (holdingsOf (p .live) (pick (p .own) l r) (p .made) c) (drop (p .at) b) in
+          let verdict : x .verdict ≡ o .verdict = ap (λ (z : Outcome). z .verdict) (change .outcome) in
+          record {
+            step = ap (λ (z : PacketsPlace). playingOf z r l′ c′) is ∙ (after-verdict o (p .at + i) (x .verdict) (change .outcome) ∙ rw (whole, ← verdict, same));
+            room = rw is (after-room (p .at + i) (x .verdict) (room .entries) (change .live) (change .made));
+          }
+
+pub ruleset stepping-packet = (step-misframed, is-framed, next-fits, step-taken, needs)
+
+-- ---- skip_unknown
+
+abbrev pub playing-at : ℕ → Holdings → Playing
+playing-at at h = record { at = at; held = h; ending = Going }
+
+-- what was true of a run at the place and the units before is true of it at those after, whatever is held
+pub record Skips (b : List ℕ) (bound at u a : ℕ) (x : Skipped) : Type 0 where
+  pub least : u ≤ x .units
+  pub room : x .units ≤ a
+  pub run : (es : List Entry) (end : ℕ) (h : Holdings) (o : Out Playing) → bound ≤ end
+      → o ≡ spent u (runFor playing-goes (play-step es b end) (a - u) (playing-at at h))
+      → o ≡ spent (x .units) (runFor playing-goes (play-step es b end) (a - x .units) (playing-at (x .at) h))
+
+module _ (b : List ℕ) (bound at u a : ℕ) where
+  pub skips-none : u ≤ a → Skips b bound at u a (record { at = at; units = u })
+  skips-none h = record { least = omega arith; room = h; run = λ es end h o le e. e }
+
+  module _ (here room size v : ℕ) (before : Skips b bound at u a (record { at = here; units = v })) (upto : here + room ≡ bound) (passed : Passed b here room size)
+      (some : size ≡ 0 → ⊥) where
+    skip-step : (es : List Entry) (end : ℕ) (h : Holdings) → bound ≤ end → playing-at (here + size) h ≡ play-step es b end (playing-at here h)
+    unfolding play-step take-packet apply
+    skip-step es end h le =
+        let below : size < room = passed .within some in
+        rw (passed .whole some, ← (passed .nothing some), lt-ltb (here + size) end (omega arith))
+
+    pub skips-on : v < a → Skips b bound at u a (record { at = here + size; units = v + 1 })
+    skips-on more =
+        record {
+          least = omega (arith, before .least);
+          room = omega arith;
+          run = λ es end h o le e. phase-on playing-goes (play-step es b end) a v (playing-at here h) o (before .run es end h o le e) more refl (playing-at (here + size) h) (skip-step es end h le);
+        }
+
+    pub skips-within : size ≤ room
+    skips-within = let below : size < room = passed .within some in omega arith
+
+    pub skips-some : 0 < room - size
+    skips-some = let below : size < room = passed .within some in omega arith
+
+    pub skips-upto : here + size + (room - size) ≡ bound
+    skips-upto = let below : size < room = passed .within some in omega arith
+
+    pub skips-fits : bound ≤ length b - 7 → length b < 2 ^ 64 → Fits w64 (here + size)
+    skips-fits h g = let below : size < room = passed .within some in record { fits = omega arith }
+
+pub ruleset skipping = (skips-none, skips-on, skips-within, skips-some, skips-upto, skips-fits, needs)
+
+-- ---- read_packets
+
+module _ (b : List ℕ) (end n : ℕ) (e : List ℕ) (p₀ : PacketsPlace) (r l₀ c₀ : List ℕ) (a : ℕ) where
+  pub plays-first : runFor playing-goes (play-step (entriesOf n e) b end) a (playingOf p₀ r l₀ c₀) ≡ spent 0 (runFor playing-goes (play-step (entriesOf n e) b end) (a - 0) (playingOf p₀ r l₀ c₀))
+  plays-first = loop-start playing-goes (play-step (entriesOf n e) b end) a (playingOf p₀ r l₀ c₀)
+
+  module _ (u : ℕ) (p : PacketsPlace) (l c : List ℕ)
+      (inv : runFor playing-goes (play-step (entriesOf n e) b end) a (playingOf p₀ r l₀ c₀) ≡ spent u (runFor playing-goes (play-step (entriesOf n e) b end) (a - u) (playingOf p r l c))) where
+    pub plays-no-more : a ≤ u → Room n (p .live) (p .made) → PacketsRan b end n e p₀ r l₀ c₀ a (record { place = p; units = u }) l c
+    plays-no-more h room = record { run = loop-out playing-goes (play-step (entriesOf n e) b end) a u (playingOf p r l c) _ inv h; room = room }
+
+    module _ (more : u < a) (here : p .ending ≡ 0) (q : PacketsPlace) (l′ c′ : List ℕ) (s : PacketStepped b end n e p r l c q l′ c′) where
+      pub plays-on : runFor playing-goes (play-step (entriesOf n e) b end) a (playingOf p₀ r l₀ c₀) ≡ spent (u + 1) (runFor playing-goes (play-step (entriesOf n e) b end) (a - (u + 1)) (playingOf q r l′ c′))
+      plays-on = phase-on playing-goes (play-step (entriesOf n e) b end) a u (playingOf p r l c) _ inv more (goes (p .ending) (p .why) here) (playingOf q r l′ c′) (s .step)
+
+      pub plays-to-end : (q .ending ≡ 0 → ⊥) → PacketsRan b end n e p₀ r l₀ c₀ a (record { place = q; units = u + 1 }) l′ c′
+      plays-to-end h =
+          record {
+            run = phase-left playing-goes (play-step (entriesOf n e) b end) a u (playingOf p r l c) _ inv more (goes (p .ending) (p .why) here) (playingOf q r l′ c′) (s .step) (ends (q .ending) (q .why) h);
+            room = s .room;
+          }
+
+      -- and over unknown packets after it
+      module _ (going : q .ending ≡ 0) (bound : ℕ) (inner : bound ≤ end) (x : Skipped) (skips : Skips b bound (q .at) (u + 1) a x) where
+        abbrev moved : PacketsPlace
+        moved = record { at = x .at; live = q .live; made = q .made; own = q .own; ending = q .ending; why = q .why }
+
+        pub plays-skipped : runFor playing-goes (play-step (entriesOf n e) b end) a (playingOf p₀ r l₀ c₀) ≡ spent (x .units) (runFor playing-goes (play-step (entriesOf n e) b end) (a - x .units) (playingOf moved r l′ c′))
+        plays-skipped =
+            let held : Holdings = holdingsOf (q .live) (pick (q .own) l′ r) (q .made) c′ in
+            let from : _≡_ {A = Playing} (playingOf q r l′ c′) (playing-at (q .at) held) = rw (is-going (q .ending) (q .why) going) in
+            let to : _≡_ {A = Playing} (playingOf moved r l′ c′) (playing-at (x .at) held) = rw (is-going (q .ending) (q .why) going) in
+            skips .run (entriesOf n e) end held _ inner (plays-on ∙ rw from) ∙ rw to
+
+pub skips-less : (b : List ℕ) (bound at u a : ℕ) (x : Skipped) → u < a → Skips b bound at (u + 1) a x → a - x .units < a - u
+skips-less b bound at u a x more skips = omega (arith, skips .least, skips .room)
+
+pub ruleset playing-on = (plays-first, plays-no-more, plays-on, plays-to-end, plays-skipped, skips-less, needs)

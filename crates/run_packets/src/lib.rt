@@ -1,0 +1,248 @@
+// The phase of packets: one a unit, from the stream's own part of the memory lent at that unit.
+use kept_entries::Entries;
+use packet_apply::apply::Changed;
+use packet_apply::apply::apply_packet;
+use run_entries::ending::BROKEN;
+use run_entries::ending::DONE;
+use run_entries::ending::GOING;
+use kept_records::Records;
+use kept_resources::resources::Resources;
+use rules::Frame;
+use rules::Packet;
+use rules::Verdict;
+use stream_packets::framing::frame_at;
+use stream_packets::framing::packet_at;
+use stream_packets::framing::unknown_size;
+use widths::index;
+ghost use mathlib.Core.Path.{_≡_};
+ghost use Prim.Native.Nat.{_+_, _-_, _≤_, _^_, _<_};
+ghost use lib.ListN.{length, drop};
+ghost use Rattle.machine.specs.Machine.{pick};
+ghost use Rattle.rules.specs.Stream.{frame-of};
+ghost use Rattle.rules.specs.Packets.{take-packet};
+ghost use Rattle.rules.specs.declared.Frame.the-variants.{Whole};
+ghost use Rattle.kept_entries.specs.Views.{entriesOf};
+ghost use Rattle.kept_resources.specs.Views.{holdingsOf};
+ghost use Rattle.packet_ranges.specs.Views.{Room};
+ghost use Rattle.packet_apply.specs.Apply.{Changes};
+ghost use Rattle.run_packets.specs.Playing.{placeAfter, PacketStepped, Skips, PacketsRan};
+
+// Where the packets stand: the place in the stream, how many resources and records are held, whether the resources are in the
+// submission's own table, how the phase stands, and the number of a rule that is broken, 0 otherwise.
+pub struct PacketsPlace {
+    pub at: usize,
+    pub live: usize,
+    pub made: usize,
+    pub own: bool,
+    pub ending: u32,
+    pub why: u32,
+}
+
+pub struct PacketsRun {
+    pub place: PacketsPlace,
+    pub units: u16,
+}
+
+// The place after a packet of the stream: the next one, the end, or where it was refused.
+fn place_after(at: usize, next: usize, end: usize, x: Changed) -> PacketsPlace
+    ensures { λ r. ⌜ r ≡ placeAfter at next end x ⌝ }
+{
+    let verdict = x.verdict;
+    match verdict {
+        Verdict::Broken(why) => PacketsPlace {
+            at,
+            live: x.live,
+            made: x.made,
+            own: x.own,
+            ending: BROKEN,
+            why: why.code,
+        },
+        Verdict::Fine => {
+            if next < end {
+                return PacketsPlace {
+                    at: next,
+                    live: x.live,
+                    made: x.made,
+                    own: x.own,
+                    ending: GOING,
+                    why: 0,
+                };
+            }
+            PacketsPlace {
+                at: next,
+                live: x.live,
+                made: x.made,
+                own: x.own,
+                ending: DONE,
+                why: 0,
+            }
+        }
+    }
+}
+
+// What a packet came to, and whether it is one that we do not know. That is a hint and nothing is said of it: more such packets are
+// likely to come.
+struct Taken {
+    changed: Changed,
+    unknown: bool,
+}
+
+// The packet that was framed at a place of the stream.
+fn take_packet(
+    stream: &[u8],
+    at: usize,
+    op: u32,
+    size: u32,
+    entries: &Entries,
+    n: usize,
+    rooms: &Resources,
+    held: &mut Resources,
+    records: &mut Records,
+    p: PacketsPlace,
+) -> Taken
+    requires { ⌜ (frame-of (drop at (now stream)) ≡ Whole op size) × Room n (p .live) (p .made) ⌝ }
+    ensures { λ x. ⌜ Changes (take-packet (entriesOf n (now (entries .entry))) (holdingsOf (p .live) (pick (p .own) (now (held .entry)) (now (rooms .entry))) (p .made) (now (records .entry))) (drop at (now (stream .entry)))) (now (rooms .entry)) (x .changed) (now (held .exit)) (now (records .exit)) ⌝ }
+{
+    let packet = packet_at(stream, at, op, size);
+    let own = p.own;
+    let live = p.live;
+    let made = p.made;
+    match packet {
+        Packet::Unknown => Taken {
+            changed: Changed {
+                verdict: Verdict::Fine,
+                live,
+                made,
+                own,
+            },
+            unknown: true,
+        },
+        _ => Taken {
+            changed: apply_packet(entries, n, rooms, held, own, live, records, made, packet),
+            unknown: false,
+        },
+    }
+}
+
+// The place after a unit, and the hint of its packet.
+struct Stepped {
+    place: PacketsPlace,
+    unknown: bool,
+}
+
+// One unit: the packet at the place.
+fn step_packet(
+    stream: &[u8],
+    end: usize,
+    entries: &Entries,
+    n: usize,
+    rooms: &Resources,
+    held: &mut Resources,
+    records: &mut Records,
+    p: PacketsPlace,
+) -> Stepped
+    requires { ⌜ Room n (p .live) (p .made) ⌝ }
+    ensures { λ r. ⌜ PacketStepped (now (stream .entry)) end n (now (entries .entry)) p (now (rooms .entry)) (now (held .entry)) (now (records .entry)) (r .place) (now (held .exit)) (now (records .exit)) ⌝ }
+{
+    let at = p.at;
+    match frame_at(stream, at) {
+        Frame::Misframed(why) => Stepped {
+            place: PacketsPlace {
+                at,
+                live: p.live,
+                made: p.made,
+                own: p.own,
+                ending: BROKEN,
+                why: why.code,
+            },
+            unknown: false,
+        },
+        Frame::Whole(op, size) => {
+            let t = take_packet(stream, at, op, size, entries, n, rooms, held, records, p);
+            Stepped {
+                place: place_after(at, at + index(size), end, t.changed),
+                unknown: t.unknown,
+            }
+        }
+    }
+}
+
+// A place of the stream that packets before it begin below the end and have their header.
+fn inner_bound(stream: &[u8], end: usize) -> usize
+    ensures { λ r. ⌜ (r ≤ length (now (stream .entry)) - 7) × (r ≤ end) ⌝ }
+{
+    let long = stream.len();
+    if long < 7 {
+        return 0;
+    }
+    let last = long - 7;
+    if end < last {
+        return end;
+    }
+    last
+}
+
+// Where a row of unknown packets was left, and the units spent by then.
+struct Skipped {
+    at: usize,
+    units: u16,
+}
+
+// Goes over packets that we do not know, a unit each, up to the first that a step has to look at. It is a loop of its own so that
+// nothing of what other packets need is kept in it.
+fn skip_unknown(stream: &[u8], bound: usize, from: usize, spent: u16, allowance: u16) -> Skipped
+    requires { ⌜ (bound ≤ length (now stream) - 7) × (spent ≤ allowance) ⌝ }
+    ensures { λ r. ⌜ Skips (now (stream .entry)) bound from spent allowance r ⌝ }
+{
+    let mut at = from;
+    let mut units = spent;
+    if at >= bound {
+        return Skipped { at, units };
+    }
+    let mut room = bound - at;
+    while units < allowance {
+        let size = unknown_size(stream, at, room);
+        if size == 0 {
+            return Skipped { at, units };
+        }
+        at += size;
+        room -= size;
+        units += 1;
+    }
+    Skipped { at, units }
+}
+
+// Packets, one a unit, until the allowance is spent, the stream is done or a rule is broken. `rooms` is the device's table of
+// resources, `held` the submission's own.
+pub fn read_packets(
+    stream: &[u8],
+    end: usize,
+    entries: &Entries,
+    n: usize,
+    rooms: &Resources,
+    held: &mut Resources,
+    records: &mut Records,
+    from: PacketsPlace,
+    allowance: u16,
+) -> PacketsRun
+    requires { ⌜ Room n (from .live) (from .made) × (from .ending ≡ 0) ⌝ }
+    ensures { λ r. ⌜ PacketsRan (now (stream .entry)) end n (now (entries .entry)) from (now (rooms .entry)) (now (held .entry)) (now (records .entry)) allowance r (now (held .exit)) (now (records .exit)) ⌝ }
+{
+    let bound = inner_bound(stream, end);
+    let mut p = from;
+    let mut units: u16 = 0;
+    while units < allowance {
+        let t = step_packet(stream, end, entries, n, rooms, held, records, p);
+        p = t.place;
+        units += 1;
+        if p.ending != GOING {
+            return PacketsRun { place: p, units };
+        }
+        if t.unknown {
+            let s = skip_unknown(stream, bound, p.at, units, allowance);
+            p.at = s.at;
+            units = s.units;
+        }
+    }
+    PacketsRun { place: p, units }
+}

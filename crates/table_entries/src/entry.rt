@@ -1,0 +1,101 @@
+// One entry of a table: read once, judged, and kept as a row of four words: id, flags, gpa, end.
+// The kept rows are what later packets resolve their ids against.
+use kept_entries::Entries;
+use kept_entries::WORDS;
+use kept_entries::entry_at;
+use kept_entries::find_entry;
+use rules::Entry;
+use rules::Refusal;
+use rules::Table;
+use rules::Verdict;
+use rules::numbers::BAD_ENTRY;
+use rules::numbers::MOST;
+use rules::numbers::TWICE_IN_TABLE;
+use table_header::header::ENTRY_SIZE;
+use table_header::header::entry_offset;
+use widths::wide;
+ghost use mathlib.Core.Path.{_≡_};
+ghost use Prim.Native.Nat.{_+_, _-_, _≤_, _<_};
+ghost use Rattle.rules.specs.Layouts.{entry};
+ghost use Rattle.rules.specs.Lists.{pushed};
+ghost use Rattle.rules.specs.Numbers.{most};
+ghost use Rattle.rules.specs.Table.{entry-rules, take-entry};
+ghost use Rattle.kept_entries.specs.Views.{entriesOf, takenOf};
+ghost use Rattle.table_entries.specs.Entry.{sound as sound-entry};
+
+// Whether an entry is good by itself: it has an id and bytes, and they lie within memory.
+pub fn sound(memory: u64, e: Entry) -> bool
+    ensures { λ r. ⌜ r ≡ sound-entry memory e ⌝ }
+{
+    if e.id == 0 {
+        return false;
+    }
+    if e.size == 0 {
+        return false;
+    }
+    if e.size > memory {
+        return false;
+    }
+    if e.gpa > memory - e.size {
+        return false;
+    }
+    true
+}
+
+// Judges an entry that was read, after `n` that were kept.
+pub fn judge_entry(memory: u64, e: Entry, kept: &Entries, n: usize) -> Verdict
+    requires { ⌜ n ≤ most ⌝ }
+    ensures { λ r. ⌜ r ≡ entry-rules memory (entriesOf n (now (kept .entry))) e ⌝ }
+{
+    if !sound(memory, e) {
+        return Verdict::Broken(Refusal { code: BAD_ENTRY });
+    }
+    let place = find_entry(kept, n, e.id);
+    if place < n {
+        return Verdict::Broken(Refusal {
+            code: TWICE_IN_TABLE,
+        });
+    }
+    Verdict::Fine
+}
+
+// Keeps an entry after `n` others.
+fn push_entry(kept: &mut Entries, n: usize, e: Entry)
+    requires { ⌜ (n < most) × (e .gpa + e .size < 18446744073709551616) ⌝ }
+    ensures { λ _. ⌜ entriesOf (n + 1) (now (kept .exit)) ≡ pushed (entriesOf n (now (kept .entry))) e ⌝ }
+{
+    // costs nothing, and says how many words there are
+    let all = &kept[..];
+    let b = WORDS * n;
+    kept[b] = wide(e.id);
+    kept[b + 1] = wide(e.flags);
+    kept[b + 2] = e.gpa;
+    kept[b + 3] = e.gpa + e.size;
+}
+
+// One step: judges the entry after the `n` kept ones, over the memory lent at this step, and keeps it if it is fine.
+pub fn take_entry(mem: &[u8], t: Table, kept: &mut Entries, n: usize) -> Verdict
+    requires { ⌜ n ≤ most ⌝ }
+    ensures { λ r. ⌜ takenOf r n (now (kept .exit)) ≡ take-entry (now (mem .entry)) t (entriesOf n (now (kept .entry))) ⌝ }
+{
+    let memory = mem.len() as u64;
+    if n >= MOST {
+        return Verdict::Broken(Refusal { code: BAD_ENTRY });
+    }
+    let offset = entry_offset(t.stride, n as u32);
+    if memory < offset + ENTRY_SIZE {
+        return Verdict::Broken(Refusal { code: BAD_ENTRY });
+    }
+    if t.gpa > memory - (offset + ENTRY_SIZE) {
+        return Verdict::Broken(Refusal { code: BAD_ENTRY });
+    }
+    let e = entry_at(mem, (t.gpa + offset) as usize);
+    let verdict = judge_entry(memory, e, kept, n);
+    match verdict {
+        Verdict::Fine => {
+            push_entry(kept, n, e);
+            Verdict::Fine
+        }
+        Verdict::Broken(why) => Verdict::Broken(why),
+    }
+}
