@@ -60,7 +60,7 @@ impl Device {
         let first = self.first;
         let second = self.second;
         let records = self.records;
-        let answer = register_writes::write(&mut words, offset, value);
+        let answer = registers::writing::write(&mut words, offset, value);
         let device = Device {
             words,
             entries,

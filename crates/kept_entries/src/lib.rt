@@ -43,7 +43,7 @@ pub fn find_entry(kept: &Entries, n: usize, id: u32) -> usize
     requires { ⌜ n ≤ most ⌝ }
     ensures { λ r. ⌜ r ≡ indexOf entry-id id (entriesOf n (now (kept .entry))) ⌝ }
 {
-    finding::find_row(kept, WORDS, n, id)
+    rows::finding::find_row(kept, WORDS, n, id)
 }
 
 // Reads each field of an entry once.

@@ -58,5 +58,5 @@ pub fn find_resource(rooms: &Resources, n: usize, handle: u32) -> usize
     requires { ⌜ n ≤ most ⌝ }
     ensures { λ r. ⌜ r ≡ indexOf handle-of handle (resourcesOf n (now (rooms .entry))) ⌝ }
 {
-    finding::find_row(rooms, WORDS, n, handle)
+    rows::finding::find_row(rooms, WORDS, n, handle)
 }

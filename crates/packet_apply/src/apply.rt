@@ -6,7 +6,7 @@ use packet_create::create::on_texture;
 use packet_destroy::destroy::on_destroy;
 use packet_dirty::dirty::on_dirty;
 use kept_entries::Entries;
-use kept_changes::storing::copy_resources;
+use kept_resources::storing::copy_resources;
 use packet_ranges::applied::Applied;
 use kept_records::Records;
 use kept_resources::resources::Resources;

@@ -2,7 +2,7 @@
 use kept_entries::Entries;
 use kept_entries::entry_row;
 use kept_entries::find_entry;
-use kept_changes::storing::push_resource;
+use kept_resources::storing::push_resource;
 use packet_ranges::applied::Applied;
 use packet_ranges::applied::refuse;
 use kept_records::Records;

@@ -1,6 +1,6 @@
 // The destroy packet: a live resource is gone, and the last of the others takes its room.
 // The records are not lent: the contract holds whatever they are.
-use kept_changes::storing::remove_resource;
+use kept_resources::storing::remove_resource;
 use packet_ranges::applied::Applied;
 use packet_ranges::applied::refuse;
 use kept_resources::resources::Resources;

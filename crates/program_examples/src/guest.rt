@@ -40,7 +40,7 @@ fn put_word(mem: &mut [u8], start: usize, field: usize, v: u32) {
     }
     let at = start + field;
     let end = at + 4;
-    stores::put_u32(&mut mem[at..end], v);
+    words::stores::put_u32(&mut mem[at..end], v);
 }
 
 fn put_long(mem: &mut [u8], start: usize, field: usize, v: u64)

@@ -41,7 +41,7 @@ fn minimum_line(example: u32, s: Shape) {
     say_shape(example, s);
     say_named(
         b", minimum pitch: ",
-        texture_formats::minimum_pitch(s.format, s.width),
+        texture_shapes::formats::minimum_pitch(s.format, s.width),
     );
     say(b"\n");
 }

@@ -1,2 +1,4 @@
 pub mod Map
 pub mod Laws
+pub mod Views
+pub mod Writing

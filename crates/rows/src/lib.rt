@@ -1,4 +1,6 @@
 // Rows of words in a flat list: moved, copied, and counted out in a guest's table.
+pub mod finding;
+
 ghost use mathlib.Core.Path.{_≡_};
 ghost use Prim.Native.Nat.{_+_, _*_, _≤_};
 ghost use lib.ListN.{length, take};

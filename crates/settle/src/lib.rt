@@ -23,9 +23,9 @@ fn put_page(page: &mut [u8], completed: u64)
     requires { ⌜ page-size ≤ length (now page) ⌝ }
     ensures { λ _. ⌜ now (page .exit) ≡ over 0 (page-bytes completed) (now (page .entry)) ⌝ }
 {
-    stores::put_u32(&mut page[0..4], PAGE_MAGIC);
-    stores::put_u32(&mut page[4..8], VERSION);
-    stores::put_u64(&mut page[8..16], completed);
+    words::stores::put_u32(&mut page[0..4], PAGE_MAGIC);
+    words::stores::put_u32(&mut page[4..8], VERSION);
+    words::stores::put_u64(&mut page[8..16], completed);
 }
 
 // Moves the head of the opened ring on by one; where the ring does not lie within memory, nothing is written.
@@ -43,7 +43,7 @@ pub fn write_head(mem: &mut [u8], job: Job)
     }
     let at = ring + HEAD_OFFSET;
     let end = ring + HEAD_END;
-    stores::put_u32(&mut mem[at..end], next);
+    words::stores::put_u32(&mut mem[at..end], next);
 }
 
 // Writes the fence page; at 0, and where it does not lie within memory, nothing is written.

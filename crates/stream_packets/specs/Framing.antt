@@ -11,7 +11,7 @@ use lib.Dec.{ltb, eqb}
 use lib.ListN.{length, take, drop, length-drop}
 use lib.Seq.{drop-drop, length-take-le}
 use Rattle.rows.specs.Keys.{same-or-not}
-use Rattle.stream_fields.specs.Fields.{knowing, known-none, says-nothing}
+use Rattle.stream_packets.specs.Fields.{knowing, known-none, says-nothing}
 use Rattle.rules.specs.Numbers.{bad-packet}
 use Rattle.rule_laws.specs.Fine.{all-kept}
 use Rattle.rules.specs.Judging.{refusal, rule, _▹_}

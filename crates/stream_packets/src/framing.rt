@@ -6,7 +6,7 @@ ghost use lib.ListN.{length, take, drop};
 ghost use Rattle.rules.specs.Stream.{wrong-size, frame-of, packet-of};
 ghost use Rattle.stream_packets.specs.Framing.{frame-by, Passed};
 ghost use Rattle.rules.specs.declared.Frame.the-variants.{Whole};
-use stream_fields::packet_from;
+use crate::fields::packet_from;
 use rules::Frame;
 use rules::Packet;
 use rules::Refusal;

@@ -8,8 +8,8 @@ use native.Mathlib.Omega.{arith}
 use lib.Dec.{ltb, leb, lit<}
 use borrow.Author.Tests.{ltb-true, ltb-false, le-leb, lt-leb}
 use Rattle.rules.specs.Shapes.{larger, halvings, full-chain}
-use Rattle.texture_formats.specs.Formats.{pick-le}
-use Rattle.texture_formats.specs.Bounds.{longest-chain}
+use Rattle.texture_shapes.specs.Formats.{pick-le}
+use Rattle.texture_shapes.specs.Bounds.{longest-chain}
 
 pub halvings-le : (j n : ℕ) → halvings j n ≤ j
 unfolding halvings

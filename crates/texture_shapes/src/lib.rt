@@ -1,7 +1,9 @@
 // Which texture shapes are good, and which pitches.
-use texture_formats::larger_of;
-use texture_formats::minimum_pitch;
-use texture_formats::unit_of;
+pub mod formats;
+
+use crate::formats::larger_of;
+use crate::formats::minimum_pitch;
+use crate::formats::unit_of;
 use rules::Shape;
 use rules::numbers::LONGEST_SIDE;
 use rules::numbers::MOST_LAYERS;

@@ -10,9 +10,9 @@ use borrow.Author.Needs.{needs}
 use Rattle.rules.specs.Numbers.{longest-side}
 use Rattle.rules.specs.Shapes.{blocks, mip-side, tight, rows, mip-bytes}
 use Rattle.rules.specs.declared.Shape.{Shape}
-use Rattle.texture_formats.specs.Formats.{blocks-le}
-use Rattle.texture_formats.specs.Bounds.{Bounded, most-of-mip, mip-side-le, tight-le, mip-bytes-le}
-use Rattle.texture_formats.specs.Rows.{side-fits}
+use Rattle.texture_shapes.specs.Formats.{blocks-le}
+use Rattle.texture_shapes.specs.Bounds.{Bounded, most-of-mip, mip-side-le, tight-le, mip-bytes-le}
+use Rattle.texture_shapes.specs.Rows.{side-fits}
 
 -- ---- the bytes of a mip
 

@@ -11,8 +11,8 @@ use Rattle.machine.specs.Machine.{pick}
 use Rattle.rules.specs.Numbers.{most-layers}
 use Rattle.rules.specs.Shapes.{mip-side, tight, rows, mip-bytes, offset-of, subresources, good-backed, texture-bytes, packed-size}
 use Rattle.rules.specs.declared.Shape.{Shape}
-use Rattle.texture_formats.specs.Formats.{blocks-positive}
-use Rattle.texture_formats.specs.Bounds.{Bounded, longest-chain, few-subresources, offset-le}
+use Rattle.texture_shapes.specs.Formats.{blocks-positive}
+use Rattle.texture_shapes.specs.Bounds.{Bounded, longest-chain, few-subresources, offset-le}
 use Rattle.texture_shapes.specs.Good.{keeps-limits, backed-shape, backed-pitch}
 
 mul-positive : (a b : ℕ) → 0 < a → 0 < b → 0 < a * b

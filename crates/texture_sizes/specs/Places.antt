@@ -11,7 +11,7 @@ use Rattle.rules.specs.Numbers.{most-layers}
 use Rattle.rules.specs.Shapes.{offset-of, subresources, good-backed, texture-bytes, packed-size, start-of}
 use Rattle.rules.specs.declared.Shape.{Shape}
 use Rattle.rules.specs.declared.Start.the-variants.{At, Nowhere}
-use Rattle.texture_formats.specs.Bounds.{Bounded, longest-chain, most-of-mip, few-subresources}
+use Rattle.texture_shapes.specs.Bounds.{Bounded, longest-chain, most-of-mip, few-subresources}
 use Rattle.texture_sizes.specs.Layers.{offset-of-layer, offset-of-mip}
 use Rattle.texture_sizes.specs.Packed.{backed-limits, packed-bad, packed-good}
 

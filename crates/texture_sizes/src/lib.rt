@@ -1,15 +1,15 @@
 // Where the bytes of a texture stand. One layer is worked out mip by mip, and multiplied: a caller pays for at most 15 mips, whatever
 // the layers.
-use texture_formats::blocks_of;
-use texture_formats::side_at;
-use texture_formats::tight_row;
+use texture_shapes::formats::blocks_of;
+use texture_shapes::formats::side_at;
+use texture_shapes::formats::tight_row;
 use rules::Shape;
 use rules::Start;
 use texture_shapes::good_backed;
 ghost use mathlib.Core.Path.{_≡_};
 ghost use Prim.Native.Nat.{_*_, _≤_, _<_};
 ghost use Rattle.rules.specs.Shapes.{mip-bytes, offset-of, packed-size, start-of};
-ghost use Rattle.texture_formats.specs.Bounds.{Bounded, most-of-mip};
+ghost use Rattle.texture_shapes.specs.Bounds.{Bounded, most-of-mip};
 
 // The bytes of one mip: only mip 0 has the guest's pitch.
 fn bytes_of_mip(s: Shape, pitch: u32, mip: u32) -> u64

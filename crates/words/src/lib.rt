@@ -1,4 +1,6 @@
 // Little-endian words read from a slice of bytes, each by one load: what every other crate reads its numbers with.
+pub mod stores;
+
 use widths::wide;
 ghost use mathlib.Core.Path.{_≡_};
 ghost use Prim.Native.Nat.{_+_, _/_, _%_, _≤_, _<_};

@@ -14,7 +14,7 @@ ghost use mathlib.Core.Path.{_≡_};
 ghost use Prim.Native.Nat.{_≤_};
 ghost use Rattle.rules.specs.Calls.{ended-number};
 ghost use Rattle.run_state.specs.Views.{setIn};
-ghost use Rattle.register_writes.specs.Views.{Writes};
+ghost use Rattle.registers.specs.Views.{Writes};
 ghost use Rattle.device_calls.specs.Views.{Makes};
 ghost use Rattle.device_memory_calls.specs.Views.{Answers};
 ghost use Rattle.zelezmut.specs.Said.{recordWords, SaysValue, SaysRun, SaysRecord};
@@ -66,7 +66,7 @@ pub extern "C" fn zelezmut_make(words: &mut Words, memory: u64)
 pub extern "C" fn zelezmut_write(words: &mut Words, offset: u32, value: u32) -> u32
     ensures { λ r. ⌜ Writes (now (words .entry)) offset value r (now (words .exit)) ⌝ }
 {
-    register_writes::write(words, offset, value)
+    registers::writing::write(words, offset, value)
 }
 
 // Reads a register: its value, and 2^32 times the call's answer.

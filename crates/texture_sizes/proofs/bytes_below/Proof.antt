@@ -5,7 +5,7 @@ use Prim.Native.Nat.{_≤_, _-_, _*_}
 use native.Mathlib.Omega.{arith}
 use borrow.Author.Needs.{needs}
 use Rattle.rules.specs.Shapes.{offset-of}
-use Rattle.texture_formats.specs.Bounds.{most-of-mip}
+use Rattle.texture_shapes.specs.Bounds.{most-of-mip}
 use Rattle.texture_sizes.specs.Layers.{summing}
 use Rattle.texture_sizes.proofs.bytes_below.Statement.{statement}
 use Rattle.texture_sizes.proofs.bytes_below.Tie as tie
