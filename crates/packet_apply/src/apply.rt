@@ -1,15 +1,15 @@
 // One packet that was framed and read, whatever it is. One whose opcode we do not know touches nothing.
 // A submission's resources are the device's until its first create or destroy; that copies them to a table of its own.
+use kept_entries::Entries;
+use kept_records::Records;
+use kept_resources::resources::Resources;
+use kept_resources::storing::copy_resources;
 use packet_copy::copy::on_copy;
 use packet_create::create::on_buffer;
 use packet_create::create::on_texture;
 use packet_destroy::destroy::on_destroy;
 use packet_dirty::dirty::on_dirty;
-use kept_entries::Entries;
-use kept_resources::storing::copy_resources;
 use packet_ranges::applied::Applied;
-use kept_records::Records;
-use kept_resources::resources::Resources;
 use rules::CopyBuffer;
 use rules::CreateBuffer;
 use rules::CreateTexture;

@@ -1,15 +1,15 @@
 // The copy packet: bytes of one live buffer into another; with writeback the range of the destination is handed to the host.
 use kept_entries::Entries;
+use kept_records::Records;
+use kept_resources::resources::Resources;
+use kept_resources::resources::find_resource;
+use kept_resources::resources::resource_row;
 use packet_ranges::applied::Applied;
 use packet_ranges::applied::refuse;
 use packet_ranges::handout::Resolved;
 use packet_ranges::handout::beyond;
 use packet_ranges::handout::hand_out;
 use packet_ranges::handout::resolve;
-use kept_records::Records;
-use kept_resources::resources::Resources;
-use kept_resources::resources::find_resource;
-use kept_resources::resources::resource_row;
 use rules::CopyBuffer;
 use rules::Kind;
 use rules::Resource;

@@ -1,10 +1,10 @@
 // Create: a new resource, host-backed or within an entry of the table; a backed one is handed out as a record.
 // The handle is looked up by one scan, the entry by another; nothing is copied.
-use packet_create_rules::create;
 use kept_entries::Entries;
-use packet_ranges::applied::Applied;
 use kept_records::Records;
 use kept_resources::resources::Resources;
+use packet_create_rules::create;
+use packet_ranges::applied::Applied;
 use rules::CreateBuffer;
 use rules::CreateTexture;
 use rules::Kind;

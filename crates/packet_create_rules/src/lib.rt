@@ -2,13 +2,13 @@
 use kept_entries::Entries;
 use kept_entries::entry_row;
 use kept_entries::find_entry;
-use kept_resources::storing::push_resource;
-use packet_ranges::applied::Applied;
-use packet_ranges::applied::refuse;
 use kept_records::Records;
 use kept_records::push_record;
 use kept_resources::resources::Resources;
 use kept_resources::resources::find_resource;
+use kept_resources::storing::push_resource;
+use packet_ranges::applied::Applied;
+use packet_ranges::applied::refuse;
 use rules::Record;
 use rules::Resource;
 use rules::Verdict;

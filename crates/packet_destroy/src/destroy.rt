@@ -1,10 +1,10 @@
 // The destroy packet: a live resource is gone, and the last of the others takes its room.
 // The records are not lent: the contract holds whatever they are.
+use kept_resources::resources::Resources;
+use kept_resources::resources::find_resource;
 use kept_resources::storing::remove_resource;
 use packet_ranges::applied::Applied;
 use packet_ranges::applied::refuse;
-use kept_resources::resources::Resources;
-use kept_resources::resources::find_resource;
 use rules::DestroyResource;
 use rules::Verdict;
 use rules::numbers::BAD_HANDLE;

@@ -1,15 +1,15 @@
 // The dirty packet: a range of a backed resource that the host is to read again.
 use kept_entries::Entries;
+use kept_records::Records;
+use kept_resources::resources::Resources;
+use kept_resources::resources::find_resource;
+use kept_resources::resources::resource_row;
 use packet_ranges::applied::Applied;
 use packet_ranges::applied::refuse;
 use packet_ranges::handout::Resolved;
 use packet_ranges::handout::beyond;
 use packet_ranges::handout::hand_out;
 use packet_ranges::handout::resolve;
-use kept_records::Records;
-use kept_resources::resources::Resources;
-use kept_resources::resources::find_resource;
-use kept_resources::resources::resource_row;
 use rules::DirtyRange;
 use rules::numbers::BAD_HANDLE;
 use rules::numbers::HOST_BACKED;

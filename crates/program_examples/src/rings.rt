@@ -9,12 +9,12 @@ use crate::lines::say;
 use crate::lines::say_example;
 use crate::lines::say_judged;
 use crate::lines::say_named;
+use ring_header::header::header_at;
 use ring_opening::opening::open;
 use rules::Descriptor;
 use rules::Opening;
 use rules::numbers::BAD_RING;
 use rules::numbers::DESCRIPTOR_SIZE;
-use ring_header::header::header_at;
 
 // A submission without a table and without a stream.
 fn empty_submission(signal: u64) -> Descriptor {

@@ -1,11 +1,11 @@
 // Where a phase has come to, on the device's words: going on, done, or broken by a rule. A refusal settles within its unit, and the
 // device's resources stay as they were.
+use rules::Refusal;
+use run_begin::begin_packets;
 use run_entries::ending::DONE;
 use run_entries::ending::GOING;
 use run_entries::entries::EntriesPlace;
 use run_packets::PacketsPlace;
-use rules::Refusal;
-use run_begin::begin_packets;
 use run_settle::settle_refused;
 use run_state::HELD;
 use run_state::KEPT;

@@ -1,17 +1,17 @@
 // A run on the device's words, turn by turn: an opening is one unit, a phase as many as the allowance and its own length let.
 // So the hot loops are the phases', and the contract is still unit by unit.
 use kept_entries::Entries;
-use run_entries::ending::GOING;
-use run_entries::entries::read_entries;
-use run_packets::PacketsPlace;
-use run_packets::PacketsRun;
-use run_packets::read_packets;
 use kept_records::Records;
 use kept_resources::resources::Resources;
 use rules::Stream;
 use run_after_phase::land_entries;
 use run_after_phase::land_packets;
+use run_entries::ending::GOING;
+use run_entries::entries::read_entries;
 use run_open::open_ring;
+use run_packets::PacketsPlace;
+use run_packets::PacketsRun;
+use run_packets::read_packets;
 use run_state::DOORBELL;
 use run_state::ENABLED;
 use run_state::ENTRIES;

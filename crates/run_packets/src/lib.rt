@@ -1,15 +1,15 @@
 // The phase of packets: one a unit, from the stream's own part of the memory lent at that unit.
 use kept_entries::Entries;
-use packet_apply::apply::Changed;
-use packet_apply::apply::apply_packet;
-use run_entries::ending::BROKEN;
-use run_entries::ending::DONE;
-use run_entries::ending::GOING;
 use kept_records::Records;
 use kept_resources::resources::Resources;
+use packet_apply::apply::Changed;
+use packet_apply::apply::apply_packet;
 use rules::Frame;
 use rules::Packet;
 use rules::Verdict;
+use run_entries::ending::BROKEN;
+use run_entries::ending::DONE;
+use run_entries::ending::GOING;
 use stream_packets::framing::frame_at;
 use stream_packets::framing::packet_at;
 use stream_packets::framing::unknown_size;

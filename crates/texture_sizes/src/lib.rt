@@ -1,10 +1,10 @@
 // Where the bytes of a texture stand. One layer is worked out mip by mip, and multiplied: a caller pays for at most 15 mips, whatever
 // the layers.
+use rules::Shape;
+use rules::Start;
 use texture_shapes::formats::blocks_of;
 use texture_shapes::formats::side_at;
 use texture_shapes::formats::tight_row;
-use rules::Shape;
-use rules::Start;
 use texture_shapes::good_backed;
 ghost use mathlib.Core.Path.{_≡_};
 ghost use Prim.Native.Nat.{_*_, _≤_, _<_};
