@@ -13,8 +13,8 @@ use Rattle.rules.specs.Table.{entry-rules}
 use Rattle.rules.specs.Ring.{power-of-two, pending, slot, good-header, good-ring, opening-of}
 use Rattle.rules.specs.Shapes.{block-bytes, block-side, halvings, full-chain, mip-side, blocks, tight, rows, mip-bytes, offset-of, good-shape, good-backed, texture-bytes, packed-size, index-of, start-of}
 use Rattle.rules.specs.Packets.{at-first, on-texture-packet, create, create-backed}
-use Rattle.rules.specs.State.{World, made, with-regs}
-use Rattle.rules.specs.Settle.{ended-by, signalled, faulted, quieted, next-head}
+use Rattle.rules.specs.State.{World, made, with-regs, registers-of, no-error}
+use Rattle.rules.specs.Settle.{ended-by, signalled, faulted, doorbell-cleared, next-head}
 use Rattle.rules.specs.Registers.{status}
 use Rattle.rules.specs.Steps.{step, open-step}
 use Rattle.rules.specs.declared.Entry.{Entry}
@@ -55,21 +55,7 @@ start Nowhere = 0
 -- ---- fences
 
 unfoldable pub completed-nine : Registers
-completed-nine =
-    record {
-      ring = 0;
-      ringsize = 0;
-      enabled = true;
-      page = 0;
-      completed = 9;
-      fenced = false;
-      failed = false;
-      irqenable = 0;
-      code = 0;
-      fence = 0;
-      errors = 0;
-      rung = true;
-    }
+completed-nine = registers-of 0 0 true 0 9 false false 0 no-error true
 
 unfoldable pub after-signal : ℕ → Registers
 after-signal fence = ended-by (record { ring = 0; head = 0; signal = fence; silent = false }) Fine completed-nine
@@ -93,20 +79,7 @@ header head tail = ring-header (ring head tail) 0
 unfoldable pub rung : ℕ → ℕ → World
 rung head tail =
     record {
-      state = with-regs (record {
-        ring = 0;
-        ringsize = 576;
-        enabled = true;
-        page = 0;
-        completed = 0;
-        fenced = false;
-        failed = false;
-        irqenable = 0;
-        code = 0;
-        fence = 0;
-        errors = 0;
-        rung = true;
-      }) (made 576);
+      state = with-regs (registers-of 0 576 true 0 0 false false 0 no-error true) (made 576);
       mem = ring head tail;
     }
 
@@ -145,7 +118,7 @@ night-log =
     ∷ slot (header 4294967295 0) ⇒ 7
     ∷ next-head 4294967295 ⇒ 0
     -- 7. Head 0, tail 9, count 8: 10.
-    ∷ step (rung 0 9) .state .regs .code ⇒ 10
+    ∷ step (rung 0 9) .state .regs .error .code ⇒ 10
     -- 8. Memory 4,096: gpa 0 size 4,096 passes; gpa 1 gives 14.
     ∷ entry-error 0 4096 ⇒ 0
     ∷ entry-error 1 4096 ⇒ 14
@@ -157,5 +130,5 @@ agree (c ∷ cs) = eqb (c .given) (c .says) && agree cs
 
 -- the rules give what the night log says, in every example
 pub night-log-holds : agree night-log ≡ true
-unfolding packed-size good-backed good-shape block-bytes block-side halvings full-chain mip-side blocks tight rows mip-bytes offset-of texture-bytes start-of on-texture-packet create create-backed lookup ended-by signalled faulted quieted le bytesOf ring-header power-of-two good-header good-ring opening-of open-step step entry-rules night-log shape roomy creating start completed-nine after-signal zeros ring header rung entry-error agree
+unfolding packed-size good-backed good-shape block-bytes block-side halvings full-chain mip-side blocks tight rows mip-bytes offset-of texture-bytes start-of on-texture-packet create create-backed lookup ended-by signalled faulted doorbell-cleared le bytesOf ring-header power-of-two good-header good-ring opening-of open-step step entry-rules night-log shape roomy creating start completed-nine after-signal zeros ring header rung entry-error agree
 night-log-holds = refl

@@ -6,7 +6,7 @@ use lib.Dec.{eqb}
 use Rattle.machine.specs.Machine.{pick}
 use Rattle.rules.specs.Numbers.{device-magic, version, features}
 use Rattle.rules.specs.Lists.{Found, lookup}
-use Rattle.rules.specs.State.{State, with-regs}
+use Rattle.rules.specs.State.{State, with-written, with-told, with-regs}
 use Rattle.rules.specs.State.Work.{resting}
 use Rattle.rules.specs.declared.Registers.{Registers}
 
@@ -68,10 +68,10 @@ readable r =
     ∷ shows 0x134 (high (r .completed))
     ∷ shows 0x300 (status r)
     ∷ shows 0x304 (r .irqenable)
-    ∷ shows 0x310 (r .code)
-    ∷ shows 0x314 (low (r .fence))
-    ∷ shows 0x318 (high (r .fence))
-    ∷ shows 0x31c (r .errors)
+    ∷ shows 0x310 (r .error .code)
+    ∷ shows 0x314 (low (r .error .fence))
+    ∷ shows 0x318 (high (r .error .fence))
+    ∷ shows 0x31c (r .error .count)
     ∷ []
 
 unfoldable pub register : Registers → ℕ → Found Read
@@ -79,66 +79,33 @@ register r offset = lookup read-offset offset (readable r)
 
 -- ---- what is written
 
--- the registers with these numbers for what the guest can write, and for the flag and status
-abbrev pub revised : Registers → ℕ → ℕ → Bool → ℕ → ℕ → Bool → Bool → Bool → Registers
-revised r ring ringsize enabled page irqenable fenced failed rung =
-    record {
-      ring = ring;
-      ringsize = ringsize;
-      enabled = enabled;
-      page = page;
-      completed = r .completed;
-      fenced = fenced;
-      failed = failed;
-      irqenable = irqenable;
-      code = r .code;
-      fence = r .fence;
-      errors = r .errors;
-      rung = rung;
-    }
-
 abbrev pub with-ring : ℕ → Registers → Registers
-with-ring v r = revised r v (r .ringsize) (r .enabled) (r .page) (r .irqenable) (r .fenced) (r .failed) (r .rung)
+with-ring v r = with-written r v (r .ringsize) (r .enabled) (r .page) (r .irqenable)
 
 abbrev pub with-ringsize : ℕ → Registers → Registers
-with-ringsize v r = revised r (r .ring) v (r .enabled) (r .page) (r .irqenable) (r .fenced) (r .failed) (r .rung)
+with-ringsize v r = with-written r (r .ring) v (r .enabled) (r .page) (r .irqenable)
 
 abbrev pub with-enabled : Bool → Registers → Registers
-with-enabled v r = revised r (r .ring) (r .ringsize) v (r .page) (r .irqenable) (r .fenced) (r .failed) (r .rung)
+with-enabled v r = with-written r (r .ring) (r .ringsize) v (r .page) (r .irqenable)
 
 abbrev pub with-page : ℕ → Registers → Registers
-with-page v r = revised r (r .ring) (r .ringsize) (r .enabled) v (r .irqenable) (r .fenced) (r .failed) (r .rung)
+with-page v r = with-written r (r .ring) (r .ringsize) (r .enabled) v (r .irqenable)
 
 abbrev pub with-irqenable : ℕ → Registers → Registers
-with-irqenable v r = revised r (r .ring) (r .ringsize) (r .enabled) (r .page) v (r .fenced) (r .failed) (r .rung)
+with-irqenable v r = with-written r (r .ring) (r .ringsize) (r .enabled) (r .page) v
 
 -- "A doorbell write of any number sets the flag, enabled or not."
 abbrev pub with-doorbell : Registers → Registers
-with-doorbell r = revised r (r .ring) (r .ringsize) (r .enabled) (r .page) (r .irqenable) (r .fenced) (r .failed) true
+with-doorbell r = with-told r (r .completed) (r .fenced) (r .failed) (r .error) true
 
 -- "Ack clears the status bits written as 1."
 abbrev pub acknowledged : ℕ → Registers → Registers
 acknowledged v r =
-    revised r (r .ring) (r .ringsize) (r .enabled) (r .page) (r .irqenable)
-    (r .fenced && not (bit-of 0 v)) (r .failed && not (bit-of 1 v)) (r .rung)
+    with-told r (r .completed) (r .fenced && not (bit-of 0 v)) (r .failed && not (bit-of 1 v)) (r .error) (r .rung)
 
 -- "completed fence, IRQ status and doorbell flag become .. zero; error registers stay; .. other registers stay"
 unfoldable pub reset-registers : Bool → Registers → Registers
-reset-registers enabled r =
-    record {
-      ring = r .ring;
-      ringsize = r .ringsize;
-      enabled = enabled;
-      page = r .page;
-      completed = 0;
-      fenced = false;
-      failed = false;
-      irqenable = r .irqenable;
-      code = r .code;
-      fence = r .fence;
-      errors = r .errors;
-      rung = false;
-    }
+reset-registers enabled r = with-told (with-enabled enabled r) 0 false false (r .error) false
 
 -- "Bit 1 resets: the submission in work is dropped without fence, head or error; resources .. become empty"
 unfoldable pub reset : Bool → State → State

@@ -10,7 +10,7 @@ use Rattle.rules.specs.Bytes.{bytesOf}
 use Rattle.rules.specs.Lists.{over}
 use Rattle.rules.specs.Layouts.{head-offset, page-bytes}
 use Rattle.rules.specs.Shapes.{larger}
-use Rattle.rules.specs.State.{World, registering}
+use Rattle.rules.specs.State.{World, with-told, registering}
 use Rattle.rules.specs.State.Work.{resting}
 use Rattle.rules.specs.declared.Registers.{Registers}
 use Rattle.rules.specs.declared.Resource.{Resource}
@@ -25,56 +25,16 @@ one-more n = pick (ltb n (2 ^ 32 - 1)) (n + 1) n
 -- "Error: code, fence = signal fence, count + 1, status bit 1."
 unfoldable pub faulted : ℕ → ℕ → Registers → Registers
 faulted code fence r =
-    record {
-      ring = r .ring;
-      ringsize = r .ringsize;
-      enabled = r .enabled;
-      page = r .page;
-      completed = r .completed;
-      fenced = r .fenced;
-      failed = true;
-      irqenable = r .irqenable;
-      code = code;
-      fence = fence;
-      errors = one-more (r .errors);
-      rung = r .rung;
-    }
+    with-told r (r .completed) (r .fenced) true (record { code = code; fence = fence; count = one-more (r .error .count) }) (r .rung)
 
 -- "Completed = larger of completed and signal fence; status bit 0 is set if it rose and no-IRQ is clear."
 unfoldable pub signalled : ℕ → Bool → Registers → Registers
 signalled fence silent r =
-    record {
-      ring = r .ring;
-      ringsize = r .ringsize;
-      enabled = r .enabled;
-      page = r .page;
-      completed = larger (r .completed) fence;
-      fenced = r .fenced || (ltb (r .completed) fence && not silent);
-      failed = r .failed;
-      irqenable = r .irqenable;
-      code = r .code;
-      fence = r .fence;
-      errors = r .errors;
-      rung = r .rung;
-    }
+    with-told r (larger (r .completed) fence) (r .fenced || (ltb (r .completed) fence && not silent)) (r .failed) (r .error) (r .rung)
 
--- the flag cleared
-unfoldable pub quieted : Registers → Registers
-quieted r =
-    record {
-      ring = r .ring;
-      ringsize = r .ringsize;
-      enabled = r .enabled;
-      page = r .page;
-      completed = r .completed;
-      fenced = r .fenced;
-      failed = r .failed;
-      irqenable = r .irqenable;
-      code = r .code;
-      fence = r .fence;
-      errors = r .errors;
-      rung = false;
-    }
+-- the doorbell flag cleared
+unfoldable pub doorbell-cleared : Registers → Registers
+doorbell-cleared r = with-told r (r .completed) (r .fenced) (r .failed) (r .error) false
 
 -- a submission's last word to the registers: its error, if any, then its fence
 abbrev pub faulted-by : Verdict → ℕ → Registers → Registers
@@ -129,8 +89,8 @@ settled-keeping j v w = settled j v (w .state .resources) w
 
 -- "A bad ring clears the flag, sets the error with fence 0 and settles nothing."
 abbrev pub ring-refused : World → World
-ring-refused w = registering (quieted (faulted bad-ring 0 (w .state .regs))) w
+ring-refused w = registering (doorbell-cleared (faulted bad-ring 0 (w .state .regs))) w
 
 -- "Head = tail clears the flag."
 abbrev pub found-no-work : World → World
-found-no-work w = registering (quieted (w .state .regs)) w
+found-no-work w = registering (doorbell-cleared (w .state .regs)) w

@@ -1,8 +1,9 @@
 -- 01, "State and calls": the device's state, and the memory beside it. What a phase does not use is no part of it.
-use mathlib.Core.Bool.{false}
+use mathlib.Core.Bool.{Bool, false}
 use mathlib.Core.List.{List, []}
 use Prim.Native.Nat.{ℕ}
 use Rattle.rules.specs.Packets.{Holdings}
+use Rattle.rules.specs.declared.LastError.{LastError}
 use Rattle.rules.specs.declared.Registers.{Registers}
 use Rattle.rules.specs.declared.Entry.{Entry}
 use Rattle.rules.specs.declared.Resource.{Resource}
@@ -31,23 +32,39 @@ pub record World : Type 0 where
   pub state : State
   pub mem : List ℕ
 
+-- ---- registers: all of them are named in one place
+
+abbrev pub registers-of : ℕ → ℕ → Bool → ℕ → ℕ → Bool → Bool → ℕ → LastError → Bool → Registers
+registers-of ring ringsize enabled page completed fenced failed irqenable error rung =
+    record {
+      ring = ring;
+      ringsize = ringsize;
+      enabled = enabled;
+      page = page;
+      completed = completed;
+      fenced = fenced;
+      failed = failed;
+      irqenable = irqenable;
+      error = error;
+      rung = rung;
+    }
+
+-- the same registers with other numbers where the guest writes: ring, its size, enabled, page, IRQ enable
+abbrev pub with-written : Registers → ℕ → ℕ → Bool → ℕ → ℕ → Registers
+with-written r ring ringsize enabled page irqenable =
+    registers-of ring ringsize enabled page (r .completed) (r .fenced) (r .failed) irqenable (r .error) (r .rung)
+
+-- the same with others where the device tells: completed fence, the two status bits, the last error, the doorbell flag
+abbrev pub with-told : Registers → ℕ → Bool → Bool → LastError → Bool → Registers
+with-told r completed fenced failed error rung =
+    registers-of (r .ring) (r .ringsize) (r .enabled) (r .page) completed fenced failed (r .irqenable) error rung
+
+abbrev pub no-error : LastError
+no-error = record { code = 0; fence = 0; count = 0 }
+
 -- "starts as after a reset, with error and writable registers zero"
 abbrev pub fresh : Registers
-fresh =
-    record {
-      ring = 0;
-      ringsize = 0;
-      enabled = false;
-      page = 0;
-      completed = 0;
-      fenced = false;
-      failed = false;
-      irqenable = 0;
-      code = 0;
-      fence = 0;
-      errors = 0;
-      rung = false;
-    }
+fresh = registers-of 0 0 false 0 0 false false 0 no-error false
 
 abbrev pub made : ℕ → State
 made memory = record { memory = memory; regs = fresh; resources = []; work = resting }

@@ -197,6 +197,13 @@ pub enum Opening {
 
 // ---- Registers and answers
 
+// The last error: its code, the signal fence of its submission, and how many there were. They change together.
+pub struct LastError {
+    pub code: u32,
+    pub fence: u64,
+    pub count: u32,
+}
+
 // The registers' numbers, and the doorbell flag (`rung`). IRQ status is its two bits.
 pub struct Registers {
     pub ring: u64,
@@ -207,9 +214,7 @@ pub struct Registers {
     pub fenced: bool,
     pub failed: bool,
     pub irqenable: u32,
-    pub code: u32,
-    pub fence: u64,
-    pub errors: u32,
+    pub error: LastError,
     pub rung: bool,
 }
 

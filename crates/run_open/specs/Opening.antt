@@ -6,7 +6,7 @@ use borrow.Author.Needs.{needs}
 use lib.ListN.{length, getD, set}
 use Rattle.rules.specs.Ring.{opening-of}
 use Rattle.rules.specs.State.{World}
-use Rattle.rules.specs.Settle.{one-more, faulted, quieted, settled-keeping}
+use Rattle.rules.specs.Settle.{one-more, faulted, doorbell-cleared, settled-keeping}
 use Rattle.rules.specs.Steps.{after-opening}
 use Rattle.rules.specs.Settle.{ring-refused}
 use Rattle.rules.specs.declared.Job.{Job}
@@ -38,7 +38,7 @@ ring-faulted errors w = set (set (set (set (set w 7 1) 9 10) 10 0) 11 errors) 12
 
 pub faults-ring : (s : List ℕ) (low more errors : ℕ) → length s ≡ 32 → low ≡ smallIn (getD s 11 0) → more ≡ one-more low → (errors ≡ more) × (errors < 4294967296)
     → FaultsRing s (set (set (set (set (set s 7 1) 9 10) 10 0) 11 errors) 12 0)
-unfolding worldIn faulted quieted
+unfolding worldIn faulted doorbell-cleared
 faults-ring s low more errors long a b c =
     record {
       world = λ none e r h x m. spell (λ w. worldIn (ring-faulted errors w) e r h x m) s long ∙ rw (none, small-as errors more c, b, a);
@@ -58,7 +58,7 @@ module _ (s m : List ℕ) (none : tagIn s ≡ 0) (size : ℕ) (is : size ≡ sma
   opens-bad s′ e f = record { world = λ x r h c. f .world none x r h c m ∙ as-opened (bareIn s r m) BadRing e; side = f .side }
 
   pub opens-empty : v ≡ NoWork → length s ≡ 32 → Opens s m (set s 12 0) m
-  unfolding worldIn quieted
+  unfolding worldIn doorbell-cleared
   opens-empty e long =
       record {
         world = λ x r h c. spell (λ w. worldIn (set w 12 0) x r h c m) s long ∙ rw none (as-opened (bareIn s r m) NoWork e);

@@ -11,14 +11,13 @@ use lib.Dec.{eqb, ltb}
 use lib.ListN.{getD}
 use Rattle.machine.specs.Machine.{pick}
 use Rattle.rules.specs.Numbers.{most}
-use Rattle.rules.specs.declared.Registers.{Registers}
 use Rattle.rules.specs.declared.Job.{Job}
 use Rattle.rules.specs.declared.Table.{Table}
 use Rattle.rules.specs.declared.Stream.{Stream}
 use Rattle.rows.specs.Rows.{table-zero}
 use Rattle.kept_entries.specs.Views.{entriesOf}
 use Rattle.kept_resources.specs.Views.{resourcesOf, recordsOf}
-use Rattle.run_state.specs.Views.{setIn, flagOf, smallIn, countIn, registersIn, jobIn, tableIn, streamIn}
+use Rattle.run_state.specs.Views.{setIn, flagOf, smallIn, countIn, jobIn, tableIn, streamIn}
 
 -- ---- one word
 
@@ -91,11 +90,6 @@ module _ (l : List ℕ) where
 
 -- ---- some words
 
-pub registers-are : (s : List ℕ) (size irq code errors : ℕ) (enabled fenced failed rung : Bool)
-    → size ≡ smallIn (getD s 2 0) → enabled ≡ setIn (getD s 3 0) → fenced ≡ setIn (getD s 6 0) → failed ≡ setIn (getD s 7 0) → irq ≡ smallIn (getD s 8 0) → code ≡ smallIn (getD s 9 0) → errors ≡ smallIn (getD s 11 0) → rung ≡ setIn (getD s 12 0)
-    → _≡_ {A = Registers} (record { ring = getD s 1 0; ringsize = size; enabled = enabled; page = getD s 4 0; completed = getD s 5 0; fenced = fenced; failed = failed; irqenable = irq; code = code; fence = getD s 10 0; errors = errors; rung = rung }) (registersIn s)
-registers-are s size irq code errors enabled fenced failed rung a b c d e f g h = rw (a, b, c, d, e, f, g, h)
-
 pub job-is : (s : List ℕ) (head : ℕ) (silent : Bool) → head ≡ smallIn (getD s 15 0) → silent ≡ setIn (getD s 17 0)
     → _≡_ {A = Job} (record { ring = getD s 14 0; head = head; signal = getD s 16 0; silent = silent }) (jobIn s)
 job-is s head silent a b = rw (a, b)
@@ -107,4 +101,4 @@ table-is s count stride a b = rw (a, b)
 pub stream-is : (s : List ℕ) (size : ℕ) → size ≡ smallIn (getD s 22 0) → _≡_ {A = Stream} (record { gpa = getD s 21 0; size = size }) (streamIn s)
 stream-is s size a = rw a
 
-pub ruleset reading = (registers-are, job-is, table-is, stream-is, needs)
+pub ruleset reading = (job-is, table-is, stream-is, needs)

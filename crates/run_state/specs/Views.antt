@@ -50,9 +50,7 @@ registersIn s =
       fenced = setIn (getD s 6 0);
       failed = setIn (getD s 7 0);
       irqenable = smallIn (getD s 8 0);
-      code = smallIn (getD s 9 0);
-      fence = getD s 10 0;
-      errors = smallIn (getD s 11 0);
+      error = record { code = smallIn (getD s 9 0); fence = getD s 10 0; count = smallIn (getD s 11 0) };
       rung = setIn (getD s 12 0);
     }
 

@@ -1,14 +1,13 @@
 // The words of a device: what each means, and how it is read. They are the ones that a host can lend; any words mean some device, so
 // nothing is ever asked of them. What changes is set in place by the crates above.
 use rules::Job;
-use rules::Registers;
 use rules::Stream;
 use rules::Table;
 use words::low32;
 ghost use mathlib.Core.Path.{_≡_};
 ghost use Prim.Native.Nat.{_≤_};
 ghost use Rattle.rules.specs.Numbers.{most};
-ghost use Rattle.run_state.specs.Views.{setIn, flagOf, countIn, registersIn, jobIn, tableIn, streamIn};
+ghost use Rattle.run_state.specs.Views.{setIn, flagOf, countIn, jobIn, tableIn, streamIn};
 
 // A device's words: its memory's length, its registers, what is in work, how many rows of each table are live, and which of the two
 // tables of resources is the device's.
@@ -111,26 +110,6 @@ pub fn rows_in(word: u64) -> usize
         return 64;
     }
     word as usize
-}
-
-// The registers that stand in the words.
-pub fn registers_in(words: &Words) -> Registers
-    ensures { λ r. ⌜ r ≡ registersIn (now (words .entry)) ⌝ }
-{
-    Registers {
-        ring: words[RING],
-        ringsize: low32(words[RING_SIZE]),
-        enabled: is_set(words[ENABLED]),
-        page: words[PAGE],
-        completed: words[COMPLETED],
-        fenced: is_set(words[FENCED]),
-        failed: is_set(words[FAILED]),
-        irqenable: low32(words[IRQ_ENABLE]),
-        code: low32(words[ERROR_CODE]),
-        fence: words[ERROR_FENCE],
-        errors: low32(words[ERROR_COUNT]),
-        rung: is_set(words[DOORBELL]),
-    }
 }
 
 // What settling needs of the submission in work.
