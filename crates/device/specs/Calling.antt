@@ -7,7 +7,7 @@ use borrow.Author.Needs.{needs}
 use Rattle.rules.specs.State.{made}
 use Rattle.rules.specs.Calls.{call-write, call-read, call-run, call-record, call-answer}
 use Rattle.registers.specs.Views.{Writes}
-use Rattle.device_calls.specs.Views.{valueOf, handedOf, Makes, Reads, Hands}
+use Rattle.device_calls.specs.Views.{valueOf, handedOf, Makes, Reads, GivesRecord}
 use Rattle.device_calls.specs.declared.ValueRead.{ValueRead}
 use Rattle.device_calls.specs.declared.Handed.{Handed}
 use Rattle.device_memory_calls.specs.Views.{Runs, Answers}
@@ -26,7 +26,7 @@ module _ (d : Device) where
   pub read : (offset : ℕ) (x : ValueRead) → Reads (d .words) offset x → valueOf x ≡ call-read (stateOf d) offset
   read offset x k = k .value (d .entries) (d .first) (d .second) (d .records)
 
-  pub handed : (i : ℕ) (x : Handed) → Hands (d .words) (d .records) i x → handedOf x ≡ call-record (stateOf d) i
+  pub handed : (i : ℕ) (x : Handed) → GivesRecord (d .words) (d .records) i x → handedOf x ≡ call-record (stateOf d) i
   handed i x k = k .hands (d .entries) (d .first) (d .second)
 
   pub ran : (m : List ℕ) (allowance : ℕ) (x : Spent) (s′ e′ a′ b′ c′ m′ : List ℕ) → Runs allowance (d .words) (d .entries) (d .first) (d .second) (d .records) m x s′ e′ a′ b′ c′ m′

@@ -25,7 +25,7 @@ use Rattle.run_state.specs.Views.{countIn, setIn, registersIn, tagIn, worldIn, 
 use Rattle.run_state.specs.Reading.{none-live}
 use Rattle.run_state.specs.Stages.{waits-in, outs-in}
 use Rattle.run_state.specs.Spelled.{spell}
-use Rattle.device_calls.specs.Views.{noneHanded, Makes, Reads, Hands}
+use Rattle.device_calls.specs.Views.{noneHanded, Makes, Reads, GivesRecord}
 use Rattle.device_calls.specs.declared.Handed.{Handed}
 
 -- ---- make
@@ -77,7 +77,7 @@ nth-past f i (suc n) zero h = absurd (omega arith)
 nth-past f i (suc n) (suc k) h = nth-past f (suc i) n k (omega arith)
 
 module _ (s c : List ℕ) (i k : ℕ) (at : k ≡ i) where
-  pub hands-unasked : (x : Handed) → tagIn s < 3 → x ≡ noneHanded → Hands s c i x
+  pub hands-unasked : (x : Handed) → tagIn s < 3 → x ≡ noneHanded → GivesRecord s c i x
   unfolding call-record nth
   hands-unasked x low p = record { hands = λ e a b. rw (p, outs-in s e (pick (sideIn s) b a) (pick (sideIn s) a b) c [] low) }
 
@@ -85,7 +85,7 @@ module _ (s c : List ℕ) (i k : ℕ) (at : k ≡ i) where
     there : (e a b : List ℕ) → handed-out (stateIn s e a b c .work) ≡ recordsOf n c
     there e a b = rw (waits-in s e (pick (sideIn s) b a) (pick (sideIn s) a b) c [] waiting, is .0)
 
-    pub hands-past : (x : Handed) → n ≤ k → x ≡ noneHanded → Hands s c i x
+    pub hands-past : (x : Handed) → n ≤ k → x ≡ noneHanded → GivesRecord s c i x
     unfolding call-record table
     hands-past x p q =
         let out : nth (recordsOf n c) i ≡ none = nth-past (λ j. recordOf (rowAt 5 c j)) 0 n i (omega arith) in
@@ -94,7 +94,7 @@ module _ (s c : List ℕ) (i k : ℕ) (at : k ≡ i) where
     pub record-room : k < n → k < most
     record-room p = omega (arith, is .1)
 
-    pub hands-there : (x : Record) → k < n → x ≡ recordOf (rowAt 5 c k) → Hands s c i (record { answer = done; range = x })
+    pub hands-there : (x : Record) → k < n → x ≡ recordOf (rowAt 5 c k) → GivesRecord s c i (record { answer = done; range = x })
     unfolding call-record table
     hands-there x p q =
         let out : nth (recordsOf n c) i ≡ found (recordOf (rowAt 5 c (0 + i))) = nth-tab (λ j. recordOf (rowAt 5 c j)) 0 n i (omega arith) in

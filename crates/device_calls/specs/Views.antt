@@ -25,5 +25,5 @@ pub record Makes (memory : ℕ) (s′ : List ℕ) : Type 0 where
 pub record Reads (s : List ℕ) (offset : ℕ) (x : ValueRead) : Type 0 where
   pub value : (e a b c : List ℕ) → valueOf x ≡ call-read (stateIn s e a b c) offset
 
-pub record Hands (s c : List ℕ) (i : ℕ) (x : Handed) : Type 0 where
+pub record GivesRecord (s c : List ℕ) (i : ℕ) (x : Handed) : Type 0 where
   pub hands : (e a b : List ℕ) → handedOf x ≡ call-record (stateIn s e a b c) i

@@ -27,10 +27,10 @@ use run_state::TAG;
 use run_state::WAITING;
 use run_state::Words;
 use run_state::rows_in;
-use widths::index;
-use widths::long;
+use widths::u32_to_usize;
+use widths::usize_to_word;
 ghost use mathlib.Core.Path.{_≡_};
-ghost use Rattle.device_calls.specs.Views.{noneHanded, Makes, Reads, Hands};
+ghost use Rattle.device_calls.specs.Views.{noneHanded, Makes, Reads, GivesRecord};
 
 // What a read answers, and the register's value.
 pub struct ValueRead {
@@ -48,7 +48,7 @@ pub struct Handed {
 pub fn make(words: &mut Words, memory: usize)
     ensures { λ _. ⌜ Makes memory (now (words .exit)) ⌝ }
 {
-    let bytes = long(memory);
+    let bytes = usize_to_word(memory);
     let all = &words[..];
     words[MEMORY] = bytes;
     words[RING] = 0;
@@ -102,9 +102,9 @@ fn none_handed() -> Handed
 
 // Record i of the submission that waits.
 pub fn record(words: &Words, records: &Records, i: u32) -> Handed
-    ensures { λ r. ⌜ Hands (now (words .entry)) (now (records .entry)) i r ⌝ }
+    ensures { λ r. ⌜ GivesRecord (now (words .entry)) (now (records .entry)) i r ⌝ }
 {
-    let at = index(i);
+    let at = u32_to_usize(i);
     if words[TAG] < WAITING {
         return none_handed();
     }

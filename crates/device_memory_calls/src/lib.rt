@@ -20,7 +20,7 @@ use run_state::SIDE;
 use run_state::TAG;
 use run_state::WAITING;
 use run_state::Words;
-use widths::place;
+use widths::word_to_usize;
 ghost use Rattle.device_memory_calls.specs.Views.{Ends, AdvancedOn, Runs, Answers};
 
 // What a run answers: the call's answer, the units spent and how it ended.
@@ -80,7 +80,7 @@ pub fn run(
 ) -> Spent
     ensures { λ r. ⌜ Runs allowance (now (words .entry)) (now (entries .entry)) (now (first .entry)) (now (second .entry)) (now (records .entry)) (now (mem .entry)) r (now (words .exit)) (now (entries .exit)) (now (first .exit)) (now (second .exit)) (now (records .exit)) (now (mem .exit)) ⌝ }
 {
-    let memory = place(words[MEMORY]);
+    let memory = word_to_usize(words[MEMORY]);
     if mem.len() != memory {
         return Spent {
             answer: OTHER_MEMORY,
@@ -101,7 +101,7 @@ pub fn run(
 pub fn answer(words: &mut Words, mem: &mut [u8], good: bool) -> u32
     ensures { λ r. ⌜ Answers (now (words .entry)) (now (mem .entry)) good r (now (words .exit)) (now (mem .exit)) ⌝ }
 {
-    let memory = place(words[MEMORY]);
+    let memory = word_to_usize(words[MEMORY]);
     if mem.len() != memory {
         return OTHER_MEMORY;
     }

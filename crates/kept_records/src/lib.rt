@@ -1,6 +1,6 @@
 // A record as a row of five words: kind, handle, id, GPA, length.
 use rules::Record;
-use widths::wide;
+use widths::u32_to_word;
 ghost use mathlib.Core.Path.{_≡_};
 ghost use Prim.Native.Nat.{_+_, _≤_, _<_};
 ghost use Rattle.rules.specs.Numbers.{most};
@@ -36,9 +36,9 @@ pub fn push_record(records: &mut Records, n: usize, c: Record)
 {
     let all = &records[..];
     let b = WORDS * n;
-    records[b] = wide(c.kind);
-    records[b + 1] = wide(c.handle);
-    records[b + 2] = wide(c.id);
+    records[b] = u32_to_word(c.kind);
+    records[b + 1] = u32_to_word(c.handle);
+    records[b + 2] = u32_to_word(c.id);
     records[b + 3] = c.gpa;
     records[b + 4] = c.length;
 }

@@ -4,7 +4,7 @@ use crate::resources::Resources;
 use crate::resources::WORDS;
 use rules::Kind;
 use rules::Resource;
-use widths::wide;
+use widths::u32_to_word;
 ghost use mathlib.Core.Path.{_≡_};
 ghost use Prim.Native.Nat.{_+_, _-_, _≤_, _<_};
 ghost use Rattle.rules.specs.Numbers.{most};
@@ -38,11 +38,11 @@ fn flat(kind: Kind) -> FlatKind
         },
         Kind::Texture(s) => FlatKind {
             tag: TEXTURE,
-            format: wide(s.format),
-            width: wide(s.width),
-            height: wide(s.height),
-            mips: wide(s.mips),
-            layers: wide(s.layers),
+            format: u32_to_word(s.format),
+            width: u32_to_word(s.width),
+            height: u32_to_word(s.height),
+            mips: u32_to_word(s.mips),
+            layers: u32_to_word(s.layers),
         },
     }
 }
@@ -56,7 +56,7 @@ pub fn push_resource(rooms: &mut Resources, n: usize, r: Resource)
     let f = flat(kind);
     let all = &rooms[..];
     let b = WORDS * n;
-    rooms[b] = wide(r.handle);
+    rooms[b] = u32_to_word(r.handle);
     rooms[b + 1] = f.tag;
     rooms[b + 2] = r.bytes;
     rooms[b + 3] = f.format;
@@ -64,9 +64,9 @@ pub fn push_resource(rooms: &mut Resources, n: usize, r: Resource)
     rooms[b + 5] = f.height;
     rooms[b + 6] = f.mips;
     rooms[b + 7] = f.layers;
-    rooms[b + 8] = wide(r.pitch);
-    rooms[b + 9] = wide(r.backing);
-    rooms[b + 10] = wide(r.offset);
+    rooms[b + 8] = u32_to_word(r.pitch);
+    rooms[b + 9] = u32_to_word(r.backing);
+    rooms[b + 10] = u32_to_word(r.offset);
 }
 
 // The resource of row i is gone: the last of `n` takes its place.

@@ -18,7 +18,7 @@ use Rattle.rules.specs.declared.Packet.the-variants.{Buffer, Texture, Destroy, 
 use Rattle.rules.specs.declared.Verdict.the-variants.{Fine}
 use Rattle.kept_entries.specs.Views.{entriesOf}
 use Rattle.kept_resources.specs.Views.{resourcesOf, holdingsOf}
-use Rattle.packet_ranges.specs.Views.{Applies, Room}
+use Rattle.packet_ranges.specs.Views.{Applies, RowsExist}
 use Rattle.packet_destroy.specs.Destroy.{Destroys}
 use Rattle.packet_ranges.specs.declared.applied.Applied.{Applied}
 use Rattle.packet_apply.specs.declared.apply.Changed.{Changed}
@@ -107,7 +107,7 @@ module _ (n live made : ℕ) (e r l c h′ c′ : List ℕ) (p : Packet) (x : Ch
   unfolding apply
   copy-applied b q h = rw q h
 
-pub unknown-applied : (n live made : ℕ) (e r h c : List ℕ) (own : Bool) (p : Packet) → p ≡ Unknown → Room n live made
+pub unknown-applied : (n live made : ℕ) (e r h c : List ℕ) (own : Bool) (p : Packet) → p ≡ Unknown → RowsExist n live made
     → Changes (apply (entriesOf n e) (holdingsOf live (pick own h r) made c) p) r (record { verdict = Fine; live = live; made = made; own = own }) h c
 unfolding apply
 unknown-applied n live made e r h c own p q room = rw q (record { outcome = refl; live = room .live; made = room .made })

@@ -87,13 +87,13 @@ pub record SoundResources (rs : List Resource) : Type 0 where
 pub none-sound : SoundResources []
 none-sound = record { few = omega arith; once = once-nil handle-of; some = lookup-nil handle-of 0; bytes = every-none KeepsBytes }
 
-pub record Sound (es : List Entry) (h : Holdings) : Type 0 where
+pub record SoundHoldings (es : List Entry) (h : Holdings) : Type 0 where
   pub resources : SoundResources (h .resources)
   pub few : length (h .records) ≤ most
   pub inside : Every (Inside es) (h .records)
 
 -- a submission begins with the device's resources and no record
-pub first-sound : (es : List Entry) (rs : List Resource) → SoundResources rs → Sound es (at-first rs)
+pub first-sound : (es : List Entry) (rs : List Resource) → SoundResources rs → SoundHoldings es (at-first rs)
 first-sound es rs s = record { resources = s; few = omega arith; inside = every-none (Inside es) }
 
 -- ---- what is found has a place
@@ -108,7 +108,7 @@ found-place key k xs x e =
 
 -- ---- kept by every packet
 
-module _ (es : List Entry) (h : Holdings) (s : Sound es h) where
+module _ (es : List Entry) (h : Holdings) (s : SoundHoldings es h) where
   resources-stored : (r : Resource) → Fresh h r → SoundResources (pushed (h .resources) r)
   resources-stored r f =
       record {
@@ -141,10 +141,10 @@ module _ (es : List Entry) (h : Holdings) (s : Sound es h) where
       }
 
   abbrev SoundAfter : Outcome → Type 0
-  SoundAfter o = Sound es (o .held)
+  SoundAfter o = SoundHoldings es (o .held)
 
   -- whatever the bytes left of a stream begin with
-  pub take-sound : (b : List ℕ) → Sound es (take-packet es h b .held)
+  pub take-sound : (b : List ℕ) → SoundHoldings es (take-packet es h b .held)
   take-sound =
       take-or SoundAfter h (λ r. s) es s
       (λ r f. record { resources = resources-stored r f; few = s .few; inside = s .inside })

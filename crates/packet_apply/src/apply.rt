@@ -24,7 +24,7 @@ ghost use Rattle.rules.specs.Numbers.{most};
 ghost use Rattle.rules.specs.Packets.{on-buffer-packet, on-texture-packet, on-destroy-packet, on-dirty-packet, on-copy-packet, apply};
 ghost use Rattle.kept_entries.specs.Views.{entriesOf};
 ghost use Rattle.kept_resources.specs.Views.{resourcesOf, holdingsOf};
-ghost use Rattle.packet_ranges.specs.Views.{Room};
+ghost use Rattle.packet_ranges.specs.Views.{RowsExist};
 ghost use Rattle.packet_apply.specs.Apply.{changedOf, Changes};
 
 // What a packet came to: its verdict, how many resources and records are held after it, and whether the resources are in the
@@ -76,7 +76,7 @@ fn make_buffer(
     made: usize,
     c: CreateBuffer,
 ) -> Changed
-    requires { ⌜ Room n live made ⌝ }
+    requires { ⌜ RowsExist n live made ⌝ }
     ensures { λ x. ⌜ Changes (on-buffer-packet (entriesOf n (now (entries .entry))) (holdingsOf live (pick own (now (held .entry)) (now (rooms .entry))) made (now (records .entry))) c) (now (rooms .entry)) x (now (held .exit)) (now (records .exit)) ⌝ }
 {
     take_own(rooms, held, own, live);
@@ -94,7 +94,7 @@ fn make_texture(
     made: usize,
     c: CreateTexture,
 ) -> Changed
-    requires { ⌜ Room n live made ⌝ }
+    requires { ⌜ RowsExist n live made ⌝ }
     ensures { λ x. ⌜ Changes (on-texture-packet (entriesOf n (now (entries .entry))) (holdingsOf live (pick own (now (held .entry)) (now (rooms .entry))) made (now (records .entry))) c) (now (rooms .entry)) x (now (held .exit)) (now (records .exit)) ⌝ }
 {
     take_own(rooms, held, own, live);
@@ -128,7 +128,7 @@ fn dirty<'a>(
     made: usize,
     c: DirtyRange,
 ) -> Changed
-    requires { ⌜ Room n live made ⌝ }
+    requires { ⌜ RowsExist n live made ⌝ }
     ensures { λ x. ⌜ Changes (on-dirty-packet (entriesOf n (now (entries .entry))) (holdingsOf live (pick own (now (held .entry)) (now (rooms .entry))) made (now (records .entry))) c) (now (rooms .entry)) x (now (held .entry)) (now (records .exit)) ⌝ }
 {
     let resources = chosen(rooms, held, own);
@@ -146,7 +146,7 @@ fn copy<'a>(
     made: usize,
     c: CopyBuffer,
 ) -> Changed
-    requires { ⌜ Room n live made ⌝ }
+    requires { ⌜ RowsExist n live made ⌝ }
     ensures { λ x. ⌜ Changes (on-copy-packet (entriesOf n (now (entries .entry))) (holdingsOf live (pick own (now (held .entry)) (now (rooms .entry))) made (now (records .entry))) c) (now (rooms .entry)) x (now (held .entry)) (now (records .exit)) ⌝ }
 {
     let resources = chosen(rooms, held, own);
@@ -166,7 +166,7 @@ pub fn apply_packet(
     made: usize,
     p: Packet,
 ) -> Changed
-    requires { ⌜ Room n live made ⌝ }
+    requires { ⌜ RowsExist n live made ⌝ }
     ensures { λ x. ⌜ Changes (apply (entriesOf n (now (entries .entry))) (holdingsOf live (pick own (now (held .entry)) (now (rooms .entry))) made (now (records .entry))) p) (now (rooms .entry)) x (now (held .exit)) (now (records .exit)) ⌝ }
 {
     match p {

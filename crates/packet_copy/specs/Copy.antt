@@ -24,8 +24,8 @@ use Rattle.rows.specs.Rows.{rowAt}
 use Rattle.kept_entries.specs.Views.{entriesOf}
 use Rattle.kept_resources.specs.Views.{resourceOf, resourcesOf, holdingsOf}
 use Rattle.kept_resources.specs.Resources.{resource-found, resource-missing}
-use Rattle.packet_ranges.specs.Views.{Applies, Room, refusedWith}
-use Rattle.packet_ranges.specs.Handout.{Hands, acceptedWith, judged, resolvedOf, entry-judged, refused-applies, refused-hands}
+use Rattle.packet_ranges.specs.Views.{Applies, RowsExist, refusedWith}
+use Rattle.packet_ranges.specs.Handout.{HandsOut, acceptedWith, judged, resolvedOf, entry-judged, refused-applies, refused-hands}
 use Rattle.packet_ranges.specs.declared.applied.Applied.{Applied}
 use Rattle.packet_ranges.specs.declared.handout.Resolved.{Resolved}
 use Rattle.packet_ranges.specs.declared.handout.Resolved.the-variants.{Missing, Past, Inside}
@@ -90,8 +90,8 @@ buffer-then (found r) d h later e = kind-then r d (r .kind) h later e
 unfoldable pub written-back : List Entry → CopyBuffer → Resource → Holdings → Outcome
 written-back es c d h = write-back es h c d
 
-module _ (n : ℕ) (entries : List ℕ) (live made : ℕ) (records : List ℕ) (c : CopyBuffer) (d : Resource) (room : Room n live made) where
-  pub writes-hosted : (a : Applied) → d .backing ≡ 0 → a ≡ refusedWith host-backed live made → Hands (written-back (entriesOf n entries) c d) live made records a records
+module _ (n : ℕ) (entries : List ℕ) (live made : ℕ) (records : List ℕ) (c : CopyBuffer) (d : Resource) (room : RowsExist n live made) where
+  pub writes-hosted : (a : Applied) → d .backing ≡ 0 → a ≡ refusedWith host-backed live made → HandsOut (written-back (entriesOf n entries) c d) live made records a records
   unfolding written-back write-back
   writes-hosted a q e = refused-hands host-backed n live made records a room e _ (λ h. rw (eq-eqb _ _ q))
 
@@ -105,18 +105,18 @@ module _ (n : ℕ) (entries : List ℕ) (live made : ℕ) (records : List ℕ) (
         rw (ne-eqb _ _ q, resolved)
         (entry-judged writes d (c .dstoffset) (c .size) (matching (d .backing) (entriesOf n entries)) h (then h))
 
-    pub writes-missing : (a : Applied) → x ≡ Missing → a ≡ refusedWith not-in-table live made → Hands (written-back (entriesOf n entries) c d) live made records a records
+    pub writes-missing : (a : Applied) → x ≡ Missing → a ≡ refusedWith not-in-table live made → HandsOut (written-back (entriesOf n entries) c d) live made records a records
     writes-missing a told e = refused-hands not-in-table n live made records a room e _ (λ h. judges h ∙ rw told)
 
-    pub writes-past : (a : Applied) → x ≡ Past → a ≡ refusedWith past-entry live made → Hands (written-back (entriesOf n entries) c d) live made records a records
+    pub writes-past : (a : Applied) → x ≡ Past → a ≡ refusedWith past-entry live made → HandsOut (written-back (entriesOf n entries) c d) live made records a records
     writes-past a told e = refused-hands past-entry n live made records a room e _ (λ h. judges h ∙ rw told)
 
     module _ (flags : ℕ) (range : Record) (told : x ≡ Inside flags range) where
-      pub writes-read-only : (a : Applied) → flags % 2 ≡ 1 → a ≡ refusedWith read-only live made → Hands (written-back (entriesOf n entries) c d) live made records a records
+      pub writes-read-only : (a : Applied) → flags % 2 ≡ 1 → a ≡ refusedWith read-only live made → HandsOut (written-back (entriesOf n entries) c d) live made records a records
       writes-read-only a t e = refused-hands read-only n live made records a room e _ (λ h. judges h ∙ rw (told, eq-eqb _ _ t))
 
-      pub writes-range : (a : Applied) (after : List ℕ) → (flags % 2 ≡ 1 → ⊥) → Hands (hand-out range) live made records a after
-          → Hands (written-back (entriesOf n entries) c d) live made records a after
+      pub writes-range : (a : Applied) (after : List ℕ) → (flags % 2 ≡ 1 → ⊥) → HandsOut (hand-out range) live made records a after
+          → HandsOut (written-back (entriesOf n entries) c d) live made records a after
       writes-range a after t hands =
           record { applies = λ rooms. rw (judges (holdingsOf live rooms made records), told, ne-eqb _ _ t) (hands .applies rooms) }
 
@@ -133,23 +133,23 @@ between es c d s h =
     (refuse past-resource (ltb (s .bytes) (c .srcoffset + c .size)) h
     (pick (eqb (c .flags) 1) (write-back es h c d) (accepted h))))
 
-module _ (n : ℕ) (entries : List ℕ) (live made : ℕ) (records : List ℕ) (c : CopyBuffer) (d s : Resource) (room : Room n live made) where
-  pub copies-onto-itself : (a : Applied) → c .dst ≡ c .src → a ≡ refusedWith bad-copy live made → Hands (between (entriesOf n entries) c d s) live made records a records
+module _ (n : ℕ) (entries : List ℕ) (live made : ℕ) (records : List ℕ) (c : CopyBuffer) (d s : Resource) (room : RowsExist n live made) where
+  pub copies-onto-itself : (a : Applied) → c .dst ≡ c .src → a ≡ refusedWith bad-copy live made → HandsOut (between (entriesOf n entries) c d s) live made records a records
   unfolding between
   copies-onto-itself a p e = refused-hands bad-copy n live made records a room e _ (λ h. rw (eq-eqb _ _ p))
 
   module _ (p : c .dst ≡ c .src → ⊥) where
-    pub copies-other-flags : (a : Applied) → 1 < c .flags → a ≡ refusedWith bad-copy live made → Hands (between (entriesOf n entries) c d s) live made records a records
+    pub copies-other-flags : (a : Applied) → 1 < c .flags → a ≡ refusedWith bad-copy live made → HandsOut (between (entriesOf n entries) c d s) live made records a records
     unfolding between
     copies-other-flags a q e = refused-hands bad-copy n live made records a room e _ (λ h. rw (ne-eqb _ _ p, lt-ltb _ _ q))
 
     module _ (q : c .flags ≤ 1) (b : Bool) (is : b ≡ ltb (d .bytes) (c .dstoffset + c .size)) where
-      pub copies-past-dst : (a : Applied) → b ≡ true → a ≡ refusedWith past-resource live made → Hands (between (entriesOf n entries) c d s) live made records a records
+      pub copies-past-dst : (a : Applied) → b ≡ true → a ≡ refusedWith past-resource live made → HandsOut (between (entriesOf n entries) c d s) live made records a records
       unfolding between
       copies-past-dst a t e = refused-hands past-resource n live made records a room e _ (λ h. rw (ne-eqb _ _ p, le-ltb _ _ q, ← is, t))
 
       module _ (t : b ≡ false) (b′ : Bool) (is′ : b′ ≡ ltb (s .bytes) (c .srcoffset + c .size)) where
-        pub copies-past-src : (a : Applied) → b′ ≡ true → a ≡ refusedWith past-resource live made → Hands (between (entriesOf n entries) c d s) live made records a records
+        pub copies-past-src : (a : Applied) → b′ ≡ true → a ≡ refusedWith past-resource live made → HandsOut (between (entriesOf n entries) c d s) live made records a records
         unfolding between
         copies-past-src a u e = refused-hands past-resource n live made records a room e _ (λ h. rw (ne-eqb _ _ p, le-ltb _ _ q, ← is, t, ← is′, u))
 
@@ -158,12 +158,12 @@ module _ (n : ℕ) (entries : List ℕ) (live made : ℕ) (records : List ℕ) (
           unfolding written-back between
           passes h = rw (ne-eqb _ _ p, le-ltb _ _ q, ← is, t, ← is′, u)
 
-          pub copies-back : (a : Applied) (after : List ℕ) → c .flags ≡ 1 → Hands (written-back (entriesOf n entries) c d) live made records a after
-              → Hands (between (entriesOf n entries) c d s) live made records a after
+          pub copies-back : (a : Applied) (after : List ℕ) → c .flags ≡ 1 → HandsOut (written-back (entriesOf n entries) c d) live made records a after
+              → HandsOut (between (entriesOf n entries) c d s) live made records a after
           copies-back a after f hands =
               record { applies = λ rooms. rw (passes (holdingsOf live rooms made records), eq-eqb _ _ f) (hands .applies rooms) }
 
-          pub copies-only : (c .flags ≡ 1 → ⊥) → Hands (between (entriesOf n entries) c d s) live made records (acceptedWith live made) records
+          pub copies-only : (c .flags ≡ 1 → ⊥) → HandsOut (between (entriesOf n entries) c d s) live made records (acceptedWith live made) records
           copies-only f =
               record { applies = λ rooms. record { outcome = sym (passes (holdingsOf live rooms made records) ∙ rw (ne-eqb _ _ f)); live = room .live; made = room .made } }
 
@@ -176,7 +176,7 @@ abbrev Copies : ℕ → List ℕ → ℕ → List ℕ → ℕ → List ℕ → C
 Copies n entries live rooms made records c a after =
     Applies (on-copy-packet (entriesOf n entries) (holdingsOf live rooms made records) c) a rooms after
 
-module _ (n : ℕ) (entries : List ℕ) (live : ℕ) (rooms : List ℕ) (made : ℕ) (records : List ℕ) (c : CopyBuffer) (room : Room n live made)
+module _ (n : ℕ) (entries : List ℕ) (live : ℕ) (rooms : List ℕ) (made : ℕ) (records : List ℕ) (c : CopyBuffer) (room : RowsExist n live made)
     (x : Sought) (dst : x ≡ bufferOf (lookup handle-of (c .dst) (resourcesOf live rooms))) where
   pub copies-no-dst : (a : Applied) → x ≡ NoBuffer → a ≡ refusedWith bad-handle live made → Copies n entries live rooms made records c a records
   unfolding on-copy-packet
@@ -195,7 +195,7 @@ module _ (n : ℕ) (entries : List ℕ) (live : ℕ) (rooms : List ℕ) (made : 
       unfolding on-copy-packet between
       both-live = buffer-then _ d _ _ (sym dst ∙ told) ∙ buffer-then _ s _ _ (sym src ∙ some)
 
-      pub copies-between : (a : Applied) (after : List ℕ) → Hands (between (entriesOf n entries) c d s) live made records a after
+      pub copies-between : (a : Applied) (after : List ℕ) → HandsOut (between (entriesOf n entries) c d s) live made records a after
           → Copies n entries live rooms made records c a after
       copies-between a after hands =
           rw both-live (hands .applies rooms)

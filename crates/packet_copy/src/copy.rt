@@ -29,8 +29,8 @@ ghost use Rattle.rules.specs.Lists.{lookup};
 ghost use Rattle.rules.specs.Packets.{handle-of, on-copy-packet};
 ghost use Rattle.kept_entries.specs.Views.{entriesOf};
 ghost use Rattle.kept_resources.specs.Views.{resourcesOf, holdingsOf};
-ghost use Rattle.packet_ranges.specs.Views.{Applies, Room};
-ghost use Rattle.packet_ranges.specs.Handout.{Hands};
+ghost use Rattle.packet_ranges.specs.Views.{Applies, RowsExist};
+ghost use Rattle.packet_ranges.specs.Handout.{HandsOut};
 ghost use Rattle.packet_copy.specs.Copy.{bufferOf, written-back, between};
 
 // The one flag of a copy, which asks for writeback.
@@ -59,7 +59,7 @@ fn live_buffer(rooms: &Resources, live: usize, handle: u32) -> Sought
     }
 }
 
-// Hands the range of the destination to the host, to be written.
+// HandsOut the range of the destination to the host, to be written.
 fn write_back(
     entries: &Entries,
     n: usize,
@@ -69,8 +69,8 @@ fn write_back(
     c: CopyBuffer,
     dst: Resource,
 ) -> Applied
-    requires { ⌜ Room n live made ⌝ }
-    ensures { λ r. ⌜ Hands (written-back (entriesOf n (now (entries .entry))) c dst) live made (now (records .entry)) r (now (records .exit)) ⌝ }
+    requires { ⌜ RowsExist n live made ⌝ }
+    ensures { λ r. ⌜ HandsOut (written-back (entriesOf n (now (entries .entry))) c dst) live made (now (records .entry)) r (now (records .exit)) ⌝ }
 {
     if dst.backing == 0 {
         return refuse(HOST_BACKED, live, made);
@@ -98,8 +98,8 @@ fn copy_between(
     dst: Resource,
     src: Resource,
 ) -> Applied
-    requires { ⌜ Room n live made ⌝ }
-    ensures { λ r. ⌜ Hands (between (entriesOf n (now (entries .entry))) c dst src) live made (now (records .entry)) r (now (records .exit)) ⌝ }
+    requires { ⌜ RowsExist n live made ⌝ }
+    ensures { λ r. ⌜ HandsOut (between (entriesOf n (now (entries .entry))) c dst src) live made (now (records .entry)) r (now (records .exit)) ⌝ }
 {
     if c.dst == c.src {
         return refuse(BAD_COPY, live, made);
@@ -133,7 +133,7 @@ pub fn on_copy(
     made: usize,
     c: CopyBuffer,
 ) -> Applied
-    requires { ⌜ Room n live made ⌝ }
+    requires { ⌜ RowsExist n live made ⌝ }
     ensures { λ r. ⌜ Applies (on-copy-packet (entriesOf n (now (entries .entry))) (holdingsOf live (now (rooms .entry)) made (now (records .entry))) c) r (now (rooms .entry)) (now (records .exit)) ⌝ }
 {
     match live_buffer(rooms, live, c.dst) {

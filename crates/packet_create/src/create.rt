@@ -14,7 +14,7 @@ ghost use Rattle.machine.specs.Machine.{pick};
 ghost use Rattle.rules.specs.Packets.{backed, on-buffer-packet, on-texture-packet};
 ghost use Rattle.kept_entries.specs.Views.{entriesOf};
 ghost use Rattle.kept_resources.specs.Views.{holdingsOf};
-ghost use Rattle.packet_ranges.specs.Views.{Applies, Room};
+ghost use Rattle.packet_ranges.specs.Views.{Applies, RowsExist};
 ghost use Rattle.packet_create.specs.Create.{weighed};
 
 // A number that a host-backed resource ignores, and keeps as 0.
@@ -34,7 +34,7 @@ pub fn on_buffer(
     made: usize,
     c: CreateBuffer,
 ) -> Applied
-    requires { ⌜ Room n live made ⌝ }
+    requires { ⌜ RowsExist n live made ⌝ }
     ensures { λ r. ⌜ Applies (on-buffer-packet (entriesOf n (now (entries .entry))) (holdingsOf live (now (rooms .entry)) made (now (records .entry))) c) r (now (rooms .exit)) (now (records .exit)) ⌝ }
 {
     let good = c.size != 0;
@@ -83,7 +83,7 @@ pub fn on_texture(
     made: usize,
     c: CreateTexture,
 ) -> Applied
-    requires { ⌜ Room n live made ⌝ }
+    requires { ⌜ RowsExist n live made ⌝ }
     ensures { λ r. ⌜ Applies (on-texture-packet (entriesOf n (now (entries .entry))) (holdingsOf live (now (rooms .entry)) made (now (records .entry))) c) r (now (rooms .exit)) (now (records .exit)) ⌝ }
 {
     let w = weigh(c);

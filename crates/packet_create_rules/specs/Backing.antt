@@ -22,7 +22,7 @@ use Rattle.kept_entries.specs.Views.{RowRead, entriesOf}
 use Rattle.kept_entries.specs.Rows.{entry-found, entry-missing}
 use Rattle.kept_resources.specs.Views.{resourceOf, resourcesOf, recordOf, recordsOf, holdingsOf}
 use Rattle.kept_resources.specs.Resources.{resource-found, resource-missing}
-use Rattle.packet_ranges.specs.Views.{refusedWith, Applies, Room}
+use Rattle.packet_ranges.specs.Views.{refusedWith, Applies, RowsExist}
 use Rattle.packet_ranges.specs.declared.applied.Applied.{Applied}
 
 -- a refusal leaves what was held
@@ -86,7 +86,7 @@ pub ruleset storing = (no-room, no-record-room, both-stored, needs)
 
 -- ---- create_backed
 
-module _ (n live made : ℕ) (es rooms records : List ℕ) (r : Resource) (room : Room n live made) (i : ℕ) (place : i ≡ indexOf entry-id (r .backing) (entriesOf n es)) where
+module _ (n live made : ℕ) (es rooms records : List ℕ) (r : Resource) (room : RowsExist n live made) (i : ℕ) (place : i ≡ indexOf entry-id (r .backing) (entriesOf n es)) where
   pub backed-nowhere : (a : Applied) → n ≤ i → a ≡ refusedWith not-in-table live made
       → Applies (create-backed (entriesOf n es) (holdingsOf live rooms made records) r) a rooms records
   unfolding create-backed
@@ -129,7 +129,7 @@ pub ruleset backing = (backed-nowhere, backed-long, backed-past, backed-inside, 
 
 -- ---- create
 
-module _ (n live made : ℕ) (es rooms records : List ℕ) (good : Bool) (r : Resource) (room : Room n live made) where
+module _ (n live made : ℕ) (es rooms records : List ℕ) (good : Bool) (r : Resource) (room : RowsExist n live made) where
   pub create-no-handle : (a : Applied) → r .handle ≡ 0 → a ≡ refusedWith bad-handle live made
       → Applies (create (entriesOf n es) (holdingsOf live rooms made records) good r) a rooms records
   unfolding create

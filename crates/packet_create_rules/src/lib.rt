@@ -15,7 +15,7 @@ use rules::Verdict;
 use rules::numbers::BACKS;
 use rules::numbers::BAD_HANDLE;
 use rules::numbers::BAD_SHAPE;
-use rules::numbers::MOST;
+use rules::numbers::MOST_ROWS;
 use rules::numbers::NOT_IN_TABLE;
 use rules::numbers::PAST_ENTRY;
 use rules::numbers::TOO_MANY;
@@ -25,7 +25,7 @@ ghost use Rattle.rules.specs.Numbers.{most};
 ghost use Rattle.rules.specs.Packets.{backed, create-hosted, create-backed, create as create-rules};
 ghost use Rattle.kept_entries.specs.Views.{entriesOf};
 ghost use Rattle.kept_resources.specs.Views.{holdingsOf};
-ghost use Rattle.packet_ranges.specs.Views.{Applies, Room};
+ghost use Rattle.packet_ranges.specs.Views.{Applies, RowsExist};
 ghost use Rattle.packet_create_rules.specs.Backing.{store-backed};
 
 // A host-backed resource asks for a room only. It makes no record, so any records stay as they are.
@@ -33,7 +33,7 @@ fn create_hosted(rooms: &mut Resources, live: usize, made: usize, r: Resource) -
     requires { ⌜ (live ≤ most) × (made ≤ most) ⌝ }
     ensures { λ a. ⌜ ((l : List ℕ) → Applies (create-hosted (holdingsOf live (now (rooms .entry)) made l) r) a (now (rooms .exit)) l) ⌝ }
 {
-    if live >= MOST {
+    if live >= MOST_ROWS {
         return refuse(TOO_MANY, live, made);
     }
     push_resource(rooms, live, r);
@@ -56,10 +56,10 @@ fn store_backed(
     requires { ⌜ (live ≤ most) × (made ≤ most) ⌝ }
     ensures { λ a. ⌜ Applies (store-backed (holdingsOf live (now (rooms .entry)) made (now (records .entry))) r c) a (now (rooms .exit)) (now (records .exit)) ⌝ }
 {
-    if live >= MOST {
+    if live >= MOST_ROWS {
         return refuse(TOO_MANY, live, made);
     }
-    if made >= MOST {
+    if made >= MOST_ROWS {
         return refuse(TOO_MANY, live, made);
     }
     push_resource(rooms, live, r);
@@ -82,7 +82,7 @@ fn create_backed(
     made: usize,
     r: Resource,
 ) -> Applied
-    requires { ⌜ Room n live made ⌝ }
+    requires { ⌜ RowsExist n live made ⌝ }
     ensures { λ a. ⌜ Applies (create-backed (entriesOf n (now (entries .entry))) (holdingsOf live (now (rooms .entry)) made (now (records .entry))) r) a (now (rooms .exit)) (now (records .exit)) ⌝ }
 {
     let place = find_entry(entries, n, r.backing);
@@ -118,7 +118,7 @@ pub fn create(
     good: bool,
     r: Resource,
 ) -> Applied
-    requires { ⌜ Room n live made ⌝ }
+    requires { ⌜ RowsExist n live made ⌝ }
     ensures { λ a. ⌜ Applies (create-rules (entriesOf n (now (entries .entry))) (holdingsOf live (now (rooms .entry)) made (now (records .entry))) good r) a (now (rooms .exit)) (now (records .exit)) ⌝ }
 {
     if r.handle == 0 {

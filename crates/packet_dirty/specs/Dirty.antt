@@ -18,8 +18,8 @@ use Rattle.rows.specs.Rows.{rowAt}
 use Rattle.kept_entries.specs.Views.{entriesOf}
 use Rattle.kept_resources.specs.Views.{resourceOf, resourcesOf, holdingsOf}
 use Rattle.kept_resources.specs.Resources.{resource-found, resource-missing}
-use Rattle.packet_ranges.specs.Views.{Applies, Room, refusedWith}
-use Rattle.packet_ranges.specs.Handout.{Hands, judged, resolvedOf, entry-judged, refused-applies}
+use Rattle.packet_ranges.specs.Views.{Applies, RowsExist, refusedWith}
+use Rattle.packet_ranges.specs.Handout.{HandsOut, judged, resolvedOf, entry-judged, refused-applies}
 use Rattle.packet_ranges.specs.declared.applied.Applied.{Applied}
 use Rattle.packet_ranges.specs.declared.handout.Resolved.{Resolved}
 use Rattle.packet_ranges.specs.declared.handout.Resolved.the-variants.{Missing, Past, Inside}
@@ -28,7 +28,7 @@ abbrev Dirties : ℕ → List ℕ → ℕ → List ℕ → ℕ → List ℕ → 
 Dirties n entries live rooms made records c a after =
     Applies (on-dirty-packet (entriesOf n entries) (holdingsOf live rooms made records) c) a rooms after
 
-module _ (n : ℕ) (entries : List ℕ) (live : ℕ) (rooms : List ℕ) (made : ℕ) (records : List ℕ) (c : DirtyRange) (room : Room n live made)
+module _ (n : ℕ) (entries : List ℕ) (live : ℕ) (rooms : List ℕ) (made : ℕ) (records : List ℕ) (c : DirtyRange) (room : RowsExist n live made)
     (i : ℕ) (place : i ≡ indexOf handle-of (c .handle) (resourcesOf live rooms)) where
   pub dirties-not-live : (a : Applied) → live ≤ i → a ≡ refusedWith bad-handle live made → Dirties n entries live rooms made records c a records
   unfolding on-dirty-packet
@@ -67,7 +67,7 @@ module _ (n : ℕ) (entries : List ℕ) (live : ℕ) (rooms : List ℕ) (made : 
           dirties-past-entry a told e =
               refused-applies past-entry n live made records a room e _ rooms (judges ∙ rw told)
 
-          pub dirties-inside : (flags : ℕ) (range : Record) (a : Applied) (after : List ℕ) → x ≡ Inside flags range → Hands (hand-out range) live made records a after
+          pub dirties-inside : (flags : ℕ) (range : Record) (a : Applied) (after : List ℕ) → x ≡ Inside flags range → HandsOut (hand-out range) live made records a after
               → Dirties n entries live rooms made records c a after
           dirties-inside flags range a after told hands = rw (judges, told) (hands .applies rooms)
 

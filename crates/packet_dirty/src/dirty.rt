@@ -20,7 +20,7 @@ use rules::numbers::READS;
 ghost use Rattle.rules.specs.Packets.{on-dirty-packet};
 ghost use Rattle.kept_entries.specs.Views.{entriesOf};
 ghost use Rattle.kept_resources.specs.Views.{holdingsOf};
-ghost use Rattle.packet_ranges.specs.Views.{Applies, Room};
+ghost use Rattle.packet_ranges.specs.Views.{Applies, RowsExist};
 
 // Applies a dirty packet, in place. The entry is this submission's, whatever table the resource was created with.
 pub fn on_dirty(
@@ -32,7 +32,7 @@ pub fn on_dirty(
     made: usize,
     c: DirtyRange,
 ) -> Applied
-    requires { ⌜ Room n live made ⌝ }
+    requires { ⌜ RowsExist n live made ⌝ }
     ensures { λ r. ⌜ Applies (on-dirty-packet (entriesOf n (now (entries .entry))) (holdingsOf live (now (rooms .entry)) made (now (records .entry))) c) r (now (rooms .entry)) (now (records .exit)) ⌝ }
 {
     let place = find_resource(rooms, live, c.handle);

@@ -21,7 +21,7 @@ use Rattle.rows.specs.Rows.{rowAt, length-table}
 use Rattle.kept_entries.specs.Views.{RowRead, entriesOf}
 use Rattle.kept_entries.specs.Rows.{entry-found, entry-missing}
 use Rattle.kept_resources.specs.Views.{recordOf, recordsOf, holdingsOf}
-use Rattle.packet_ranges.specs.Views.{Applies, Room, refusedWith}
+use Rattle.packet_ranges.specs.Views.{Applies, RowsExist, refusedWith}
 use Rattle.packet_ranges.specs.declared.applied.Applied.{Applied}
 use Rattle.packet_ranges.specs.declared.handout.Resolved.{Resolved}
 use Rattle.packet_ranges.specs.declared.handout.Resolved.the-variants.{Missing, Past, Inside}
@@ -119,33 +119,33 @@ pub ruleset resolving = (resolves-missing, resolves-past, resolves-inside, start
 -- ---- hand_out
 
 -- what a packet leaves that changes no room of a resource: the rules' outcome, whatever the rooms hold
-pub record Hands (o : Holdings → Outcome) (live made : ℕ) (before : List ℕ) (a : Applied) (after : List ℕ) : Type 0 where
+pub record HandsOut (o : Holdings → Outcome) (live made : ℕ) (before : List ℕ) (a : Applied) (after : List ℕ) : Type 0 where
   pub applies : (rooms : List ℕ) → Applies (o (holdingsOf live rooms made before)) a rooms after
 
 abbrev pub acceptedWith : ℕ → ℕ → Applied
 acceptedWith live made = record { verdict = Fine; live = live; made = made }
 
 -- a refusal with the rule's number keeps what was held
-module _ (code n live made : ℕ) (records : List ℕ) (a : Applied) (room : Room n live made) (e : a ≡ refusedWith code live made) where
+module _ (code n live made : ℕ) (records : List ℕ) (a : Applied) (room : RowsExist n live made) (e : a ≡ refusedWith code live made) where
   pub refused-applies : (o : Outcome) (rooms : List ℕ) → o ≡ refused code (holdingsOf live rooms made records) → Applies o a rooms records
   refused-applies o rooms f = rw (e, f) (record { outcome = refl; live = room .live; made = room .made })
 
-  pub refused-hands : (o : Holdings → Outcome) → ((h : Holdings) → o h ≡ refused code h) → Hands o live made records a records
+  pub refused-hands : (o : Holdings → Outcome) → ((h : Holdings) → o h ≡ refused code h) → HandsOut o live made records a records
   refused-hands o f = record { applies = λ rooms. refused-applies _ rooms (f (holdingsOf live rooms made records)) }
 
 module _ (c : Record) (live made : ℕ) (l : List ℕ) (room : (live ≤ most) × (made ≤ most)) where
-  pub hands-nothing : c .length ≡ 0 → Hands (hand-out c) live made l (acceptedWith live made) l
+  pub hands-nothing : c .length ≡ 0 → HandsOut (hand-out c) live made l (acceptedWith live made) l
   unfolding hand-out
   hands-nothing p = record { applies = λ rooms. record { outcome = rw (eq-eqb _ _ p); live = room .0; made = room .1 } }
 
   module _ (p : c .length ≡ 0 → ⊥) where
-    pub hands-too-many : (a : Applied) → most ≤ made → a ≡ refusedWith too-many live made → Hands (hand-out c) live made l a l
+    pub hands-too-many : (a : Applied) → most ≤ made → a ≡ refusedWith too-many live made → HandsOut (hand-out c) live made l a l
     unfolding hand-out
     hands-too-many a q e =
         rw e
         (record { applies = λ rooms. record { outcome = rw (ne-eqb _ _ p, length-table recordOf 5 made l, le-leb _ _ q); live = room .0; made = room .1 } })
 
-    pub hands-record : (m : List ℕ) → made < most → recordsOf (made + 1) m ≡ pushed (recordsOf made l) c → Hands (hand-out c) live made l (acceptedWith live (made + 1)) m
+    pub hands-record : (m : List ℕ) → made < most → recordsOf (made + 1) m ≡ pushed (recordsOf made l) c → HandsOut (hand-out c) live made l (acceptedWith live (made + 1)) m
     unfolding hand-out
     hands-record m q e =
         record { applies = λ rooms. record { outcome = rw (ne-eqb _ _ p, length-table recordOf 5 made l, lt-leb _ _ q, e); live = room .0; made = omega arith } }

@@ -22,7 +22,7 @@ pub record Applies (o : Outcome) (a : Applied) (rooms records : List ℕ) : Type
   pub made : a .made ≤ most
 
 -- so many entries, live resources and records: their rows are there
-pub record Room (n l m : ℕ) : Type 0 where
+pub record RowsExist (n l m : ℕ) : Type 0 where
   pub entries : n ≤ most
   pub live : l ≤ most
   pub made : m ≤ most

@@ -10,7 +10,7 @@ use kept_records::push_record;
 use rules::Record;
 use rules::Resource;
 use rules::Verdict;
-use rules::numbers::MOST;
+use rules::numbers::MOST_ROWS;
 use rules::numbers::TOO_MANY;
 ghost use mathlib.Core.Path.{_≡_};
 ghost use Prim.Native.Nat.{_+_, _≤_};
@@ -19,7 +19,7 @@ ghost use Rattle.rules.specs.Numbers.{most};
 ghost use Rattle.rules.specs.Table.{matching};
 ghost use Rattle.rules.specs.Packets.{hand-out};
 ghost use Rattle.kept_entries.specs.Views.{entriesOf};
-ghost use Rattle.packet_ranges.specs.Handout.{Hands, resolvedOf};
+ghost use Rattle.packet_ranges.specs.Handout.{HandsOut, resolvedOf};
 
 // What a range of a resource comes to in this submission's table.
 pub enum Resolved {
@@ -82,10 +82,10 @@ pub fn resolve(
     Resolved::Inside(e.flags, range)
 }
 
-// Hands a range to the host, if it has bytes: one record more, for which there must be room.
+// HandsOut a range to the host, if it has bytes: one record more, for which there must be room.
 pub fn hand_out(records: &mut Records, made: usize, live: usize, c: Record) -> Applied
     requires { ⌜ (live ≤ most) × (made ≤ most) ⌝ }
-    ensures { λ r. ⌜ Hands (hand-out c) live made (now (records .entry)) r (now (records .exit)) ⌝ }
+    ensures { λ r. ⌜ HandsOut (hand-out c) live made (now (records .entry)) r (now (records .exit)) ⌝ }
 {
     if c.length == 0 {
         return Applied {
@@ -94,7 +94,7 @@ pub fn hand_out(records: &mut Records, made: usize, live: usize, c: Record) -> A
             made,
         };
     }
-    if made >= MOST {
+    if made >= MOST_ROWS {
         return refuse(TOO_MANY, live, made);
     }
     push_record(records, made, c);

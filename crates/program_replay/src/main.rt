@@ -79,7 +79,7 @@ fn open(script: &[u8]) {
     play_over(script, &mut memory, length);
 }
 
-// Room for the longest script, and a byte more, to tell one that is too long.
+// RowsExist for the longest script, and a byte more, to tell one that is too long.
 fn script_room() -> [u8; LONGEST_SCRIPT + 1]
     ensures { λ r. ⌜ 1048577 ≡ length r ⌝ }
 {

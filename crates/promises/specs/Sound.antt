@@ -34,7 +34,7 @@ use Rattle.rules.specs.declared.Opening.{Opening}
 use Rattle.rules.specs.declared.Opening.the-variants.{BadRing, NoWork, Refused, Started}
 use Rattle.rows.specs.Keys.{Once, once-nil, once-pushed}
 use Rattle.packet_apply.specs.Effects.{KeepsBytes}
-use Rattle.packet_apply.specs.Held.{Every, Inside, SoundResources, none-sound, Sound, first-sound, take-sound}
+use Rattle.packet_apply.specs.Held.{Every, Inside, SoundResources, none-sound, SoundHoldings, first-sound, take-sound}
 use Rattle.rule_laws.specs.Fine.{fine-later, kept-rule, both-left}
 
 -- ---- the entries of a table: at most 64, each id once
@@ -80,8 +80,8 @@ module _ (m : List ℕ) (t : Table) (kept : List Entry) (s : SoundEntries kept) 
 abbrev pub SoundWork : Work → Type 0
 SoundWork resting = 0 ≤ 0
 SoundWork (entries o kept) = SoundEntries kept
-SoundWork (packets j s at es h) = SoundEntries es × Sound es h
-SoundWork (waiting j es h) = SoundEntries es × Sound es h
+SoundWork (packets j s at es h) = SoundEntries es × SoundHoldings es h
+SoundWork (waiting j es h) = SoundEntries es × SoundHoldings es h
 
 pub record SoundState (s : State) : Type 0 where
   pub resources : SoundResources (s .resources)
@@ -93,7 +93,7 @@ made-sound memory = record { resources = none-sound; work = omega arith }
 
 -- ---- kept by a step
 
-packets-at-sound : (j : Job) (s : Stream) (at : ℕ) (es : List Entry) (h : Holdings) → SoundEntries es → Sound es h → SoundWork (packets-at j s at es h)
+packets-at-sound : (j : Job) (s : Stream) (at : ℕ) (es : List Entry) (h : Holdings) → SoundEntries es → SoundHoldings es h → SoundWork (packets-at j s at es h)
 packets-at-sound j s at es h e k = by-test (ltb at (s .size))
   where
     by-test : (b : Bool) → SoundWork (pick b (packets j s at es h) (waiting j es h))
@@ -122,7 +122,7 @@ module _ (w : World) (s : SoundResources (w .state .resources)) where
   after-entry-sound o kept Fine e = record { resources = s; work = entries-at-sound o kept (w .state .resources) e s }
   after-entry-sound o kept (Broken r) e = settled-sound (o .job) (Broken r) _ w s
 
-  after-packet-sound : (j : Job) (t : Stream) (next : ℕ) (es : List Entry) (h : Holdings) (v : Verdict) → SoundEntries es → Sound es h → SoundState (after-packet w j t next es h v .state)
+  after-packet-sound : (j : Job) (t : Stream) (next : ℕ) (es : List Entry) (h : Holdings) (v : Verdict) → SoundEntries es → SoundHoldings es h → SoundState (after-packet w j t next es h v .state)
   after-packet-sound j t next es h Fine e k = record { resources = s; work = packets-at-sound j t next es h e k }
   after-packet-sound j t next es h (Broken r) e k = settled-sound j (Broken r) _ w s
 

@@ -15,7 +15,7 @@ use Rattle.rules.specs.Table.{Judged, entry-place, entry-rules, keep, in-reach,
 use Rattle.rules.specs.Stream.{frame-of, packet-of, size-of, before, cut, stream-bytes}
 use Rattle.rules.specs.Packets.{Holdings, at-first, apply, apply-frame, take-packet}
 use Rattle.rules.specs.Unsliced.{Reckoned, one-further, judge-packets}
-use Rattle.stream_packets.specs.Framing.{Sound, frame-sound}
+use Rattle.stream_packets.specs.Framing.{FrameFits, frame-sound}
 use Rattle.stream_packets.specs.Listing.{cut-none, cut-next}
 use Rattle.rules.specs.State.{Work, World, working}
 use Rattle.rules.specs.State.Work.{resting, entries, packets, waiting}
@@ -183,7 +183,7 @@ module _ (w : World) (on : w .state .regs .enabled ≡ true) (j : Job) (s : Stre
     at-applied Fine size held q st ih = course-more (q .count) (placed at h) (placed (at + size) held) _ go-packet st midst-packet ih
     at-applied (Broken r) size held q st ih = course-last (placed at h) _ go-packet st midst-packet
 
-    at-frame : (k : ℕ) (f : Frame) → ((op size : ℕ) → f ≡ Whole op size → Sound (drop at bytes) op size)
+    at-frame : (k : ℕ) (f : Frame) → ((op size : ℕ) → f ≡ Whole op size → FrameFits (drop at bytes) op size)
         → step (placed at h) ≡ after-packet w j s (at + size-of f) es (apply-frame es h (drop at bytes) f .held) (apply-frame es h (drop at bytes) f .verdict)
         → ((n : ℕ) (g : Holdings) → at < n → n ≤ s .size → Reckons n g (judge-packets es g (cut k (drop n bytes))))
         → Reckons at h (judge-packets es h (before f (drop at bytes) (cut k (drop (at + size-of f) bytes))))

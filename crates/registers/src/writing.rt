@@ -17,7 +17,7 @@ use run_state::RING_SIZE;
 use run_state::TAG;
 use run_state::Words;
 use run_state::flag;
-use widths::wide;
+use widths::u32_to_word;
 ghost use mathlib.Core.Path.{_≡_};
 ghost use mathlib.Core.Bool.{not, _&&_};
 ghost use Rattle.rules.specs.Registers.{with-low, with-high, bit-of};
@@ -27,13 +27,13 @@ ghost use Rattle.registers.specs.Views.{Controls, Acks, Writes};
 fn with_low(v: u32, x: u64) -> u64
     ensures { λ r. ⌜ r ≡ with-low v x ⌝ }
 {
-    wide(v) + HALF * (x / HALF)
+    u32_to_word(v) + HALF * (x / HALF)
 }
 
 fn with_high(v: u32, x: u64) -> u64
     ensures { λ r. ⌜ r ≡ with-high v x ⌝ }
 {
-    x % HALF + HALF * wide(v)
+    x % HALF + HALF * u32_to_word(v)
 }
 
 fn bit_0(v: u32) -> bool
@@ -98,7 +98,7 @@ pub fn write(words: &mut Words, offset: u32, value: u32) -> u32
             DONE
         }
         offsets::RING_SIZE => {
-            words[RING_SIZE] = wide(value);
+            words[RING_SIZE] = u32_to_word(value);
             DONE
         }
         offsets::CONTROL => {
@@ -118,7 +118,7 @@ pub fn write(words: &mut Words, offset: u32, value: u32) -> u32
             DONE
         }
         offsets::IRQ_ENABLE => {
-            words[IRQ_ENABLE] = wide(value);
+            words[IRQ_ENABLE] = u32_to_word(value);
             DONE
         }
         offsets::IRQ_ACK => {

@@ -6,7 +6,7 @@ use rules::Verdict;
 use rules::numbers::BAD_DESCRIPTOR;
 use rules::numbers::DESCRIPTOR_SIZE;
 use rules::numbers::OUTSIDE_MEMORY;
-use widths::wide;
+use widths::u32_to_word;
 ghost use mathlib.Core.Path.{_≡_};
 ghost use Prim.Native.Nat.{_+_, _≤_, _<_};
 ghost use lib.ListN.{length};
@@ -43,7 +43,7 @@ fn bad(gpa: u64, size: u32) -> bool
     if gpa == 0 {
         return true;
     }
-    if gpa > u64::MAX - wide(size) {
+    if gpa > u64::MAX - u32_to_word(size) {
         return true;
     }
     false
@@ -80,7 +80,7 @@ pub fn descriptor_verdict(stride: u32, d: Descriptor) -> Verdict
 fn outside(memory: u64, gpa: u64, size: u32) -> bool
     ensures { λ r. ⌜ r ≡ past memory gpa size ⌝ }
 {
-    let long = wide(size);
+    let long = u32_to_word(size);
     if long == 0 {
         return false;
     }

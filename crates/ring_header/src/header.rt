@@ -6,7 +6,7 @@ use rules::numbers::GOOD_MAJOR;
 use rules::numbers::MINORS;
 use rules::numbers::RING_HEADER_SIZE;
 use rules::numbers::RING_MAGIC;
-use widths::wide;
+use widths::u32_to_word;
 ghost use mathlib.Core.Path.{_≡_};
 ghost use mathlib.Core.Bool.{true};
 ghost use Prim.Native.Nat.{_+_, _*_, _%_, _≤_, _<_};
@@ -77,7 +77,7 @@ pub fn good(size: u32, h: RingHeader) -> bool
     if h.stride < DESCRIPTOR_SIZE {
         return false;
     }
-    if wide(h.size) < slot_at(h, h.count) {
+    if u32_to_word(h.size) < slot_at(h, h.count) {
         return false;
     }
     if size < h.size {

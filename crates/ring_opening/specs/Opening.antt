@@ -30,11 +30,11 @@ use Rattle.rules.specs.declared.Verdict.the-variants.{Fine, Broken}
 use Rattle.rules.specs.declared.Opening.{Opening}
 use Rattle.rules.specs.declared.Opening.the-variants.{BadRing, NoWork, Refused, Started}
 use Rattle.table_header.specs.Header.{headed}
-use Rattle.table_header.specs.declared.header.Headed.{Headed}
-use Rattle.table_header.specs.declared.header.Headed.the-variants.{Good as GoodTable, Bad as BadTable}
+use Rattle.table_header.specs.declared.header.CheckedTable.{CheckedTable}
+use Rattle.table_header.specs.declared.header.CheckedTable.the-variants.{Good as GoodTable, Bad as BadTable}
 use Rattle.stream_header.specs.Header.{begun}
-use Rattle.stream_header.specs.declared.header.Begun.{Begun}
-use Rattle.stream_header.specs.declared.header.Begun.the-variants.{Good as GoodStream, Bad as BadStream}
+use Rattle.stream_header.specs.declared.header.CheckedStream.{CheckedStream}
+use Rattle.stream_header.specs.declared.header.CheckedStream.the-variants.{Good as GoodStream, Bad as BadStream}
 use Rattle.rule_laws.specs.Fine.{fine-first, fine-later, kept-rule, kept-only, both-left, both-right}
 
 -- ---- a table or a stream, where it is present
@@ -43,11 +43,11 @@ use Rattle.rule_laws.specs.Fine.{fine-first, fine-later, kept-rule, kept-only, 
 pub record Inside (memory gpa size : ℕ) : Type 0 where
   pub ends : (size ≡ 0 → ⊥) → gpa + size ≤ memory
 
-unfoldable pub tableOf : List ℕ → ℕ → ℕ → Headed
+unfoldable pub tableOf : List ℕ → ℕ → ℕ → CheckedTable
 tableOf m gpa size =
     headed (only (present size) (header-rules size (table-header m gpa))) (pick (present size) (table-of gpa (table-header m gpa)) no-table)
 
-unfoldable pub streamOf : List ℕ → ℕ → ℕ → Begun
+unfoldable pub streamOf : List ℕ → ℕ → ℕ → CheckedStream
 streamOf m gpa size =
     begun (only (present size) (stream-rules size (stream-header m gpa))) (pick (present size) (stream-of gpa (stream-header m gpa)) no-stream)
 
@@ -64,11 +64,11 @@ module _ (m : List ℕ) (gpa size : ℕ) where
     pub range-lies : Inside (length m) gpa size → p + s ≤ length m
     range-lies i = omega (arith, i .ends n)
 
-    pub table-there : (h : Headed) → h ≡ headed (header-rules s (table-header m p)) (table-of p (table-header m p)) → h ≡ tableOf m gpa size
+    pub table-there : (h : CheckedTable) → h ≡ headed (header-rules s (table-header m p)) (table-of p (table-header m p)) → h ≡ tableOf m gpa size
     unfolding tableOf
     table-there h e = rw (e, at, long .0, ne-eqb _ _ n)
 
-    pub stream-there : (h : Begun) → h ≡ begun (stream-rules s (stream-header m p)) (stream-of p (stream-header m p)) → h ≡ streamOf m gpa size
+    pub stream-there : (h : CheckedStream) → h ≡ begun (stream-rules s (stream-header m p)) (stream-of p (stream-header m p)) → h ≡ streamOf m gpa size
     unfolding streamOf
     stream-there h e = rw (e, at, long .0, ne-eqb _ _ n)
 
@@ -103,14 +103,14 @@ good-stream-says : (v : Verdict) (t u : Stream) → begun v t ≡ GoodStream u �
 good-stream-says Fine t u e = let same : u ≡ t = cc in (refl, same)
 good-stream-says (Broken x) t u e = absurd (let z : _≡_ {A = ℕ} 0 1 = cc in omega arith)
 
-module _ (m : List ℕ) (j : Job) (d : Descriptor) (t : Headed) (et : t ≡ tableOf m (d .table) (d .tablesize)) where
+module _ (m : List ℕ) (j : Job) (d : Descriptor) (t : CheckedTable) (et : t ≡ tableOf m (d .table) (d .tablesize)) where
   pub table-refused : (r : Refusal) → t ≡ BadTable r → Refused j r ≡ rangesOf m j d
   unfolding rangesOf tableOf
   table-refused r e =
       let broken : only (present (d .tablesize)) (header-rules (d .tablesize) (table-header m (d .table))) ≡ Broken r = bad-table-says _ _ r (sym et ∙ e) in
       rw broken
 
-  module _ (u : Table) (eu : t ≡ GoodTable u) (s : Begun) (es : s ≡ streamOf m (d .cmd) (d .cmdsize)) where
+  module _ (u : Table) (eu : t ≡ GoodTable u) (s : CheckedStream) (es : s ≡ streamOf m (d .cmd) (d .cmdsize)) where
     table-fine : (only (present (d .tablesize)) (header-rules (d .tablesize) (table-header m (d .table))) ≡ Fine) × (u ≡ pick (present (d .tablesize)) (table-of (d .table) (table-header m (d .table))) no-table)
     unfolding tableOf
     table-fine = good-table-says _ _ u (sym et ∙ eu)

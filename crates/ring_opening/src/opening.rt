@@ -15,11 +15,11 @@ use rules::Stream;
 use rules::Table;
 use rules::Verdict;
 use rules::numbers::RING_HEADER_SIZE;
-use stream_header::header::Begun;
-use table_header::header::Headed;
-use widths::long;
-use widths::place;
-use widths::wide;
+use stream_header::header::CheckedStream;
+use table_header::header::CheckedTable;
+use widths::u32_to_word;
+use widths::usize_to_word;
+use widths::word_to_usize;
 ghost use mathlib.Core.Path.{_≡_};
 ghost use Prim.Native.Nat.{_+_, _≤_, _<_};
 ghost use lib.ListN.{length};
@@ -27,29 +27,29 @@ ghost use Rattle.rules.specs.Ring.{submission-opening, ring-opening, opening-of
 ghost use Rattle.ring_opening.specs.Opening.{Inside, tableOf, streamOf, RangesInside, rangesOf, SlotInside};
 
 // 13 and 19, where a table is present.
-fn open_table(mem: &[u8], gpa: u64, size: u32) -> Headed
+fn open_table(mem: &[u8], gpa: u64, size: u32) -> CheckedTable
     requires { ⌜ Inside (length (now mem)) gpa size ⌝ }
     ensures { λ r. ⌜ r ≡ tableOf (now (mem .entry)) gpa size ⌝ }
 {
     if size == 0 {
-        return Headed::Good(Table {
+        return CheckedTable::Good(Table {
             gpa: 0,
             count: 0,
             stride: 0,
         });
     }
-    table_header::header::check_header(mem, place(gpa), wide(size))
+    table_header::header::check_header(mem, word_to_usize(gpa), u32_to_word(size))
 }
 
 // 16, where a stream is present.
-fn open_stream(mem: &[u8], gpa: u64, size: u32) -> Begun
+fn open_stream(mem: &[u8], gpa: u64, size: u32) -> CheckedStream
     requires { ⌜ Inside (length (now mem)) gpa size ⌝ }
     ensures { λ r. ⌜ r ≡ streamOf (now (mem .entry)) gpa size ⌝ }
 {
     if size == 0 {
-        return Begun::Good(Stream { gpa: 0, size: 0 });
+        return CheckedStream::Good(Stream { gpa: 0, size: 0 });
     }
-    stream_header::header::check_header(mem, place(gpa), wide(size))
+    stream_header::header::check_header(mem, word_to_usize(gpa), u32_to_word(size))
 }
 
 // The submission that a descriptor describes, once 11 and 12 have passed.
@@ -58,10 +58,10 @@ fn open_ranges(mem: &[u8], job: Job, d: Descriptor) -> Opening
     ensures { λ r. ⌜ r ≡ rangesOf (now (mem .entry)) job d ⌝ }
 {
     match open_table(mem, d.table, d.tablesize) {
-        Headed::Bad(why) => Opening::Refused(job, why),
-        Headed::Good(table) => match open_stream(mem, d.cmd, d.cmdsize) {
-            Begun::Bad(why) => Opening::Refused(job, why),
-            Begun::Good(stream) => Opening::Started(Opened { job, table, stream }),
+        CheckedTable::Bad(why) => Opening::Refused(job, why),
+        CheckedTable::Good(table) => match open_stream(mem, d.cmd, d.cmdsize) {
+            CheckedStream::Bad(why) => Opening::Refused(job, why),
+            CheckedStream::Good(stream) => Opening::Started(Opened { job, table, stream }),
         },
     }
 }
@@ -70,7 +70,7 @@ fn open_ranges(mem: &[u8], job: Job, d: Descriptor) -> Opening
 pub fn open_submission(mem: &[u8], stride: u32, job: Job, d: Descriptor) -> Opening
     ensures { λ r. ⌜ r ≡ submission-opening (now (mem .entry)) stride job d ⌝ }
 {
-    let memory = long(mem.len());
+    let memory = usize_to_word(mem.len());
     match descriptor_verdict(stride, d) {
         Verdict::Broken(why) => Opening::Refused(job, why),
         Verdict::Fine => match range_verdict(memory, d) {
@@ -88,7 +88,7 @@ fn open_head(mem: &[u8], ring: u64, h: RingHeader) -> Opening
     if h.head == h.tail {
         return Opening::NoWork;
     }
-    let d = descriptor_at(mem, place(ring + slot_offset(h)));
+    let d = descriptor_at(mem, word_to_usize(ring + slot_offset(h)));
     let job = Job {
         ring,
         head: h.head,
@@ -102,8 +102,8 @@ fn open_head(mem: &[u8], ring: u64, h: RingHeader) -> Opening
 pub fn open(mem: &[u8], ring: u64, size: u32) -> Opening
     ensures { λ r. ⌜ r ≡ opening-of (now (mem .entry)) ring size ⌝ }
 {
-    let memory = long(mem.len());
-    let bytes = wide(size);
+    let memory = usize_to_word(mem.len());
+    let bytes = u32_to_word(size);
     if size < RING_HEADER_SIZE {
         return Opening::BadRing;
     }
@@ -113,7 +113,7 @@ pub fn open(mem: &[u8], ring: u64, size: u32) -> Opening
     if ring > memory - bytes {
         return Opening::BadRing;
     }
-    let h = header_at(mem, place(ring));
+    let h = header_at(mem, word_to_usize(ring));
     if !good(size, h) {
         return Opening::BadRing;
     }

@@ -38,7 +38,7 @@ pub const BAD_COPY: u32 = 26;
 pub const HOST_FAILED: u32 = 27;
 
 // ---- limits
-pub const MOST: usize = 64;
+pub const MOST_ROWS: usize = 64;
 
 pub const LONGEST_SIDE: u32 = 16384;
 

@@ -16,7 +16,7 @@ use run_state::TAG;
 use run_state::WAITING;
 use run_state::Words;
 use run_state::flag;
-use widths::long;
+use widths::usize_to_word;
 ghost use mathlib.Core.Path.{_≡_};
 ghost use Prim.Native.Nat.{_≤_};
 ghost use Rattle.rules.specs.Numbers.{most};
@@ -29,7 +29,7 @@ pub fn land_entries(words: &mut Words, p: EntriesPlace, mem: &mut [u8])
     ensures { λ _. ⌜ LandsEntries (now (words .entry)) p (now (mem .entry)) (now (words .exit)) (now (mem .exit)) ⌝ }
 {
     if p.ending == GOING {
-        let n = long(p.n);
+        let n = usize_to_word(p.n);
         let all = &words[..];
         words[KEPT] = n;
         return;
@@ -46,9 +46,9 @@ pub fn land_packets(words: &mut Words, p: PacketsPlace, mem: &mut [u8])
     requires { ⌜ (tagIn (now words) ≡ 2) × (p .live ≤ most) × (p .made ≤ most) ⌝ }
     ensures { λ _. ⌜ LandsPackets (now (words .entry)) p (now (mem .entry)) (now (words .exit)) (now (mem .exit)) ⌝ }
 {
-    let at = long(p.at);
-    let live = long(p.live);
-    let made = long(p.made);
+    let at = usize_to_word(p.at);
+    let live = usize_to_word(p.live);
+    let made = usize_to_word(p.made);
     let own = flag(p.own);
     if p.ending == GOING {
         let all = &words[..];

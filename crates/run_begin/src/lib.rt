@@ -24,8 +24,8 @@ use run_state::TAG;
 use run_state::WAITING;
 use run_state::Words;
 use run_state::flag;
-use widths::long;
-use widths::wide;
+use widths::u32_to_word;
+use widths::usize_to_word;
 use words::low32;
 ghost use Prim.Native.Nat.{_≤_};
 ghost use Rattle.rules.specs.Numbers.{most};
@@ -38,7 +38,7 @@ pub fn begin_packets(words: &mut Words, kept: usize)
 {
     let live = words[LIVE];
     let size = low32(words[STREAM_SIZE]);
-    let n = long(kept);
+    let n = usize_to_word(kept);
     let all = &words[..];
     words[KEPT] = n;
     words[HELD] = live;
@@ -56,7 +56,7 @@ pub fn begin_packets(words: &mut Words, kept: usize)
 pub fn store_job(words: &mut Words, job: Job)
     ensures { λ _. ⌜ StoresJob (now (words .entry)) job (now (words .exit)) ⌝ }
 {
-    let head = wide(job.head);
+    let head = u32_to_word(job.head);
     let silent = flag(job.silent);
     let all = &words[..];
     words[JOB_RING] = job.ring;
@@ -72,9 +72,9 @@ fn store_opened(words: &mut Words, o: Opened)
     let job = o.job;
     let table = o.table;
     let stream = o.stream;
-    let n = wide(table.count);
-    let stride = wide(table.stride);
-    let size = wide(stream.size);
+    let n = u32_to_word(table.count);
+    let stride = u32_to_word(table.stride);
+    let size = u32_to_word(stream.size);
     store_job(words, job);
     let all = &words[..];
     words[TAG] = ENTRIES;

@@ -17,7 +17,7 @@ use Rattle.rules.specs.Steps.{go, step, after-opening, open-step, run-for}
 use Rattle.rules.specs.Ring.{opening-of}
 use Rattle.rules.specs.declared.Table.{Table}
 use Rattle.rules.specs.declared.Stream.{Stream}
-use Rattle.packet_ranges.specs.Views.{Room}
+use Rattle.packet_ranges.specs.Views.{RowsExist}
 use Rattle.run_entries.specs.Ending.{is-going, goes}
 use Rattle.run_entries.specs.Entries.{reading-goes, read-step, EntriesRan, from-row, outOf as entriesOut}
 use Rattle.run_entries.specs.declared.entries.EntriesRun.{EntriesRun}
@@ -89,7 +89,7 @@ pub packets-land : (s m e r h c h′ c′ : List ℕ) (left n : ℕ) (t : Stream
     → PacketsRan (stream-bytes m t) (t .size) n e p r h c left x h′ c′ → (tagIn s ≡ 2) × (x .place .live ≤ most) × (x .place .made ≤ most)
 packets-land s m e r h c h′ c′ left n t p x pre ran = (pre .0, ran .room .live, ran .room .made)
 
-pub packets-room : (x y z n live made : ℕ) → (n ≡ countIn x) × (n ≤ most) → (live ≡ countIn y) × (live ≤ most) → (made ≡ countIn z) × (made ≤ most) → Room n live made
+pub packets-room : (x y z n live made : ℕ) → (n ≡ countIn x) × (n ≤ most) → (live ≡ countIn y) × (live ≤ most) → (made ≡ countIn z) × (made ≤ most) → RowsExist n live made
 packets-room x y z n live made a b c = record { entries = a .1; live = b .1; made = c .1 }
 
 pub ruleset turning-packets = (packets-turned, packets-land, packets-room, needs)

@@ -28,12 +28,12 @@ use run_state::is_set;
 use run_state::rows_in;
 use run_state::stream_in;
 use run_state::table_in;
-use widths::index;
-use widths::place;
+use widths::u32_to_usize;
+use widths::word_to_usize;
 ghost use mathlib.Core.Path.{_≡_};
 ghost use Prim.Native.Nat.{_<_};
 ghost use Rattle.rules.specs.Stream.{stream-bytes};
-ghost use Rattle.packet_ranges.specs.Views.{Room};
+ghost use Rattle.packet_ranges.specs.Views.{RowsExist};
 ghost use Rattle.run_packets.specs.Playing.{PacketsRan};
 ghost use Rattle.run_state.specs.Views.{tagIn};
 ghost use Rattle.run_loop.specs.Views.{EntriesTurn, PacketsTurn, TurnOf, Advanced};
@@ -43,8 +43,8 @@ fn stream_part(mem: &[u8], s: Stream) -> &[u8]
     ensures { λ r. ⌜ now r ≡ stream-bytes (now (mem .entry)) s ⌝ }
 {
     let end = mem.len();
-    let from = place(s.gpa);
-    let size = index(s.size);
+    let from = word_to_usize(s.gpa);
+    let size = u32_to_usize(s.size);
     if from > end {
         return &mem[end..end];
     }
@@ -67,11 +67,11 @@ fn play(
     from: PacketsPlace,
     left: u16,
 ) -> PacketsRun
-    requires { ⌜ Room n (from .live) (from .made) × (from .ending ≡ 0) ⌝ }
+    requires { ⌜ RowsExist n (from .live) (from .made) × (from .ending ≡ 0) ⌝ }
     ensures { λ r. ⌜ PacketsRan (stream-bytes (now (mem .entry)) stream) (stream .size) n (now (entries .entry)) from (now (resources .entry)) (now (own .entry)) (now (records .entry)) left r (now (own .exit)) (now (records .exit)) ⌝ }
 {
     let part = stream_part(mem, stream);
-    let end = index(stream.size);
+    let end = u32_to_usize(stream.size);
     read_packets(part, end, entries, n, resources, own, records, from, left)
 }
 
@@ -104,7 +104,7 @@ fn packets_turn(
     let stream = stream_in(words);
     let n = rows_in(words[KEPT]);
     let from = PacketsPlace {
-        at: place(words[PLACE]),
+        at: word_to_usize(words[PLACE]),
         live: rows_in(words[HELD]),
         made: rows_in(words[MADE]),
         own: is_set(words[OWN]),

@@ -15,7 +15,7 @@ use run_state::RING;
 use run_state::RING_SIZE;
 use run_state::Words;
 use settle_registers::one_more;
-use widths::wide;
+use widths::u32_to_word;
 use words::low32;
 ghost use mathlib.Core.Path.{_≡_};
 ghost use Rattle.run_state.specs.Views.{tagIn};
@@ -25,7 +25,7 @@ ghost use Rattle.run_open.specs.Opening.{FaultsRing, Opens};
 fn fault_ring(words: &mut Words)
     ensures { λ _. ⌜ FaultsRing (now (words .entry)) (now (words .exit)) ⌝ }
 {
-    let errors = wide(one_more(low32(words[ERROR_COUNT])));
+    let errors = u32_to_word(one_more(low32(words[ERROR_COUNT])));
     let all = &words[..];
     words[FAILED] = 1;
     words[ERROR_CODE] = BAD_RING as u64;

@@ -25,8 +25,8 @@ use Rattle.rules.specs.declared.Verdict.{Verdict}
 use Rattle.rules.specs.declared.Verdict.the-variants.{Fine, Broken as BrokenRule}
 use Rattle.kept_entries.specs.Views.{entriesOf}
 use Rattle.kept_resources.specs.Views.{holdingsOf}
-use Rattle.stream_packets.specs.Framing.{Sound, frame-sound, Passed}
-use Rattle.packet_ranges.specs.Views.{Room}
+use Rattle.stream_packets.specs.Framing.{FrameFits, frame-sound, Passed}
+use Rattle.packet_ranges.specs.Views.{RowsExist}
 use Rattle.packet_apply.specs.Apply.{Changes, unknown-applied}
 use Rattle.packet_apply.specs.declared.apply.Changed.{Changed}
 use Rattle.run_entries.specs.Ending.{Ending, onward, ending-at, endingOf, is-going, is-done, is-broken, goes, ends, phase-on, phase-left}
@@ -63,11 +63,11 @@ outOf x r l c = record { state = playingOf (x .place) r l c; units = x .units }
 
 pub record PacketStepped (b : List ℕ) (end n : ℕ) (e : List ℕ) (p : PacketsPlace) (r l c : List ℕ) (q : PacketsPlace) (l′ c′ : List ℕ) : Type 0 where
   pub step : playingOf q r l′ c′ ≡ play-step (entriesOf n e) b end (playingOf p r l c)
-  pub room : Room n (q .live) (q .made)
+  pub room : RowsExist n (q .live) (q .made)
 
 pub record PacketsRan (b : List ℕ) (end n : ℕ) (e : List ℕ) (p : PacketsPlace) (r l c : List ℕ) (allowance : ℕ) (x : PacketsRun) (l′ c′ : List ℕ) : Type 0 where
   pub run : outOf x r l′ c′ ≡ runFor playing-goes (play-step (entriesOf n e) b end) allowance (playingOf p r l c)
-  pub room : Room n (x .place .live) (x .place .made)
+  pub room : RowsExist n (x .place .live) (x .place .made)
 
 -- ---- place_after
 
@@ -111,7 +111,7 @@ by-end true = is-going 0 0 refl
 by-end false = is-done 1 0 refl
 
 module _ (b : List ℕ) (end n : ℕ) (e : List ℕ) (p : PacketsPlace) (r l c : List ℕ) (f : Frame) (framed : f ≡ frame-of (drop (p .at) b)) where
-  pub step-misframed : (why : Refusal) → Room n (p .live) (p .made) → f ≡ Misframed why
+  pub step-misframed : (why : Refusal) → RowsExist n (p .live) (p .made) → f ≡ Misframed why
       → PacketStepped b end n e p r l c (record { at = p .at; live = p .live; made = p .made; own = p .own; ending = 2; why = why .code }) l c
   unfolding play-step take-packet
   step-misframed why room q = record { step = rw (is-broken 2 (why .code) (omega arith) (omega arith), ← framed, q); room = room }
@@ -125,7 +125,7 @@ module _ (b : List ℕ) (end n : ℕ) (e : List ℕ) (p : PacketsPlace) (r l c :
 
     pub next-fits : (k : ℕ) → k ≡ size → p .at < 2 ^ 64 → length b < 2 ^ 64 → Fits w64 (p .at + k)
     next-fits k same h g =
-        let s : Sound (drop (p .at) b) op size = frame-sound (drop (p .at) b) op size whole in
+        let s : FrameFits (drop (p .at) b) op size = frame-sound (drop (p .at) b) op size whole in
         record { fits = omega (arith, s .inside, s .header, length-drop (p .at) b) }
 
     module _ (x : Changed) (l′ c′ : List ℕ) where
@@ -135,11 +135,11 @@ module _ (b : List ℕ) (end n : ℕ) (e : List ℕ) (p : PacketsPlace) (r l c :
       after-verdict o next (BrokenRule why) h =
           rw (is-broken 2 (why .code) (omega arith) (omega arith)) (ap (λ (y : Outcome). record { at = p .at; held = y .held; ending = Broken why }) h)
 
-      after-room : (next : ℕ) (v : Verdict) → n ≤ most → x .live ≤ most → x .made ≤ most → Room n (after-by (p .at) next end x v .live) (after-by (p .at) next end x v .made)
+      after-room : (next : ℕ) (v : Verdict) → n ≤ most → x .live ≤ most → x .made ≤ most → RowsExist n (after-by (p .at) next end x v .live) (after-by (p .at) next end x v .made)
       after-room next Fine h i j = record { entries = h; live = i; made = j }
       after-room next (BrokenRule why) h i j = record { entries = h; live = i; made = j }
 
-      pub step-taken : (i : ℕ) (y : PacketsPlace) → Room n (p .live) (p .made) → i ≡ size
+      pub step-taken : (i : ℕ) (y : PacketsPlace) → RowsExist n (p .live) (p .made) → i ≡ size
           → Changes (take-packet (entriesOf n e) (holdingsOf (p .live) (pick (p .own) l r) (p .made) c) (drop (p .at) b)) r x l′ c′ → y ≡ placeAfter (p .at) (p .at + i) end x → PacketStepped b end n e p r l c y l′ c′
       unfolding play-step placeAfter
       step-taken i y room same change is =
@@ -207,7 +207,7 @@ module _ (b : List ℕ) (end n : ℕ) (e : List ℕ) (p₀ : PacketsPlace) (r l�
 
   module _ (u : ℕ) (p : PacketsPlace) (l c : List ℕ)
       (inv : runFor playing-goes (play-step (entriesOf n e) b end) a (playingOf p₀ r l₀ c₀) ≡ spent u (runFor playing-goes (play-step (entriesOf n e) b end) (a - u) (playingOf p r l c))) where
-    pub plays-no-more : a ≤ u → Room n (p .live) (p .made) → PacketsRan b end n e p₀ r l₀ c₀ a (record { place = p; units = u }) l c
+    pub plays-no-more : a ≤ u → RowsExist n (p .live) (p .made) → PacketsRan b end n e p₀ r l₀ c₀ a (record { place = p; units = u }) l c
     plays-no-more h room = record { run = loop-out playing-goes (play-step (entriesOf n e) b end) a u (playingOf p r l c) _ inv h; room = room }
 
     module _ (more : u < a) (here : p .ending ≡ 0) (q : PacketsPlace) (l′ c′ : List ℕ) (s : PacketStepped b end n e p r l c q l′ c′) where

@@ -13,7 +13,7 @@ use run_entries::ending::GOING;
 use stream_packets::framing::frame_at;
 use stream_packets::framing::packet_at;
 use stream_packets::framing::unknown_size;
-use widths::index;
+use widths::u32_to_usize;
 ghost use mathlib.Core.Path.{_≡_};
 ghost use Prim.Native.Nat.{_+_, _-_, _≤_, _^_, _<_};
 ghost use lib.ListN.{length, drop};
@@ -23,7 +23,7 @@ ghost use Rattle.rules.specs.Packets.{take-packet};
 ghost use Rattle.rules.specs.declared.Frame.the-variants.{Whole};
 ghost use Rattle.kept_entries.specs.Views.{entriesOf};
 ghost use Rattle.kept_resources.specs.Views.{holdingsOf};
-ghost use Rattle.packet_ranges.specs.Views.{Room};
+ghost use Rattle.packet_ranges.specs.Views.{RowsExist};
 ghost use Rattle.packet_apply.specs.Apply.{Changes};
 ghost use Rattle.run_packets.specs.Playing.{placeAfter, PacketStepped, Skips, PacketsRan};
 
@@ -100,7 +100,7 @@ fn take_packet(
     records: &mut Records,
     p: PacketsPlace,
 ) -> Taken
-    requires { ⌜ (frame-of (drop at (now stream)) ≡ Whole op size) × Room n (p .live) (p .made) ⌝ }
+    requires { ⌜ (frame-of (drop at (now stream)) ≡ Whole op size) × RowsExist n (p .live) (p .made) ⌝ }
     ensures { λ x. ⌜ Changes (take-packet (entriesOf n (now (entries .entry))) (holdingsOf (p .live) (pick (p .own) (now (held .entry)) (now (rooms .entry))) (p .made) (now (records .entry))) (drop at (now (stream .entry)))) (now (rooms .entry)) (x .changed) (now (held .exit)) (now (records .exit)) ⌝ }
 {
     let packet = packet_at(stream, at, op, size);
@@ -141,7 +141,7 @@ fn step_packet(
     records: &mut Records,
     p: PacketsPlace,
 ) -> Stepped
-    requires { ⌜ Room n (p .live) (p .made) ⌝ }
+    requires { ⌜ RowsExist n (p .live) (p .made) ⌝ }
     ensures { λ r. ⌜ PacketStepped (now (stream .entry)) end n (now (entries .entry)) p (now (rooms .entry)) (now (held .entry)) (now (records .entry)) (r .place) (now (held .exit)) (now (records .exit)) ⌝ }
 {
     let at = p.at;
@@ -160,7 +160,7 @@ fn step_packet(
         Frame::Whole(op, size) => {
             let t = take_packet(stream, at, op, size, entries, n, rooms, held, records, p);
             Stepped {
-                place: place_after(at, at + index(size), end, t.changed),
+                place: place_after(at, at + u32_to_usize(size), end, t.changed),
                 unknown: t.unknown,
             }
         }
@@ -225,7 +225,7 @@ pub fn read_packets(
     from: PacketsPlace,
     allowance: u16,
 ) -> PacketsRun
-    requires { ⌜ Room n (from .live) (from .made) × (from .ending ≡ 0) ⌝ }
+    requires { ⌜ RowsExist n (from .live) (from .made) × (from .ending ≡ 0) ⌝ }
     ensures { λ r. ⌜ PacketsRan (now (stream .entry)) end n (now (entries .entry)) from (now (rooms .entry)) (now (held .entry)) (now (records .entry)) allowance r (now (held .exit)) (now (records .exit)) ⌝ }
 {
     let bound = inner_bound(stream, end);

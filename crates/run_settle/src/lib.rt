@@ -24,7 +24,7 @@ use settle::mark;
 use settle_registers::completed_after;
 use settle_registers::fenced_after;
 use settle_registers::one_more;
-use widths::wide;
+use widths::u32_to_word;
 use words::low32;
 ghost use mathlib.Core.Path.{_≡_};
 ghost use Rattle.run_state.specs.Views.{setIn};
@@ -57,8 +57,8 @@ fn finish(words: &mut Words, mem: &mut [u8])
 pub fn settle_refused(words: &mut Words, mem: &mut [u8], why: Refusal)
     ensures { λ _. ⌜ Refuses (now (words .entry)) (now (mem .entry)) why (now (words .exit)) (now (mem .exit)) ⌝ }
 {
-    let errors = wide(one_more(low32(words[ERROR_COUNT])));
-    let code = wide(why.code);
+    let errors = u32_to_word(one_more(low32(words[ERROR_COUNT])));
+    let code = u32_to_word(why.code);
     let fence = words[JOB_SIGNAL];
     let all = &words[..];
     words[FAILED] = 1;

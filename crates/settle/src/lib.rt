@@ -2,7 +2,7 @@
 use rules::Job;
 use rules::numbers::PAGE_MAGIC;
 use rules::numbers::VERSION;
-use widths::place;
+use widths::word_to_usize;
 ghost use mathlib.Core.Path.{_≡_};
 ghost use Prim.Native.Nat.{_≤_};
 ghost use lib.ListN.{length};
@@ -33,7 +33,7 @@ pub fn write_head(mem: &mut [u8], job: Job)
     ensures { λ _. ⌜ now (mem .exit) ≡ head-written job (now (mem .entry)) ⌝ }
 {
     let size = mem.len();
-    let ring = place(job.ring);
+    let ring = word_to_usize(job.ring);
     let next = std::num::wrapping_add_u32(job.head, 1);
     if size < HEAD_END {
         return;
@@ -51,7 +51,7 @@ pub fn write_page(mem: &mut [u8], gpa: u64, completed: u64)
     ensures { λ _. ⌜ now (mem .exit) ≡ page-put gpa completed (now (mem .entry)) ⌝ }
 {
     let size = mem.len();
-    let page = place(gpa);
+    let page = word_to_usize(gpa);
     if page == 0 {
         return;
     }

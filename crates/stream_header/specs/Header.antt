@@ -18,11 +18,11 @@ use Rattle.rules.specs.declared.StreamHeader.{StreamHeader}
 use Rattle.rules.specs.declared.Verdict.{Verdict}
 use Rattle.rules.specs.declared.Verdict.the-variants.{Fine, Broken}
 use Rattle.rule_laws.specs.Fine.{all-kept}
-use Rattle.stream_header.specs.declared.header.Begun.{Begun}
-use Rattle.stream_header.specs.declared.header.Begun.the-variants.{Good, Bad}
+use Rattle.stream_header.specs.declared.header.CheckedStream.{CheckedStream}
+use Rattle.stream_header.specs.declared.header.CheckedStream.the-variants.{Good, Bad}
 
 -- the stream where its header is fine, and the broken rule where it is not
-abbrev pub begun : Verdict → Stream → Begun
+abbrev pub begun : Verdict → Stream → CheckedStream
 begun Fine s = Good s
 begun (Broken r) s = Bad r
 
@@ -102,13 +102,13 @@ pub ruleset heading = (header-is, range-short, other-magic, other-version, strea
 
 -- ---- what a good stream is known by
 
-pub record Sound (cmdsize : ℕ) (h : StreamHeader) : Type 0 where
+pub record GoodStreamHeader (cmdsize : ℕ) (h : StreamHeader) : Type 0 where
   pub magic : h .magic ≡ stream-magic
   pub major : h .version / 65536 ≡ 1
   pub header : stream-header-size ≤ h .size
   pub inside : h .size ≤ cmdsize
 
-pub stream-sound : (cmdsize : ℕ) (h : StreamHeader) → stream-rules cmdsize h ≡ Fine → Sound cmdsize h
+pub stream-sound : (cmdsize : ℕ) (h : StreamHeader) → stream-rules cmdsize h ≡ Fine → GoodStreamHeader cmdsize h
 unfolding stream-rules
 stream-sound cmdsize h e =
     let k =

@@ -14,14 +14,14 @@ use rules::numbers::BAD_STREAM;
 use rules::numbers::GOOD_MAJOR;
 use rules::numbers::MINORS;
 use rules::numbers::STREAM_MAGIC;
-use widths::long;
-use widths::wide;
+use widths::u32_to_word;
+use widths::usize_to_word;
 use words::u32_at;
 
 const STREAM_HEADER_SIZE: u64 = rules::numbers::STREAM_HEADER_SIZE as u64;
 
 // What the check of a header gives: the numbers to keep, or the rule that is broken.
-pub enum Begun {
+pub enum CheckedStream {
     Good(Stream),
     Bad(Refusal),
 }
@@ -42,7 +42,7 @@ fn header_at(mem: &[u8], at: usize) -> StreamHeader
 pub fn header_verdict(cmdsize: u64, h: StreamHeader) -> Verdict
     ensures { λ r. ⌜ r ≡ stream-rules cmdsize h ⌝ }
 {
-    let size = wide(h.size);
+    let size = u32_to_word(h.size);
     if cmdsize < STREAM_HEADER_SIZE {
         return Verdict::Broken(Refusal { code: BAD_STREAM });
     }
@@ -62,18 +62,18 @@ pub fn header_verdict(cmdsize: u64, h: StreamHeader) -> Verdict
 }
 
 // Checks the header at the start of the command range. Too short a range is not read.
-pub fn check_header(mem: &[u8], at: usize, cmdsize: u64) -> Begun
+pub fn check_header(mem: &[u8], at: usize, cmdsize: u64) -> CheckedStream
     requires { ⌜ at + cmdsize ≤ length (now mem) ⌝ }
     ensures { λ r. ⌜ r ≡ begun (stream-rules cmdsize (stream-header (now (mem .entry)) at)) (stream-of at (stream-header (now (mem .entry)) at)) ⌝ }
 {
     if cmdsize < STREAM_HEADER_SIZE {
-        return Begun::Bad(Refusal { code: BAD_STREAM });
+        return CheckedStream::Bad(Refusal { code: BAD_STREAM });
     }
     let h = header_at(mem, at);
-    let gpa = long(at);
+    let gpa = usize_to_word(at);
     let size = h.size;
     match header_verdict(cmdsize, h) {
-        Verdict::Fine => Begun::Good(Stream { gpa, size }),
-        Verdict::Broken(r) => Begun::Bad(r),
+        Verdict::Fine => CheckedStream::Good(Stream { gpa, size }),
+        Verdict::Broken(r) => CheckedStream::Bad(r),
     }
 }

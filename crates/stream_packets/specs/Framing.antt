@@ -116,7 +116,7 @@ one-of true b e f = let z : _≡_ {A = ℕ} 0 1 = cc in absurd (omega arith)
 one-of false true e f = refl
 one-of false false e f = let z : _≡_ {A = ℕ} 0 1 = cc in absurd (omega arith)
 
-pub record Sound (b : List ℕ) (op size : ℕ) : Type 0 where
+pub record FrameFits (b : List ℕ) (op size : ℕ) : Type 0 where
   pub opcode : op ≡ word b 0
   pub stated : size ≡ word b 4
   pub header : packet-header-size ≤ size
@@ -131,7 +131,7 @@ unfolding wrong-size
 right-size op size w n = eqb-true _ _ (one-of (eqb (known-size op) 0) (eqb (known-size op) size) w (ne-eqb _ _ n))
 
 -- a whole packet has a header, ends within the bytes left, and has room for the fields of its opcode
-pub frame-sound : (b : List ℕ) (op size : ℕ) → frame-of b ≡ Whole op size → Sound b op size
+pub frame-sound : (b : List ℕ) (op size : ℕ) → frame-of b ≡ Whole op size → FrameFits b op size
 unfolding frame-of frame-rules
 frame-sound b op size e =
     let f = framed-fine (frame-rules b) (word b 0) (word b 4) op size e in

@@ -21,7 +21,7 @@ use rules::numbers::DESTROY;
 use rules::numbers::DESTROY_SIZE;
 use rules::numbers::DIRTY_RANGE;
 use rules::numbers::DIRTY_RANGE_SIZE;
-use widths::index;
+use widths::u32_to_usize;
 use words::u32_at;
 
 const PACKET_HEADER_SIZE: usize = rules::numbers::PACKET_HEADER_SIZE as usize;
@@ -45,7 +45,7 @@ fn wrong_size(op: u32, size: u32) -> bool
 fn frame_by(left: usize, op: u32, size: u32) -> Frame
     ensures { λ r. ⌜ r ≡ frame-by left op size ⌝ }
 {
-    let room = index(size);
+    let room = u32_to_usize(size);
     if room > left {
         return Frame::Misframed(Refusal { code: BAD_PACKET });
     }
@@ -91,7 +91,7 @@ pub fn unknown_size(stream: &[u8], at: usize, room: usize) -> usize
         return 0;
     }
     let size = u32_at(stream, at + 4);
-    let long = index(size);
+    let long = u32_to_usize(size);
     if long >= room {
         return 0;
     }
@@ -118,5 +118,5 @@ pub fn packet_at(stream: &[u8], at: usize, op: u32, size: u32) -> Packet
     requires { ⌜ frame-of (drop at (now stream)) ≡ Whole op size ⌝ }
     ensures { λ r. ⌜ r ≡ packet-of op (take size (drop at (now (stream .entry)))) ⌝ }
 {
-    packet_from(op, packet_part(stream, at, index(size)))
+    packet_from(op, packet_part(stream, at, u32_to_usize(size)))
 }

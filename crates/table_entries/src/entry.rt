@@ -9,11 +9,11 @@ use rules::Refusal;
 use rules::Table;
 use rules::Verdict;
 use rules::numbers::BAD_ENTRY;
-use rules::numbers::MOST;
+use rules::numbers::MOST_ROWS;
 use rules::numbers::TWICE_IN_TABLE;
 use table_header::header::ENTRY_SIZE;
 use table_header::header::entry_offset;
-use widths::wide;
+use widths::u32_to_word;
 ghost use mathlib.Core.Path.{_≡_};
 ghost use Prim.Native.Nat.{_+_, _-_, _≤_, _<_};
 ghost use Rattle.rules.specs.Layouts.{entry};
@@ -67,8 +67,8 @@ fn push_entry(kept: &mut Entries, n: usize, e: Entry)
     // costs nothing, and says how many words there are
     let all = &kept[..];
     let b = WORDS * n;
-    kept[b] = wide(e.id);
-    kept[b + 1] = wide(e.flags);
+    kept[b] = u32_to_word(e.id);
+    kept[b + 1] = u32_to_word(e.flags);
     kept[b + 2] = e.gpa;
     kept[b + 3] = e.gpa + e.size;
 }
@@ -79,7 +79,7 @@ pub fn take_entry(mem: &[u8], t: Table, kept: &mut Entries, n: usize) -> Verdict
     ensures { λ r. ⌜ takenOf r n (now (kept .exit)) ≡ take-entry (now (mem .entry)) t (entriesOf n (now (kept .entry))) ⌝ }
 {
     let memory = mem.len() as u64;
-    if n >= MOST {
+    if n >= MOST_ROWS {
         return Verdict::Broken(Refusal { code: BAD_ENTRY });
     }
     let offset = entry_offset(t.stride, n as u32);

@@ -20,11 +20,11 @@ use Rattle.rules.specs.declared.TableHeader.{TableHeader}
 use Rattle.rules.specs.declared.Verdict.{Verdict}
 use Rattle.rules.specs.declared.Verdict.the-variants.{Fine, Broken}
 use Rattle.rule_laws.specs.Fine.{fine-first, fine-later, kept-rule}
-use Rattle.table_header.specs.declared.header.Headed.{Headed}
-use Rattle.table_header.specs.declared.header.Headed.the-variants.{Good, Bad}
+use Rattle.table_header.specs.declared.header.CheckedTable.{CheckedTable}
+use Rattle.table_header.specs.declared.header.CheckedTable.the-variants.{Good, Bad}
 
 -- the numbers of a good header are kept
-abbrev pub headed : Verdict → Table → Headed
+abbrev pub headed : Verdict → Table → CheckedTable
 headed Fine t = Good t
 headed (Broken r) t = Bad r
 

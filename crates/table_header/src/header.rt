@@ -7,7 +7,7 @@ use rules::Verdict;
 use rules::numbers::BAD_TABLE;
 use rules::numbers::GOOD_MAJOR;
 use rules::numbers::MINORS;
-use rules::numbers::MOST;
+use rules::numbers::MOST_ROWS;
 use rules::numbers::TABLE_HEADER_SIZE;
 use rules::numbers::TABLE_MAGIC;
 use rules::numbers::TOO_MANY;
@@ -24,7 +24,7 @@ pub const HEADER_SIZE: u64 = TABLE_HEADER_SIZE as u64;
 pub const ENTRY_SIZE: u64 = rules::numbers::ENTRY_SIZE as u64;
 
 // How the check of a header ends: the numbers kept, or the rule broken.
-pub enum Headed {
+pub enum CheckedTable {
     Good(Table),
     Bad(Refusal),
 }
@@ -76,27 +76,27 @@ pub fn header_verdict(tablesize: u64, h: TableHeader) -> Verdict
     if (h.size as u64) < end {
         return Verdict::Broken(Refusal { code: BAD_TABLE });
     }
-    if (MOST as u64) < h.count as u64 {
+    if (MOST_ROWS as u64) < h.count as u64 {
         return Verdict::Broken(Refusal { code: TOO_MANY });
     }
     Verdict::Fine
 }
 
 // Reads and judges the header of a table that lies within memory. A table too short for one is not read.
-pub fn check_header(mem: &[u8], at: usize, tablesize: u64) -> Headed
+pub fn check_header(mem: &[u8], at: usize, tablesize: u64) -> CheckedTable
     requires { ⌜ at + tablesize ≤ length (now mem) ⌝ }
     ensures { λ r. ⌜ r ≡ headed (header-rules tablesize (table-header (now (mem .entry)) at)) (table-of at (table-header (now (mem .entry)) at)) ⌝ }
 {
     if tablesize < HEADER_SIZE {
-        return Headed::Bad(Refusal { code: BAD_TABLE });
+        return CheckedTable::Bad(Refusal { code: BAD_TABLE });
     }
     let h = header_at(mem, at);
     match header_verdict(tablesize, h) {
-        Verdict::Fine => Headed::Good(Table {
+        Verdict::Fine => CheckedTable::Good(Table {
             gpa: at as u64,
             count: h.count,
             stride: h.stride,
         }),
-        Verdict::Broken(why) => Headed::Bad(why),
+        Verdict::Broken(why) => CheckedTable::Bad(why),
     }
 }

@@ -24,8 +24,8 @@ use Rattle.rows.specs.Rows.{tab, tab-first, tab-none, tab-snoc}
 use Rattle.rows.specs.Keys.{lookup-here, lookup-later, lookup-nil}
 use Rattle.table_header.specs.Header.{headed, Sized, fine-sized}
 use Rattle.table_entries.specs.Entry.{sound, unsound, sound-once}
-use Rattle.table_header.specs.declared.header.Headed.{Headed}
-use Rattle.table_header.specs.declared.header.Headed.the-variants.{Good, Bad}
+use Rattle.table_header.specs.declared.header.CheckedTable.{CheckedTable}
+use Rattle.table_header.specs.declared.header.CheckedTable.the-variants.{Good, Bad}
 
 -- a table that stands at the front of some bytes, with each of its entries within them
 pub record Within (b : List ℕ) (t : Table) : Type 0 where
@@ -141,7 +141,7 @@ good-rules : (v : Verdict) (t t′ : Table) → headed v t ≡ Good t′ → (v 
 good-rules Fine t t′ e = (refl, cc)
 good-rules (Broken x) t t′ e = let z : _≡_ {A = ℕ} 0 1 = cc in absurd (omega arith)
 
-module _ (b : List ℕ) (memory : ℕ) (r : Headed) (checked : r ≡ headed (header-rules (length b) (table-header b 0)) (table-of 0 (table-header b 0))) where
+module _ (b : List ℕ) (memory : ℕ) (r : CheckedTable) (checked : r ≡ headed (header-rules (length b) (table-header b 0)) (table-of 0 (table-header b 0))) where
   pub first-in-header : (why : Refusal) → r ≡ Bad why → why .code ≡ table-error b memory
   unfolding table-error table-verdict
   first-in-header why told =

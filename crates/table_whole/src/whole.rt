@@ -5,7 +5,7 @@ use rules::Table;
 use rules::numbers::BAD_ENTRY;
 use rules::numbers::TWICE_IN_TABLE;
 use table_entries::entry::sound;
-use table_header::header::Headed;
+use table_header::header::CheckedTable;
 use table_header::header::check_header;
 use table_header::header::entry_offset;
 ghost use mathlib.Core.Path.{_≡_};
@@ -48,7 +48,7 @@ pub fn first_error(table: &[u8], memory: u64) -> u32
     ensures { λ r. ⌜ r ≡ table-error (now (table .entry)) memory ⌝ }
 {
     match check_header(table, 0, table.len() as u64) {
-        Headed::Good(t) => entries_error(table, memory, t),
-        Headed::Bad(why) => why.code,
+        CheckedTable::Good(t) => entries_error(table, memory, t),
+        CheckedTable::Bad(why) => why.code,
     }
 }

@@ -3,35 +3,35 @@ ghost use mathlib.Core.Path.{_≡_};
 ghost use Prim.Native.Nat.{_<_};
 
 // A small number in a word, known to be one of four bytes.
-pub fn wide(small: u32) -> u64
+pub fn u32_to_word(small: u32) -> u64
     ensures { λ r. ⌜ (r ≡ small) × (r < 4294967296) ⌝ }
 {
     small as u64
 }
 
 // A length or a place as a word.
-pub fn long(at: usize) -> u64
+pub fn usize_to_word(at: usize) -> u64
     ensures { λ r. ⌜ (r ≡ at) × (r < 18446744073709551616) ⌝ }
 {
     at as u64
 }
 
 // A word as a place in memory.
-pub fn place(word: u64) -> usize
+pub fn word_to_usize(word: u64) -> usize
     ensures { λ r. ⌜ r ≡ word ⌝ }
 {
     word as usize
 }
 
 // A small number as a place or a length.
-pub fn index(i: u32) -> usize
+pub fn u32_to_usize(i: u32) -> usize
     ensures { λ r. ⌜ r ≡ i ⌝ }
 {
     i as usize
 }
 
 // A count of units as a word.
-pub fn count(units: u16) -> u64
+pub fn u16_to_word(units: u16) -> u64
     ensures { λ r. ⌜ r ≡ units ⌝ }
 {
     units as u64

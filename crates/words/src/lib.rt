@@ -1,7 +1,7 @@
 // Little-endian words read from a slice of bytes, each by one load: what every other crate reads its numbers with.
 pub mod stores;
 
-use widths::wide;
+use widths::u32_to_word;
 ghost use mathlib.Core.Path.{_≡_};
 ghost use Prim.Native.Nat.{_+_, _/_, _%_, _≤_, _<_};
 ghost use lib.ListN.{length};
@@ -37,5 +37,5 @@ pub fn u64_at(mem: &[u8], at: usize) -> u64
     requires { ⌜ at + 8 ≤ length (now mem) ⌝ }
     ensures { λ r. ⌜ r ≡ field 8 (now (mem .entry)) at ⌝ }
 {
-    wide(u32_at(mem, at)) | (wide(u32_at(mem, at + 4)) << 32)
+    u32_to_word(u32_at(mem, at)) | (u32_to_word(u32_at(mem, at + 4)) << 32)
 }

@@ -13,7 +13,7 @@ use Rattle.rules.specs.Calls.{ended-number, Value, Handed as HandedBy, Ran, cal
 use Rattle.rules.specs.declared.Record.{Record}
 use Rattle.rules.specs.declared.Ended.{Ended}
 use Rattle.run_state.specs.Views.{setIn, stateIn, deskIn, Refused}
-use Rattle.device_calls.specs.Views.{valueOf, handedOf, Makes, Reads, Hands}
+use Rattle.device_calls.specs.Views.{valueOf, handedOf, Makes, Reads, GivesRecord}
 use Rattle.device_calls.specs.declared.ValueRead.{ValueRead}
 use Rattle.device_calls.specs.declared.Handed.{Handed}
 use Rattle.device_memory_calls.specs.Views.{Runs, Answers}
@@ -55,7 +55,7 @@ pub says-words : (l : List ℕ) (x : Record) (kind handle id : ℕ) → length l
     → set (set (set (set (set l 0 kind) 1 handle) 2 id) 3 (x .gpa)) 4 (x .length) ≡ recordWords x
 says-words l x kind handle id long p q t = five-set l kind handle id (x .gpa) (x .length) long ∙ rw (p .0, q .0, t .0)
 
-pub says-record : (s c : List ℕ) (i : ℕ) (x : Handed) (said : List ℕ) → Hands s c i x → said ≡ recordWords (x .range) → SaysRecord s c i (x .answer) said
+pub says-record : (s c : List ℕ) (i : ℕ) (x : Handed) (said : List ℕ) → GivesRecord s c i x → said ≡ recordWords (x .range) → SaysRecord s c i (x .answer) said
 says-record s c i x said k p =
     record {
       answer = λ e a b. ap (λ (h : HandedBy). h .answer) (k .hands e a b);

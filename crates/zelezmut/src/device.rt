@@ -7,9 +7,9 @@ use rules::Ended;
 use rules::Record;
 use run_state::Words;
 use run_state::is_set;
-use widths::count;
-use widths::place;
-use widths::wide;
+use widths::u16_to_word;
+use widths::u32_to_word;
+use widths::word_to_usize;
 ghost use mathlib.Core.Path.{_≡_};
 ghost use Prim.Native.Nat.{_≤_};
 ghost use Rattle.rules.specs.Calls.{ended-number};
@@ -43,9 +43,9 @@ fn say_record(said: &mut [u64; 5], range: Record)
     ensures { λ _. ⌜ now (said .exit) ≡ recordWords range ⌝ }
 {
     let all = &said[..];
-    let kind = wide(range.kind);
-    let handle = wide(range.handle);
-    let id = wide(range.id);
+    let kind = u32_to_word(range.kind);
+    let handle = u32_to_word(range.handle);
+    let id = u32_to_word(range.id);
     said[0] = kind;
     said[1] = handle;
     said[2] = id;
@@ -58,7 +58,7 @@ fn say_record(said: &mut [u64; 5], range: Record)
 pub extern "C" fn zelezmut_make(words: &mut Words, memory: u64)
     ensures { λ _. ⌜ Makes memory (now (words .exit)) ⌝ }
 {
-    device_calls::make(words, place(memory));
+    device_calls::make(words, word_to_usize(memory));
 }
 
 // Writes a register: the call's answer.
@@ -75,7 +75,7 @@ pub extern "C" fn zelezmut_read(words: &Words, offset: u32) -> u64
     ensures { λ r. ⌜ SaysValue (now (words .entry)) offset r ⌝ }
 {
     let x = device_calls::read(words, offset);
-    wide(x.value) + ABOVE_VALUE * wide(x.answer)
+    u32_to_word(x.value) + ABOVE_VALUE * u32_to_word(x.answer)
 }
 
 // Runs over the memory lent now: the call's answer, 2^8 times how it ended (idle 0, waiting 1, paused 2) and 2^16 times the units spent.
@@ -94,8 +94,8 @@ pub extern "C" fn zelezmut_run(
     let x = device_memory_calls::run(words, entries, first, second, records, mem, allowance);
     let how = x.ended;
     let ended = number_of(how);
-    let units = count(x.units);
-    wide(x.answer) + (ABOVE_ANSWER * ended + ABOVE_ENDED * units)
+    let units = u16_to_word(x.units);
+    u32_to_word(x.answer) + (ABOVE_ANSWER * ended + ABOVE_ENDED * units)
 }
 
 // Record i of the submission that waits: the call's answer, and says kind, handle, id, GPA and length.
@@ -119,6 +119,6 @@ pub extern "C" fn zelezmut_record(
 pub extern "C" fn zelezmut_answer(words: &mut Words, mem: &mut [u8], good: u32) -> u32
     ensures { λ r. ⌜ Answers (now (words .entry)) (now (mem .entry)) (setIn good) r (now (words .exit)) (now (mem .exit)) ⌝ }
 {
-    let told = is_set(wide(good));
+    let told = is_set(u32_to_word(good));
     device_memory_calls::answer(words, mem, told)
 }

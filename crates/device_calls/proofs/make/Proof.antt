@@ -4,8 +4,8 @@ use borrow.Author.Needs.{needs}
 use Rattle.device_calls.proofs.make.Statement.{statement}
 use Rattle.device_calls.proofs.make.Tie as tie
 
-long-requires : tie.Need-long-requires
-long-requires c κs = search needs
+usize-to-word-requires : tie.Need-usize-to-word-requires
+usize-to-word-requires c κs = search needs
 
 element-write-words : tie.Need-element-write-words
 element-write-words c = search needs
@@ -59,7 +59,7 @@ pub make-spec : {M : Type 1} → statement M
 make-spec =
     tie.close
     (tie.spec
-    long-requires
+    usize-to-word-requires
     element-write-words
     element-write-words-2
     element-write-words-3

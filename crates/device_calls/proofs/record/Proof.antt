@@ -4,8 +4,8 @@ use borrow.Author.Needs.{needs}
 use Rattle.device_calls.proofs.record.Statement.{statement}
 use Rattle.device_calls.proofs.record.Tie as tie
 
-index-requires : tie.Need-index-requires
-index-requires c κs = search needs
+u32-to-usize-requires : tie.Need-u32-to-usize-requires
+u32-to-usize-requires c κs = search needs
 
 element-copy-out-if1 : tie.Need-element-copy-out-if1
 element-copy-out-if1 c = search needs
@@ -38,7 +38,7 @@ pub record-spec : {M : Type 1} → statement M
 record-spec =
     tie.close
     (tie.spec
-    index-requires
+    u32-to-usize-requires
     element-copy-out-if1
     none-handed-requires
     returns

@@ -6,8 +6,8 @@ use Rattle.kept_records.proofs.push_record.Tie as tie
 mul-b : tie.Need-mul-b
 mul-b c = search needs
 
-wide-requires : tie.Need-wide-requires
-wide-requires c κs = search needs
+u32-to-word-requires : tie.Need-u32-to-word-requires
+u32-to-word-requires c κs = search needs
 
 mul-records : tie.Need-mul-records
 mul-records c = search needs
@@ -15,8 +15,8 @@ mul-records c = search needs
 element-write-records : tie.Need-element-write-records
 element-write-records c = search needs
 
-wide-requires-2 : tie.Need-wide-requires-2
-wide-requires-2 c κs = search needs
+u32-to-word-requires-2 : tie.Need-u32-to-word-requires-2
+u32-to-word-requires-2 c κs = search needs
 
 add-records : tie.Need-add-records
 add-records c = search needs
@@ -27,8 +27,8 @@ mul-records-2 c = search needs
 element-write-records-2 : tie.Need-element-write-records-2
 element-write-records-2 c = search needs
 
-wide-requires-3 : tie.Need-wide-requires-3
-wide-requires-3 c κs = search needs
+u32-to-word-requires-3 : tie.Need-u32-to-word-requires-3
+u32-to-word-requires-3 c κs = search needs
 
 add-records-2 : tie.Need-add-records-2
 add-records-2 c = search needs
@@ -65,14 +65,14 @@ push-record-spec =
     tie.close
     (tie.spec
     mul-b
-    wide-requires
+    u32-to-word-requires
     mul-records
     element-write-records
-    wide-requires-2
+    u32-to-word-requires-2
     add-records
     mul-records-2
     element-write-records-2
-    wide-requires-3
+    u32-to-word-requires-3
     add-records-2
     mul-records-3
     element-write-records-3

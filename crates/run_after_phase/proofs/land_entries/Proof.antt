@@ -4,8 +4,8 @@ use borrow.Author.Needs.{needs}
 use Rattle.run_after_phase.proofs.land_entries.Statement.{statement}
 use Rattle.run_after_phase.proofs.land_entries.Tie as tie
 
-long-requires : tie.Need-long-requires
-long-requires c κs = search needs
+usize-to-word-requires : tie.Need-usize-to-word-requires
+usize-to-word-requires c κs = search needs
 
 element-write-words : tie.Need-element-write-words
 element-write-words c = search needs
@@ -32,7 +32,7 @@ pub land-entries-spec : {M : Type 1} → statement M
 land-entries-spec =
     tie.close
     (tie.spec
-    long-requires
+    usize-to-word-requires
     element-write-words
     returns
     begin-packets-requires

@@ -4,14 +4,14 @@ use borrow.Author.Needs.{needs}
 use Rattle.run_after_phase.proofs.land_packets.Statement.{statement}
 use Rattle.run_after_phase.proofs.land_packets.Tie as tie
 
-long-requires : tie.Need-long-requires
-long-requires c κs = search needs
+usize-to-word-requires : tie.Need-usize-to-word-requires
+usize-to-word-requires c κs = search needs
 
-long-requires-2 : tie.Need-long-requires-2
-long-requires-2 c κs = search needs
+usize-to-word-requires-2 : tie.Need-usize-to-word-requires-2
+usize-to-word-requires-2 c κs = search needs
 
-long-requires-3 : tie.Need-long-requires-3
-long-requires-3 c κs = search needs
+usize-to-word-requires-3 : tie.Need-usize-to-word-requires-3
+usize-to-word-requires-3 c κs = search needs
 
 flag-requires : tie.Need-flag-requires
 flag-requires c κs = search needs
@@ -59,9 +59,9 @@ pub land-packets-spec : {M : Type 1} → statement M
 land-packets-spec =
     tie.close
     (tie.spec
-    long-requires
-    long-requires-2
-    long-requires-3
+    usize-to-word-requires
+    usize-to-word-requires-2
+    usize-to-word-requires-3
     flag-requires
     element-write-words
     element-write-words-2

@@ -13,8 +13,8 @@ element-copy-out-low32 c = search needs
 low32-requires : tie.Need-low32-requires
 low32-requires c κs = search needs
 
-long-requires : tie.Need-long-requires
-long-requires c κs = search needs
+usize-to-word-requires : tie.Need-usize-to-word-requires
+usize-to-word-requires c κs = search needs
 
 element-write-words : tie.Need-element-write-words
 element-write-words c = search needs
@@ -53,7 +53,7 @@ begin-packets-spec =
     element-copy-out-live
     element-copy-out-low32
     low32-requires
-    long-requires
+    usize-to-word-requires
     element-write-words
     element-write-words-2
     element-write-words-3

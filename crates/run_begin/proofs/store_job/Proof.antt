@@ -4,8 +4,8 @@ use borrow.Author.Needs.{needs}
 use Rattle.run_begin.proofs.store_job.Statement.{statement}
 use Rattle.run_begin.proofs.store_job.Tie as tie
 
-wide-requires : tie.Need-wide-requires
-wide-requires c κs = search needs
+u32-to-word-requires : tie.Need-u32-to-word-requires
+u32-to-word-requires c κs = search needs
 
 flag-requires : tie.Need-flag-requires
 flag-requires c κs = search needs
@@ -29,7 +29,7 @@ pub store-job-spec : {M : Type 1} → statement M
 store-job-spec =
     tie.close
     (tie.spec
-    wide-requires
+    u32-to-word-requires
     flag-requires
     element-write-words
     element-write-words-2

@@ -4,14 +4,14 @@ use borrow.Author.Needs.{needs}
 use Rattle.run_begin.proofs.store_opened.Statement.{statement}
 use Rattle.run_begin.proofs.store_opened.Tie as tie
 
-wide-requires : tie.Need-wide-requires
-wide-requires c κs = search needs
+u32-to-word-requires : tie.Need-u32-to-word-requires
+u32-to-word-requires c κs = search needs
 
-wide-requires-2 : tie.Need-wide-requires-2
-wide-requires-2 c κs = search needs
+u32-to-word-requires-2 : tie.Need-u32-to-word-requires-2
+u32-to-word-requires-2 c κs = search needs
 
-wide-requires-3 : tie.Need-wide-requires-3
-wide-requires-3 c κs = search needs
+u32-to-word-requires-3 : tie.Need-u32-to-word-requires-3
+u32-to-word-requires-3 c κs = search needs
 
 store-job-requires : tie.Need-store-job-requires
 store-job-requires c κs = search needs
@@ -44,9 +44,9 @@ pub store-opened-spec : {M : Type 1} → statement M
 store-opened-spec =
     tie.close
     (tie.spec
-    wide-requires
-    wide-requires-2
-    wide-requires-3
+    u32-to-word-requires
+    u32-to-word-requires-2
+    u32-to-word-requires-3
     store-job-requires
     element-write-words
     element-write-words-2

@@ -13,11 +13,11 @@ element-copy-out-rows-in c = search needs
 rows-in-requires : tie.Need-rows-in-requires
 rows-in-requires c κs = search needs
 
-element-copy-out-place : tie.Need-element-copy-out-place
-element-copy-out-place c = search needs
+element-copy-out-word-to-usize : tie.Need-element-copy-out-word-to-usize
+element-copy-out-word-to-usize c = search needs
 
-place-requires : tie.Need-place-requires
-place-requires c κs = search needs
+word-to-usize-requires : tie.Need-word-to-usize-requires
+word-to-usize-requires c κs = search needs
 
 element-copy-out-rows-in-2 : tie.Need-element-copy-out-rows-in-2
 element-copy-out-rows-in-2 c = search needs
@@ -56,8 +56,8 @@ packets-turn-spec =
     stream-in-requires
     element-copy-out-rows-in
     rows-in-requires
-    element-copy-out-place
-    place-requires
+    element-copy-out-word-to-usize
+    word-to-usize-requires
     element-copy-out-rows-in-2
     rows-in-requires-2
     element-copy-out-rows-in-3

@@ -7,8 +7,8 @@ use Rattle.run_loop.proofs.play.Tie as tie
 stream-part-requires : tie.Need-stream-part-requires
 stream-part-requires c κs = search needs
 
-index-requires : tie.Need-index-requires
-index-requires c κs = search needs
+u32-to-usize-requires : tie.Need-u32-to-usize-requires
+u32-to-usize-requires c κs = search needs
 
 read-packets-requires : tie.Need-read-packets-requires
 read-packets-requires c κs = search needs
@@ -17,4 +17,4 @@ returns : tie.Need-returns
 returns c = search playing
 
 pub play-spec : {M : Type 1} → statement M
-play-spec = tie.close (tie.spec stream-part-requires index-requires read-packets-requires returns)
+play-spec = tie.close (tie.spec stream-part-requires u32-to-usize-requires read-packets-requires returns)

@@ -4,11 +4,11 @@ use borrow.Author.Needs.{needs}
 use Rattle.run_loop.proofs.stream_part.Statement.{statement}
 use Rattle.run_loop.proofs.stream_part.Tie as tie
 
-place-requires : tie.Need-place-requires
-place-requires c κs = search needs
+word-to-usize-requires : tie.Need-word-to-usize-requires
+word-to-usize-requires c κs = search needs
 
-index-requires : tie.Need-index-requires
-index-requires c κs = search needs
+u32-to-usize-requires : tie.Need-u32-to-usize-requires
+u32-to-usize-requires c κs = search needs
 
 sub-result : tie.Need-sub-result
 sub-result c = search needs
@@ -50,8 +50,8 @@ pub stream-part-spec : {M : Type 1} → statement M
 stream-part-spec =
     tie.close
     (tie.spec
-    place-requires
-    index-requires
+    word-to-usize-requires
+    u32-to-usize-requires
     sub-result
     part-result-start
     part-result-end

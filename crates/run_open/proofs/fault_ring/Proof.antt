@@ -13,8 +13,8 @@ low32-requires c κs = search needs
 one-more-requires : tie.Need-one-more-requires
 one-more-requires c κs = search needs
 
-wide-requires : tie.Need-wide-requires
-wide-requires c κs = search needs
+u32-to-word-requires : tie.Need-u32-to-word-requires
+u32-to-word-requires c κs = search needs
 
 element-write-words : tie.Need-element-write-words
 element-write-words c = search needs
@@ -44,7 +44,7 @@ fault-ring-spec =
     element-copy-out-low32
     low32-requires
     one-more-requires
-    wide-requires
+    u32-to-word-requires
     element-write-words
     cast-words
     element-write-words-2

@@ -5,7 +5,7 @@ use Prim.Native.Nat.{_≤_, _-_}
 use native.Mathlib.Omega.{arith}
 use Rattle.machine.specs.Machine.{spent, runFor}
 use Rattle.kept_entries.specs.Views.{entriesOf}
-use Rattle.packet_ranges.specs.Views.{Room}
+use Rattle.packet_ranges.specs.Views.{RowsExist}
 use Rattle.run_packets.specs.Playing.{playing-goes, play-step, playingOf, playing-on}
 use Rattle.run_packets.proofs.read_packets.Statement.{statement}
 use Rattle.run_packets.proofs.read_packets.Tie as tie
@@ -14,7 +14,7 @@ abbrev Inv-loop : tie.InvT-loop
 Inv-loop stream end entries n rooms held₀ records₀ allowance bound p₀ units₀ held records p units =
     (units ≤ allowance)
     × (p .ending ≡ 0)
-    × Room n (p .live) (p .made)
+    × RowsExist n (p .live) (p .made)
     × (runFor playing-goes (play-step (entriesOf n entries) stream end) allowance (playingOf p₀ rooms held₀ records₀)
     ≡ spent units (runFor playing-goes (play-step (entriesOf n entries) stream end) (allowance - units) (playingOf p rooms held records)))
 

@@ -15,8 +15,8 @@ enum-known-op c = search needs
 take-packet-requires : tie.Need-take-packet-requires
 take-packet-requires c κs = search stepping-packet
 
-index-requires : tie.Need-index-requires
-index-requires c κs = search needs
+u32-to-usize-requires : tie.Need-u32-to-usize-requires
+u32-to-usize-requires c κs = search needs
 
 add-place-after : tie.Need-add-place-after
 add-place-after c = search stepping-packet
@@ -38,7 +38,7 @@ step-packet-spec =
     enum-known-why
     enum-known-op
     take-packet-requires
-    index-requires
+    u32-to-usize-requires
     add-place-after
     place-after-requires
     returns

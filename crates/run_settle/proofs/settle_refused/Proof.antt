@@ -13,11 +13,11 @@ low32-requires c κs = search needs
 one-more-requires : tie.Need-one-more-requires
 one-more-requires c κs = search needs
 
-wide-requires : tie.Need-wide-requires
-wide-requires c κs = search needs
+u32-to-word-requires : tie.Need-u32-to-word-requires
+u32-to-word-requires c κs = search needs
 
-wide-requires-2 : tie.Need-wide-requires-2
-wide-requires-2 c κs = search needs
+u32-to-word-requires-2 : tie.Need-u32-to-word-requires-2
+u32-to-word-requires-2 c κs = search needs
 
 element-copy-out-fence : tie.Need-element-copy-out-fence
 element-copy-out-fence c = search needs
@@ -50,8 +50,8 @@ settle-refused-spec =
     element-copy-out-low32
     low32-requires
     one-more-requires
-    wide-requires
-    wide-requires-2
+    u32-to-word-requires
+    u32-to-word-requires-2
     element-copy-out-fence
     element-write-words
     element-write-words-2

@@ -4,8 +4,8 @@ use Rattle.settle.specs.Laws.{writing}
 use Rattle.settle.proofs.write_head.Statement.{statement}
 use Rattle.settle.proofs.write_head.Tie as tie
 
-place-requires : tie.Need-place-requires
-place-requires c κs = search needs
+word-to-usize-requires : tie.Need-word-to-usize-requires
+word-to-usize-requires c κs = search needs
 
 wrapping-add-u32-requires : tie.Need-wrapping-add-u32-requires
 wrapping-add-u32-requires c κs = search needs
@@ -44,7 +44,7 @@ pub write-head-spec : {M : Type 1} → statement M
 write-head-spec =
     tie.close
     (tie.spec
-    place-requires
+    word-to-usize-requires
     wrapping-add-u32-requires
     returns
     returns-2

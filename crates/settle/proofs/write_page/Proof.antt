@@ -4,8 +4,8 @@ use borrow.Author.Needs.{needs}
 use Rattle.settle.proofs.write_page.Statement.{statement}
 use Rattle.settle.proofs.write_page.Tie as tie
 
-place-requires : tie.Need-place-requires
-place-requires c κs = search needs
+word-to-usize-requires : tie.Need-word-to-usize-requires
+word-to-usize-requires c κs = search needs
 
 returns : tie.Need-returns
 returns c = search writing
@@ -41,7 +41,7 @@ pub write-page-spec : {M : Type 1} → statement M
 write-page-spec =
     tie.close
     (tie.spec
-    place-requires
+    word-to-usize-requires
     returns
     returns-2
     returns-3

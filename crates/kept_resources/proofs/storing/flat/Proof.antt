@@ -9,20 +9,20 @@ enum-told c = search needs
 enum-known-kind : tie.Need-enum-known-kind
 enum-known-kind c = search needs
 
-wide-requires : tie.Need-wide-requires
-wide-requires c κs = search needs
+u32-to-word-requires : tie.Need-u32-to-word-requires
+u32-to-word-requires c κs = search needs
 
-wide-requires-2 : tie.Need-wide-requires-2
-wide-requires-2 c κs = search needs
+u32-to-word-requires-2 : tie.Need-u32-to-word-requires-2
+u32-to-word-requires-2 c κs = search needs
 
-wide-requires-3 : tie.Need-wide-requires-3
-wide-requires-3 c κs = search needs
+u32-to-word-requires-3 : tie.Need-u32-to-word-requires-3
+u32-to-word-requires-3 c κs = search needs
 
-wide-requires-4 : tie.Need-wide-requires-4
-wide-requires-4 c κs = search needs
+u32-to-word-requires-4 : tie.Need-u32-to-word-requires-4
+u32-to-word-requires-4 c κs = search needs
 
-wide-requires-5 : tie.Need-wide-requires-5
-wide-requires-5 c κs = search needs
+u32-to-word-requires-5 : tie.Need-u32-to-word-requires-5
+u32-to-word-requires-5 c κs = search needs
 
 returns : tie.Need-returns
 returns c = search needs
@@ -36,10 +36,10 @@ flat-spec =
     (tie.spec
     enum-told
     enum-known-kind
-    wide-requires
-    wide-requires-2
-    wide-requires-3
-    wide-requires-4
-    wide-requires-5
+    u32-to-word-requires
+    u32-to-word-requires-2
+    u32-to-word-requires-3
+    u32-to-word-requires-4
+    u32-to-word-requires-5
     returns
     returns-2)

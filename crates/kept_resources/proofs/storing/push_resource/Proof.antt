@@ -9,8 +9,8 @@ flat-requires c κs = search needs
 mul-b : tie.Need-mul-b
 mul-b c = search needs
 
-wide-requires : tie.Need-wide-requires
-wide-requires c κs = search needs
+u32-to-word-requires : tie.Need-u32-to-word-requires
+u32-to-word-requires c κs = search needs
 
 mul-rooms : tie.Need-mul-rooms
 mul-rooms c = search needs
@@ -81,8 +81,8 @@ mul-rooms-8 c = search needs
 element-write-rooms-8 : tie.Need-element-write-rooms-8
 element-write-rooms-8 c = search needs
 
-wide-requires-2 : tie.Need-wide-requires-2
-wide-requires-2 c κs = search needs
+u32-to-word-requires-2 : tie.Need-u32-to-word-requires-2
+u32-to-word-requires-2 c κs = search needs
 
 add-rooms-8 : tie.Need-add-rooms-8
 add-rooms-8 c = search needs
@@ -93,8 +93,8 @@ mul-rooms-9 c = search needs
 element-write-rooms-9 : tie.Need-element-write-rooms-9
 element-write-rooms-9 c = search needs
 
-wide-requires-3 : tie.Need-wide-requires-3
-wide-requires-3 c κs = search needs
+u32-to-word-requires-3 : tie.Need-u32-to-word-requires-3
+u32-to-word-requires-3 c κs = search needs
 
 add-rooms-9 : tie.Need-add-rooms-9
 add-rooms-9 c = search needs
@@ -105,8 +105,8 @@ mul-rooms-10 c = search needs
 element-write-rooms-10 : tie.Need-element-write-rooms-10
 element-write-rooms-10 c = search needs
 
-wide-requires-4 : tie.Need-wide-requires-4
-wide-requires-4 c κs = search needs
+u32-to-word-requires-4 : tie.Need-u32-to-word-requires-4
+u32-to-word-requires-4 c κs = search needs
 
 add-rooms-10 : tie.Need-add-rooms-10
 add-rooms-10 c = search needs
@@ -126,7 +126,7 @@ push-resource-spec =
     (tie.spec
     flat-requires
     mul-b
-    wide-requires
+    u32-to-word-requires
     mul-rooms
     element-write-rooms
     add-rooms
@@ -150,15 +150,15 @@ push-resource-spec =
     add-rooms-7
     mul-rooms-8
     element-write-rooms-8
-    wide-requires-2
+    u32-to-word-requires-2
     add-rooms-8
     mul-rooms-9
     element-write-rooms-9
-    wide-requires-3
+    u32-to-word-requires-3
     add-rooms-9
     mul-rooms-10
     element-write-rooms-10
-    wide-requires-4
+    u32-to-word-requires-4
     add-rooms-10
     mul-rooms-11
     element-write-rooms-11

@@ -22,8 +22,8 @@ with-high-requires c κs = search needs
 element-write-words-2 : tie.Need-element-write-words-2
 element-write-words-2 c = search needs
 
-wide-requires : tie.Need-wide-requires
-wide-requires c κs = search needs
+u32-to-word-requires : tie.Need-u32-to-word-requires
+u32-to-word-requires c κs = search needs
 
 element-write-words-3 : tie.Need-element-write-words-3
 element-write-words-3 c = search needs
@@ -52,8 +52,8 @@ element-write-words-5 c = search needs
 element-write-words-6 : tie.Need-element-write-words-6
 element-write-words-6 c = search needs
 
-wide-requires-2 : tie.Need-wide-requires-2
-wide-requires-2 c κs = search needs
+u32-to-word-requires-2 : tie.Need-u32-to-word-requires-2
+u32-to-word-requires-2 c κs = search needs
 
 element-write-words-7 : tie.Need-element-write-words-7
 element-write-words-7 c = search needs
@@ -101,7 +101,7 @@ write-spec =
     element-copy-out-with-high
     with-high-requires
     element-write-words-2
-    wide-requires
+    u32-to-word-requires
     element-write-words-3
     control-requires
     element-copy-out-with-low-2
@@ -111,7 +111,7 @@ write-spec =
     with-high-requires-2
     element-write-words-5
     element-write-words-6
-    wide-requires-2
+    u32-to-word-requires-2
     element-write-words-7
     acknowledge-requires
     returns

@@ -12,8 +12,8 @@ returns-2 c = search ranging
 returns-3 : tie.Need-returns-3
 returns-3 c = search ranging
 
-wide-requires : tie.Need-wide-requires
-wide-requires c κs = search needs
+u32-to-word-requires : tie.Need-u32-to-word-requires
+u32-to-word-requires c κs = search needs
 
 sub-if4 : tie.Need-sub-if4
 sub-if4 c = search needs
@@ -26,4 +26,4 @@ returns-5 c = search ranging
 
 pub bad-spec : {M : Type 1} → statement M
 bad-spec =
-    tie.close (tie.spec returns returns-2 returns-3 wide-requires sub-if4 returns-4 returns-5)
+    tie.close (tie.spec returns returns-2 returns-3 u32-to-word-requires sub-if4 returns-4 returns-5)

@@ -3,8 +3,8 @@ use borrow.Author.Needs.{needs}
 use Rattle.ring_descriptor.proofs.descriptor.outside.Statement.{statement}
 use Rattle.ring_descriptor.proofs.descriptor.outside.Tie as tie
 
-wide-requires : tie.Need-wide-requires
-wide-requires c κs = search needs
+u32-to-word-requires : tie.Need-u32-to-word-requires
+u32-to-word-requires c κs = search needs
 
 returns : tie.Need-returns
 returns c = search reaching
@@ -19,4 +19,4 @@ returns-4 : tie.Need-returns-4
 returns-4 c = search reaching
 
 pub outside-spec : {M : Type 1} → statement M
-outside-spec = tie.close (tie.spec wide-requires returns returns-2 returns-3 returns-4)
+outside-spec = tie.close (tie.spec u32-to-word-requires returns returns-2 returns-3 returns-4)

@@ -18,8 +18,8 @@ returns-3 c = search judging-header
 returns-4 : tie.Need-returns-4
 returns-4 c = search judging-header
 
-wide-requires : tie.Need-wide-requires
-wide-requires c κs = search needs
+u32-to-word-requires : tie.Need-u32-to-word-requires
+u32-to-word-requires c κs = search needs
 
 slot-at-requires : tie.Need-slot-at-requires
 slot-at-requires c κs = search needs
@@ -45,7 +45,7 @@ good-spec =
     good-count-requires
     returns-3
     returns-4
-    wide-requires
+    u32-to-word-requires
     slot-at-requires
     returns-5
     returns-6

@@ -3,11 +3,11 @@ use borrow.Author.Needs.{needs}
 use Rattle.ring_opening.proofs.opening.open.Statement.{statement}
 use Rattle.ring_opening.proofs.opening.open.Tie as tie
 
-long-requires : tie.Need-long-requires
-long-requires c κs = search needs
+usize-to-word-requires : tie.Need-usize-to-word-requires
+usize-to-word-requires c κs = search needs
 
-wide-requires : tie.Need-wide-requires
-wide-requires c κs = search needs
+u32-to-word-requires : tie.Need-u32-to-word-requires
+u32-to-word-requires c κs = search needs
 
 returns : tie.Need-returns
 returns c = search opening-ring
@@ -18,8 +18,8 @@ returns-2 c = search opening-ring
 returns-3 : tie.Need-returns-3
 returns-3 c = search opening-ring
 
-place-requires : tie.Need-place-requires
-place-requires c κs = search needs
+word-to-usize-requires : tie.Need-word-to-usize-requires
+word-to-usize-requires c κs = search needs
 
 header-at-requires : tie.Need-header-at-requires
 header-at-requires c κs = search needs
@@ -40,12 +40,12 @@ pub open-spec : {M : Type 1} → statement M
 open-spec =
     tie.close
     (tie.spec
-    long-requires
-    wide-requires
+    usize-to-word-requires
+    u32-to-word-requires
     returns
     returns-2
     returns-3
-    place-requires
+    word-to-usize-requires
     header-at-requires
     good-requires
     returns-4

@@ -9,11 +9,11 @@ returns c = search opening-head
 slot-offset-requires : tie.Need-slot-offset-requires
 slot-offset-requires c κs = search needs
 
-add-place : tie.Need-add-place
-add-place c = search needs
+add-word-to-usize : tie.Need-add-word-to-usize
+add-word-to-usize c = search needs
 
-place-requires : tie.Need-place-requires
-place-requires c κs = search needs
+word-to-usize-requires : tie.Need-word-to-usize-requires
+word-to-usize-requires c κs = search needs
 
 descriptor-at-requires : tie.Need-descriptor-at-requires
 descriptor-at-requires c κs = search needs
@@ -30,8 +30,8 @@ open-head-spec =
     (tie.spec
     returns
     slot-offset-requires
-    add-place
-    place-requires
+    add-word-to-usize
+    word-to-usize-requires
     descriptor-at-requires
     open-submission-requires
     returns-2)

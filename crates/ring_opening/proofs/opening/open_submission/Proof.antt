@@ -3,8 +3,8 @@ use borrow.Author.Needs.{needs}
 use Rattle.ring_opening.proofs.opening.open_submission.Statement.{statement}
 use Rattle.ring_opening.proofs.opening.open_submission.Tie as tie
 
-long-requires : tie.Need-long-requires
-long-requires c κs = search needs
+usize-to-word-requires : tie.Need-usize-to-word-requires
+usize-to-word-requires c κs = search needs
 
 descriptor-verdict-requires : tie.Need-descriptor-verdict-requires
 descriptor-verdict-requires c κs = search needs
@@ -40,7 +40,7 @@ pub open-submission-spec : {M : Type 1} → statement M
 open-submission-spec =
     tie.close
     (tie.spec
-    long-requires
+    usize-to-word-requires
     descriptor-verdict-requires
     enum-known-why
     enum-told

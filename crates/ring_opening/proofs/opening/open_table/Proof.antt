@@ -6,11 +6,11 @@ use Rattle.ring_opening.proofs.opening.open_table.Tie as tie
 returns : tie.Need-returns
 returns c = search opening-range
 
-place-requires : tie.Need-place-requires
-place-requires c κs = search needs
+word-to-usize-requires : tie.Need-word-to-usize-requires
+word-to-usize-requires c κs = search needs
 
-wide-requires : tie.Need-wide-requires
-wide-requires c κs = search needs
+u32-to-word-requires : tie.Need-u32-to-word-requires
+u32-to-word-requires c κs = search needs
 
 check-header-requires : tie.Need-check-header-requires
 check-header-requires c κs = search opening-range
@@ -20,4 +20,4 @@ returns-2 c = search opening-range
 
 pub open-table-spec : {M : Type 1} → statement M
 open-table-spec =
-    tie.close (tie.spec returns place-requires wide-requires check-header-requires returns-2)
+    tie.close (tie.spec returns word-to-usize-requires u32-to-word-requires check-header-requires returns-2)

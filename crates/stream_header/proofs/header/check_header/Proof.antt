@@ -10,8 +10,8 @@ returns c = search heading
 header-at-requires : tie.Need-header-at-requires
 header-at-requires c κs = search needs
 
-long-requires : tie.Need-long-requires
-long-requires c κs = search needs
+usize-to-word-requires : tie.Need-usize-to-word-requires
+usize-to-word-requires c κs = search needs
 
 header-verdict-requires : tie.Need-header-verdict-requires
 header-verdict-requires c κs = search needs
@@ -34,7 +34,7 @@ check-header-spec =
     (tie.spec
     returns
     header-at-requires
-    long-requires
+    usize-to-word-requires
     header-verdict-requires
     enum-told
     enum-known-r

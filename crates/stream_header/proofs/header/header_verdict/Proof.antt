@@ -4,8 +4,8 @@ use Rattle.stream_header.specs.Header.{heading}
 use Rattle.stream_header.proofs.header.header_verdict.Statement.{statement}
 use Rattle.stream_header.proofs.header.header_verdict.Tie as tie
 
-wide-requires : tie.Need-wide-requires
-wide-requires c κs = search needs
+u32-to-word-requires : tie.Need-u32-to-word-requires
+u32-to-word-requires c κs = search needs
 
 returns : tie.Need-returns
 returns c = search heading
@@ -27,4 +27,4 @@ returns-6 c = search heading
 
 pub header-verdict-spec : {M : Type 1} → statement M
 header-verdict-spec =
-    tie.close (tie.spec wide-requires returns returns-2 returns-3 returns-4 returns-5 returns-6)
+    tie.close (tie.spec u32-to-word-requires returns returns-2 returns-3 returns-4 returns-5 returns-6)

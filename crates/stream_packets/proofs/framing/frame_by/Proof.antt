@@ -4,8 +4,8 @@ use Rattle.stream_packets.specs.Framing.{judging-frame}
 use Rattle.stream_packets.proofs.framing.frame_by.Statement.{statement}
 use Rattle.stream_packets.proofs.framing.frame_by.Tie as tie
 
-index-requires : tie.Need-index-requires
-index-requires c κs = search needs
+u32-to-usize-requires : tie.Need-u32-to-usize-requires
+u32-to-usize-requires c κs = search needs
 
 returns : tie.Need-returns
 returns c = search judging-frame
@@ -28,4 +28,4 @@ returns-5 c = search judging-frame
 pub frame-by-spec : {M : Type 1} → statement M
 frame-by-spec =
     tie.close
-    (tie.spec index-requires returns returns-2 returns-3 wrong-size-requires returns-4 returns-5)
+    (tie.spec u32-to-usize-requires returns returns-2 returns-3 wrong-size-requires returns-4 returns-5)

@@ -4,8 +4,8 @@ use Rattle.stream_packets.specs.Framing.{packet-reading}
 use Rattle.stream_packets.proofs.framing.packet_at.Statement.{statement}
 use Rattle.stream_packets.proofs.framing.packet_at.Tie as tie
 
-index-requires : tie.Need-index-requires
-index-requires c κs = search needs
+u32-to-usize-requires : tie.Need-u32-to-usize-requires
+u32-to-usize-requires c κs = search needs
 
 packet-part-requires : tie.Need-packet-part-requires
 packet-part-requires c κs = search packet-reading
@@ -18,4 +18,4 @@ returns c = search packet-reading
 
 pub packet-at-spec : {M : Type 1} → statement M
 packet-at-spec =
-    tie.close (tie.spec index-requires packet-part-requires packet-from-requires returns)
+    tie.close (tie.spec u32-to-usize-requires packet-part-requires packet-from-requires returns)

@@ -16,8 +16,8 @@ add-u32-at c = search needs
 u32-at-requires-2 : tie.Need-u32-at-requires-2
 u32-at-requires-2 c κs = search needs
 
-index-requires : tie.Need-index-requires
-index-requires c κs = search needs
+u32-to-usize-requires : tie.Need-u32-to-usize-requires
+u32-to-usize-requires c κs = search needs
 
 returns-2 : tie.Need-returns-2
 returns-2 c = search passing
@@ -39,7 +39,7 @@ unknown-size-spec =
     returns
     add-u32-at
     u32-at-requires-2
-    index-requires
+    u32-to-usize-requires
     returns-2
     returns-3
     returns-4

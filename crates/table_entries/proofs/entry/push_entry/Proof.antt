@@ -6,8 +6,8 @@ use Rattle.table_entries.proofs.entry.push_entry.Tie as tie
 mul-b : tie.Need-mul-b
 mul-b c = search needs
 
-wide-requires : tie.Need-wide-requires
-wide-requires c κs = search needs
+u32-to-word-requires : tie.Need-u32-to-word-requires
+u32-to-word-requires c κs = search needs
 
 mul-kept : tie.Need-mul-kept
 mul-kept c = search needs
@@ -15,8 +15,8 @@ mul-kept c = search needs
 element-write-kept : tie.Need-element-write-kept
 element-write-kept c = search needs
 
-wide-requires-2 : tie.Need-wide-requires-2
-wide-requires-2 c κs = search needs
+u32-to-word-requires-2 : tie.Need-u32-to-word-requires-2
+u32-to-word-requires-2 c κs = search needs
 
 add-kept : tie.Need-add-kept
 add-kept c = search needs
@@ -56,10 +56,10 @@ push-entry-spec =
     tie.close
     (tie.spec
     mul-b
-    wide-requires
+    u32-to-word-requires
     mul-kept
     element-write-kept
-    wide-requires-2
+    u32-to-word-requires-2
     add-kept
     mul-kept-2
     element-write-kept-2

@@ -4,14 +4,14 @@ use borrow.Author.Needs.{needs}
 use Rattle.zelezmut.proofs.device.say_record.Statement.{statement}
 use Rattle.zelezmut.proofs.device.say_record.Tie as tie
 
-wide-requires : tie.Need-wide-requires
-wide-requires c κs = search needs
+u32-to-word-requires : tie.Need-u32-to-word-requires
+u32-to-word-requires c κs = search needs
 
-wide-requires-2 : tie.Need-wide-requires-2
-wide-requires-2 c κs = search needs
+u32-to-word-requires-2 : tie.Need-u32-to-word-requires-2
+u32-to-word-requires-2 c κs = search needs
 
-wide-requires-3 : tie.Need-wide-requires-3
-wide-requires-3 c κs = search needs
+u32-to-word-requires-3 : tie.Need-u32-to-word-requires-3
+u32-to-word-requires-3 c κs = search needs
 
 element-write-said : tie.Need-element-write-said
 element-write-said c = search needs
@@ -35,9 +35,9 @@ pub say-record-spec : {M : Type 1} → statement M
 say-record-spec =
     tie.close
     (tie.spec
-    wide-requires
-    wide-requires-2
-    wide-requires-3
+    u32-to-word-requires
+    u32-to-word-requires-2
+    u32-to-word-requires-3
     element-write-said
     element-write-said-2
     element-write-said-3

@@ -4,8 +4,8 @@ use borrow.Author.Needs.{needs}
 use Rattle.zelezmut.proofs.device.zelezmut_answer.Statement.{statement}
 use Rattle.zelezmut.proofs.device.zelezmut_answer.Tie as tie
 
-wide-requires : tie.Need-wide-requires
-wide-requires c κs = search needs
+u32-to-word-requires : tie.Need-u32-to-word-requires
+u32-to-word-requires c κs = search needs
 
 is-set-requires : tie.Need-is-set-requires
 is-set-requires c κs = search needs
@@ -21,4 +21,4 @@ returns c = search handing-on
 
 pub zelezmut-answer-spec : {M : Type 1} → statement M
 zelezmut-answer-spec =
-    tie.close (tie.spec wide-requires is-set-requires answer-requires same-length returns)
+    tie.close (tie.spec u32-to-word-requires is-set-requires answer-requires same-length returns)

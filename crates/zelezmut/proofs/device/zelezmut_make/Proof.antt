@@ -4,8 +4,8 @@ use borrow.Author.Needs.{needs}
 use Rattle.zelezmut.proofs.device.zelezmut_make.Statement.{statement}
 use Rattle.zelezmut.proofs.device.zelezmut_make.Tie as tie
 
-place-requires : tie.Need-place-requires
-place-requires c κs = search needs
+word-to-usize-requires : tie.Need-word-to-usize-requires
+word-to-usize-requires c κs = search needs
 
 make-requires : tie.Need-make-requires
 make-requires c κs = search needs
@@ -14,4 +14,4 @@ returns : tie.Need-returns
 returns c = search handing-on
 
 pub zelezmut-make-spec : {M : Type 1} → statement M
-zelezmut-make-spec = tie.close (tie.spec place-requires make-requires returns)
+zelezmut-make-spec = tie.close (tie.spec word-to-usize-requires make-requires returns)

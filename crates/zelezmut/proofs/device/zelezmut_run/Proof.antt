@@ -10,11 +10,11 @@ run-requires c κs = search needs
 number-of-requires : tie.Need-number-of-requires
 number-of-requires c κs = search needs
 
-count-requires : tie.Need-count-requires
-count-requires c κs = search needs
+u16-to-word-requires : tie.Need-u16-to-word-requires
+u16-to-word-requires c κs = search needs
 
-wide-requires : tie.Need-wide-requires
-wide-requires c κs = search needs
+u32-to-word-requires : tie.Need-u32-to-word-requires
+u32-to-word-requires c κs = search needs
 
 mul-result : tie.Need-mul-result
 mul-result c = search needs
@@ -40,8 +40,8 @@ zelezmut-run-spec =
     (tie.spec
     run-requires
     number-of-requires
-    count-requires
-    wide-requires
+    u16-to-word-requires
+    u32-to-word-requires
     mul-result
     mul-result-2
     add-result
