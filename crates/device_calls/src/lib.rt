@@ -1,4 +1,4 @@
-// The calls on a device's words that are lent no guest memory: make, read, record (write is register_writes'). None asks anything of its
+// The calls on a device's words that are lent no guest memory: make, read, record (write stands in `registers`). None asks anything of its
 // caller; a refused one gives its number and zeros.
 use kept_records::Records;
 use kept_records::record_row;

@@ -10,7 +10,7 @@ use lib.ListN.{getD}
 use Rattle.machine.specs.Machine.{pick}
 use Rattle.rules.specs.Numbers.{most, done}
 use Rattle.rules.specs.Packets.{Holdings}
-use Rattle.rules.specs.State.{Work, State, World}
+use Rattle.rules.specs.State.{Work, State, World, registers-of}
 use Rattle.rules.specs.State.Work.{resting, entries, packets, waiting}
 use Rattle.rules.specs.declared.Registers.{Registers}
 use Rattle.rules.specs.declared.Entry.{Entry}
@@ -41,18 +41,8 @@ countIn x = pick (ltb most x) most x
 
 abbrev pub registersIn : List ℕ → Registers
 registersIn s =
-    record {
-      ring = getD s 1 0;
-      ringsize = smallIn (getD s 2 0);
-      enabled = setIn (getD s 3 0);
-      page = getD s 4 0;
-      completed = getD s 5 0;
-      fenced = setIn (getD s 6 0);
-      failed = setIn (getD s 7 0);
-      irqenable = smallIn (getD s 8 0);
-      error = record { code = smallIn (getD s 9 0); fence = getD s 10 0; count = smallIn (getD s 11 0) };
-      rung = setIn (getD s 12 0);
-    }
+    registers-of (getD s 1 0) (smallIn (getD s 2 0)) (setIn (getD s 3 0)) (getD s 4 0) (getD s 5 0) (setIn (getD s 6 0)) (setIn (getD s 7 0))
+    (smallIn (getD s 8 0)) (record { code = smallIn (getD s 9 0); fence = getD s 10 0; count = smallIn (getD s 11 0) }) (setIn (getD s 12 0))
 
 abbrev pub tagIn : List ℕ → ℕ
 tagIn s = getD s 13 0
