@@ -1,8 +1,8 @@
-//! The gate holds crates/replay to a stored script and transcript; the desk gives the same, line by line.
+//! The gate holds crates/program_replay to a stored script and transcript; the desk gives the same, line by line.
 use zelezmut::script::{decode, encode, transcript, Script};
 
-const SCRIPT: &[u8] = include_bytes!("../../crates/replay/stdin");
-const TRANSCRIPT: &str = include_str!("../../crates/replay/stdout");
+const SCRIPT: &[u8] = include_bytes!("../../crates/program_replay/stdin");
+const TRANSCRIPT: &str = include_str!("../../crates/program_replay/stdout");
 
 #[test]
 fn the_stored_script_gives_the_stored_transcript() {
