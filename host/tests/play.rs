@@ -64,7 +64,10 @@ fn each_file_has_its_name_and_its_transcript() {
 
 #[test]
 fn the_stored_script_gives_the_stored_transcript() {
-    let path = concat!(env!("CARGO_MANIFEST_DIR"), "/../crates/program_replay/stdin");
+    let path = concat!(
+        env!("CARGO_MANIFEST_DIR"),
+        "/../crates/program_replay/stdin"
+    );
     let said = play(&[path]);
     let stored = include_str!("../../crates/program_replay/stdout");
     assert_eq!(said.out, format!("script {}\n{}", path, stored));
