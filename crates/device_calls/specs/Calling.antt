@@ -1,6 +1,5 @@
 -- The calls that are lent no guest memory: what their code asks. Assumes nothing.
-use mathlib.Core.Path.{_≡_, refl, sym, ap, _∙_}
-use mathlib.Core.Bool.{Bool, true, false}
+use mathlib.Core.Path.{_≡_, refl, sym, _∙_}
 use mathlib.Core.List.{List, []}
 use Prim.Native.Nat.{ℕ, zero, suc, _+_, _≤_, _<_}
 use native.Mathlib.Nat.{add-zero, zero-add, suc-add, add-suc}
@@ -12,8 +11,7 @@ use Rattle.rules.specs.Numbers.{done, no-register, most}
 use Rattle.rules.specs.Lists.{Found, nth}
 use Rattle.rules.specs.Lists.Found.{none, found}
 use Rattle.rules.specs.Registers.{Read as ReadAt, register}
-use Rattle.rules.specs.State.{Work}
-use Rattle.rules.specs.State.Work.{resting, entries, packets, waiting}
+use Rattle.rules.specs.State.Work.{waiting}
 use Rattle.rules.specs.Calls.{valued, call-read, handed-out, call-record}
 use Rattle.rules.specs.declared.Record.{Record}
 use Rattle.registers.specs.Map.{shown}
@@ -21,7 +19,7 @@ use Rattle.registers.specs.declared.Shown.{Shown}
 use Rattle.registers.specs.declared.Shown.the-variants.{Value, NoRegister as NoShown}
 use Rattle.rows.specs.Rows.{rowAt, table, tab}
 use Rattle.kept_resources.specs.Views.{recordOf, recordsOf}
-use Rattle.run_state.specs.Views.{countIn, setIn, registersIn, tagIn, worldIn, stateIn, sideIn}
+use Rattle.run_state.specs.Views.{countIn, registersIn, tagIn, worldIn, stateIn, sideIn}
 use Rattle.run_state.specs.Reading.{none-live}
 use Rattle.run_state.specs.Stages.{waits-in, outs-in}
 use Rattle.run_state.specs.Spelled.{spell}

@@ -1,6 +1,6 @@
 -- What a packet can come to, whatever it is: refused with what was held, or one of five effects, each with what the rules then
 -- know. A fact about outcomes is shown once for these. Assumes nothing.
-use mathlib.Core.Path.{_≡_, refl, _∙_}
+use mathlib.Core.Path.{_≡_, refl}
 use mathlib.Core.Bool.{Bool, true, false, not, _||_}
 use mathlib.Core.List.{List}
 use Prim.Native.Nat.{ℕ, _+_, _%_, _≤_, _<_}
@@ -16,7 +16,7 @@ use Rattle.rules.specs.Judging.{refusal}
 use Rattle.rules.specs.Shapes.{packed-size}
 use Rattle.rules.specs.Table.{matching}
 use Rattle.rules.specs.Stream.{frame-of, packet-of}
-use Rattle.rules.specs.Packets.{Holdings, Outcome, accepted, refused, refuse, full, handle-of, live, is-live, on-live, on-kind, on-buffer, on-entry, backed, range-of, recorded, hand-out, stored, create-hosted, create-backed, create, on-buffer-packet, on-texture-packet, on-destroy-packet, on-dirty-packet, write-back, on-copy-packet, apply, apply-frame, take-packet}
+use Rattle.rules.specs.Packets.{Holdings, Outcome, accepted, refuse, full, handle-of, live, is-live, on-live, on-kind, on-buffer, on-entry, backed, range-of, recorded, hand-out, stored, create-hosted, create-backed, create, on-buffer-packet, on-texture-packet, on-destroy-packet, on-dirty-packet, write-back, on-copy-packet, apply, apply-frame, take-packet}
 use Rattle.rules.specs.declared.Entry.{Entry}
 use Rattle.rules.specs.declared.Resource.{Resource}
 use Rattle.rules.specs.declared.Shape.{Shape}

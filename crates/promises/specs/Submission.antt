@@ -1,7 +1,7 @@
 -- Demand 2, whole: from its opening on, over still memory, a submission's steps end where the unsliced rules end, after their
 -- count of units. Assumes nothing.
 use mathlib.Core.Path.{_≡_, refl, sym, ap, subst, _∙_}
-use mathlib.Core.Bool.{Bool, true, false, not}
+use mathlib.Core.Bool.{Bool, true, false}
 use mathlib.Core.List.{List, []}
 use Prim.Native.Nat.{ℕ, zero, suc, _+_, _-_, _*_, _≤_, _<_}
 use native.Mathlib.Omega.{arith}
@@ -12,9 +12,9 @@ use lib.Dec.{ltb, eqb}
 use lib.ListN.{length, take, drop, length-drop}
 use lib.Seq.{length-take-le}
 use Rattle.machine.specs.Machine.{pick, Out, spent, run-go, sliced}
-use Rattle.rules.specs.Numbers.{most, bad-table, bad-stream, too-many, outside-memory, table-magic, stream-magic}
+use Rattle.rules.specs.Numbers.{most, outside-memory}
 use Rattle.rules.specs.Judging.{rule, only}
-use Rattle.rules.specs.Layouts.{good-version, ring-header, descriptor, table-header, table-header-size, entry-size, stream-header, stream-header-size}
+use Rattle.rules.specs.Layouts.{ring-header, descriptor, table-header, entry-size, stream-header, stream-header-size}
 use Rattle.rules.specs.Table.{Judged, header-rules, in-reach, entries-of, judge-entries}
 use Rattle.rules.specs.Stream.{stream-rules, stream-bytes, packets-of}
 use Rattle.rules.specs.Ring.{present, descriptor-rules, range-rules, submission-rules, opened-of, concluded, job-of, slot-place, submission-opening, good-ring, ring-opening, opening-of}
@@ -24,8 +24,6 @@ use Rattle.rules.specs.State.Work.{resting}
 use Rattle.rules.specs.Steps.{after-opening, open-step, step, go, run-for}
 use Rattle.rules.specs.Unsliced.{Reckoned, judge-packets, after-entries, submission, finished, concluding, submitted-on, submitted}
 use Rattle.rules.specs.declared.Descriptor.{Descriptor}
-use Rattle.rules.specs.declared.TableHeader.{TableHeader}
-use Rattle.rules.specs.declared.StreamHeader.{StreamHeader}
 use Rattle.rules.specs.declared.Entry.{Entry}
 use Rattle.rules.specs.declared.Job.{Job}
 use Rattle.rules.specs.declared.Table.{Table}

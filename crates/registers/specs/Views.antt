@@ -2,7 +2,7 @@
 use mathlib.Core.Path.{_≡_}
 use mathlib.Core.List.{List}
 use Prim.Native.Nat.{ℕ}
-use Rattle.rules.specs.State.{State, with-regs}
+use Rattle.rules.specs.State.{with-regs}
 use Rattle.rules.specs.Registers.{acknowledged, controlled}
 use Rattle.rules.specs.Calls.{Wrote, call-write}
 use Rattle.run_state.specs.Views.{Refused, stateIn}

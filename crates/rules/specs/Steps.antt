@@ -1,6 +1,6 @@
 -- 01, "The steps and their price": one unit over the state and the memory lent at that unit; a run; the host's answer.
 use mathlib.Core.Bool.{Bool, true, false, _&&_}
-use mathlib.Core.List.{List, [], _∷_}
+use mathlib.Core.List.{List, []}
 use Prim.Native.Nat.{ℕ, _+_}
 use lib.Dec.{ltb}
 use lib.ListN.{length}

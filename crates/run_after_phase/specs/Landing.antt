@@ -6,7 +6,6 @@ use borrow.Author.Needs.{needs}
 use lib.ListN.{length, getD, set}
 use Rattle.rules.specs.Numbers.{most}
 use Rattle.rules.specs.Judging.{refusal}
-use Rattle.rules.specs.State.{World}
 use Rattle.run_entries.specs.Ending.{Ending, endingOf, is-going, is-done, is-broken}
 use Rattle.run_entries.specs.Ending.Ending.{Going, Done, Broken}
 use Rattle.run_entries.specs.Entries.{readingOf}

@@ -1,14 +1,11 @@
 -- What the beginning of a submission asks: a law for each way out, by the words spelled out. Assumes nothing.
-use mathlib.Core.Path.{_≡_, refl, sym, ap, _∙_}
-use mathlib.Core.Bool.{Bool, true, false}
+use mathlib.Core.Path.{_≡_, ap, _∙_}
 use mathlib.Core.List.{List, []}
-use Prim.Native.Nat.{ℕ, _%_, _≤_, _<_}
+use Prim.Native.Nat.{ℕ, _≤_, _<_}
 use native.Mathlib.Omega.{arith}
 use borrow.Author.Needs.{needs}
 use borrow.Author.Tests.{lt-ltb, le-ltb}
-use lib.Dec.{ltb}
 use lib.ListN.{length, getD, set}
-use Rattle.machine.specs.Machine.{pick}
 use Rattle.rules.specs.Numbers.{most}
 use Rattle.rules.specs.State.{World, working}
 use Rattle.rules.specs.Layouts.{stream-header-size}
@@ -19,7 +16,7 @@ use Rattle.rules.specs.declared.Job.{Job}
 use Rattle.rules.specs.declared.Opened.{Opened}
 use Rattle.rows.specs.Rows.{table-zero}
 use Rattle.kept_entries.specs.Views.{entryOf, entriesOf}
-use Rattle.run_state.specs.Views.{setIn, flagOf, smallIn, countIn, jobIn, streamIn, openedIn, resourcesIn, worldIn, bareIn}
+use Rattle.run_state.specs.Views.{flagOf, smallIn, jobIn, openedIn, worldIn, bareIn}
 use Rattle.run_state.specs.Reading.{flag-as, small-as, count-as, none-kept, none-made}
 use Rattle.run_state.specs.Spelled.{spell}
 use Rattle.run_begin.specs.Views.{Begins, StoresJob, StoresOpened, Starts}

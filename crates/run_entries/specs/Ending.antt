@@ -1,5 +1,5 @@
 -- How a phase stands, as the step machine sees it; and the laws of a phase's loop, once for both phases. Assumes nothing.
-use mathlib.Core.Path.{_≡_, refl, sym, ap, _∙_}
+use mathlib.Core.Path.{_≡_, refl, sym}
 use mathlib.Core.Bool.{Bool, true, false}
 use Prim.Native.Nat.{ℕ, _+_, _-_, _<_}
 use borrow.Author.Tests.{eq-eqb, ne-eqb}

@@ -1,6 +1,6 @@
 -- The phase of entries as a machine over the entries kept so far; and what its code asks. Assumes nothing.
-use mathlib.Core.Path.{_≡_, refl, sym, ap, _∙_}
-use mathlib.Core.Bool.{Bool, true, false, _&&_}
+use mathlib.Core.Path.{_≡_, refl, sym, ap}
+use mathlib.Core.Bool.{Bool, true, false}
 use mathlib.Core.List.{List}
 use Prim.Native.Nat.{ℕ, _+_, _-_, _^_, _≤_, _<_}
 use native.Mathlib.Omega.{arith}
@@ -22,7 +22,7 @@ use Rattle.rule_laws.specs.Fine.{both-left}
 use Rattle.rows.specs.Rows.{length-table}
 use Rattle.kept_entries.specs.Views.{entryOf, entriesOf, takenOf}
 use Rattle.run_entries.specs.Ending.{Ending, onward, ending-at, endingOf, is-going, is-done, is-broken, goes, ends, phase-on, phase-left}
-use Rattle.run_entries.specs.Ending.Ending.{Going, Done, Broken}
+use Rattle.run_entries.specs.Ending.Ending.{Going, Broken}
 use Rattle.run_entries.specs.declared.entries.EntriesPlace.{EntriesPlace}
 use Rattle.run_entries.specs.declared.entries.EntriesRun.{EntriesRun}
 

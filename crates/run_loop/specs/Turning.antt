@@ -1,18 +1,17 @@
 -- A run, turn by turn: what its code asks. Assumes nothing.
-use mathlib.Core.Path.{_≡_, refl, sym, ap, _∙_}
+use mathlib.Core.Path.{_≡_, refl, _∙_}
 use mathlib.Core.Bool.{Bool, true, false, and-false}
 use mathlib.Core.List.{List}
 use Prim.Native.Nat.{ℕ, _-_, _≤_, _<_}
 use native.Mathlib.Omega.{arith}
 use borrow.Author.Needs.{needs}
-use borrow.Author.Tests.{eq-eqb, ne-eqb}
 use lib.ListN.{getD}
 use Rattle.machine.specs.Machine.{spent, loop-start, loop-out}
-use Rattle.machine.specs.Within.{Turned, turned-stop, turned-step, turned-phase, turns-on, turns-stop}
+use Rattle.machine.specs.Within.{turned-stop, turned-step, turned-phase, turns-on, turns-stop}
 use Rattle.rules.specs.Numbers.{most}
 use Rattle.rules.specs.Stream.{stream-bytes}
-use Rattle.rules.specs.State.{World, working}
-use Rattle.rules.specs.State.Work.{resting, entries, packets}
+use Rattle.rules.specs.State.{working}
+use Rattle.rules.specs.State.Work.{entries, packets}
 use Rattle.rules.specs.Steps.{go, step, after-opening, open-step, run-for}
 use Rattle.rules.specs.Ring.{opening-of}
 use Rattle.rules.specs.declared.Table.{Table}
@@ -26,7 +25,7 @@ use Rattle.run_packets.specs.declared.PacketsPlace.{PacketsPlace}
 use Rattle.run_packets.specs.declared.PacketsRun.{PacketsRun}
 use Rattle.run_state.specs.Views.{setIn, smallIn, countIn, registersIn, tagIn, jobIn, tableIn, streamIn, openedIn, placeIn, keptIn, heldIn, worldIn, bareIn}
 use Rattle.run_state.specs.Reading.{unset, is-set}
-use Rattle.run_state.specs.Stages.{rests-in, reads-in, plays-in, waits-in}
+use Rattle.run_state.specs.Stages.{waits-in}
 use Rattle.run_after_phase.specs.Views.{laid, LandsEntries, played, LandsPackets}
 use Rattle.run_open.specs.Opening.{Opens}
 use Rattle.run_loop.specs.Views.{TurnOf, EntriesTurn, PacketsTurn, Advanced}

@@ -17,7 +17,6 @@ use Rattle.rules.specs.Packets.{Holdings, Outcome, apply, take-packet}
 use Rattle.rules.specs.Steps.{next-place}
 use Rattle.rules.specs.declared.Entry.{Entry}
 use Rattle.rules.specs.declared.Packet.{Packet}
-use Rattle.rules.specs.declared.Packet.the-variants.{Unknown}
 use Rattle.rules.specs.declared.Frame.{Frame}
 use Rattle.rules.specs.declared.Frame.the-variants.{Whole, Misframed}
 use Rattle.rules.specs.declared.Refusal.{Refusal}

@@ -1,5 +1,5 @@
 -- What the settling of a submission asks: a law for each function, by the words spelled out. Assumes nothing.
-use mathlib.Core.Path.{_≡_, refl, sym, ap, _∙_}
+use mathlib.Core.Path.{_≡_, refl, _∙_}
 use mathlib.Core.Bool.{Bool, true, false, not, _&&_, _||_}
 use mathlib.Core.List.{List}
 use Prim.Native.Nat.{ℕ, _<_}
@@ -12,10 +12,9 @@ use Rattle.rules.specs.Shapes.{larger}
 use Rattle.rules.specs.Settle.{one-more, faulted, signalled, ended-by, head-written, marked, settled}
 use Rattle.rules.specs.declared.Job.{Job}
 use Rattle.rules.specs.declared.Refusal.{Refusal}
-use Rattle.kept_resources.specs.Views.{resourcesOf}
 use Rattle.settle.specs.Settling.{page-put}
 use Rattle.settle.specs.Laws.{marks-as}
-use Rattle.run_state.specs.Views.{setIn, flagOf, smallIn, countIn, registersIn, jobIn, worldIn, bareIn, deskIn}
+use Rattle.run_state.specs.Views.{setIn, flagOf, smallIn, registersIn, jobIn, worldIn, deskIn}
 use Rattle.run_state.specs.Reading.{small-as}
 use Rattle.run_state.specs.Spelled.{spell}
 use Rattle.run_settle.specs.Views.{signalled-words, Signals, Finishes, Refuses, turnedIf, Accepts}

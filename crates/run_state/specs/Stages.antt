@@ -4,7 +4,7 @@ use mathlib.Core.Bool.{Bool, true, false}
 use mathlib.Core.List.{List, []}
 use Prim.Native.Nat.{ℕ, _≤_, _<_}
 use native.Mathlib.Omega.{arith}
-use borrow.Author.Tests.{eq-eqb, ne-eqb, eqb-false}
+use borrow.Author.Tests.{ne-eqb, eqb-false}
 use lib.Dec.{eqb}
 use Rattle.machine.specs.Machine.{pick}
 use Rattle.rules.specs.State.{Work}

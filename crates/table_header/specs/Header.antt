@@ -1,17 +1,14 @@
 -- A table's header: what its reading and its judging ask, and what a fine one says. Assumes nothing.
-use mathlib.Core.Path.{_≡_, refl}
-use mathlib.Core.Bool.{Bool, true, false, not}
+use mathlib.Core.Path.{_≡_}
+use mathlib.Core.Bool.{not}
 use mathlib.Core.List.{List}
-use Prim.Native.Nat.{ℕ, _+_, _*_, _-_, _/_, _^_, _≤_, _<_}
-use native.Mathlib.Nat.{mul-le-mul, le-trans}
-use native.Mathlib.Omega.{arith}
+use Prim.Native.Nat.{ℕ, _+_, _*_, _-_, _/_, _≤_, _<_}
+use native.Mathlib.Nat.{le-trans}
 use borrow.Author.Needs.{needs}
 use borrow.Author.Tests.{lt-ltb, le-ltb, eq-eqb, ne-eqb, ltb-false}
 use lib.Dec.{ltb, eqb}
-use mir.Syntax.{w64}
-use mir.Val.{Fits}
 use Rattle.rules.specs.Numbers.{bad-table, too-many, most, table-magic}
-use Rattle.rules.specs.Judging.{refusal, rule, _▹_}
+use Rattle.rules.specs.Judging.{refusal, rule}
 use Rattle.rules.specs.Layouts.{word, good-version, table-header, table-header-size, entry-size}
 use Rattle.rules.specs.Table.{header-rules, table-of}
 use Rattle.rules.specs.declared.Refusal.{Refusal}

@@ -11,7 +11,6 @@ use borrow.Author.Tests.{not-true, not-false}
 use lib.ListN.{length}
 use Rattle.rules.specs.Numbers.{bad-entry, twice-in-table, most}
 use Rattle.rules.specs.Lists.{pushed}
-use Rattle.rules.specs.Lists.Found.{found}
 use Rattle.rules.specs.Judging.{rule, number}
 use Rattle.rules.specs.Layouts.{word, entry, entry-size, table-header, table-header-size}
 use Rattle.rules.specs.Table.{entry-id, matching, is-found, entry-rules, entry-place, entries-from, entries-of, stop-or-go, judge-entries, header-rules, table-of, table-verdict, table-error}

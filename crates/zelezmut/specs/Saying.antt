@@ -1,19 +1,16 @@
 -- What the saying of a call's values asks. Assumes nothing.
-use mathlib.Core.Path.{_≡_, refl, sym, ap, _∙_}
+use mathlib.Core.Path.{_≡_, sym, ap, _∙_}
 use mathlib.Core.Bool.{Bool}
 use mathlib.Core.List.{List, [], _∷_}
-use Prim.Native.Nat.{ℕ, _+_, _*_, _^_, _≤_, _<_}
+use Prim.Native.Nat.{ℕ, _+_, _*_, _≤_, _<_}
 use native.Mathlib.Omega.{arith}
 use borrow.Author.Needs.{needs}
 use lib.ListN.{length, set, drop, drop-of-length-le}
 use lib.Seq.{sets-eq}
-use mir.Syntax.{w64}
-use mir.Val.{Fits}
-use Rattle.rules.specs.Calls.{ended-number, Value, Handed as HandedBy, Ran, call-read, call-run, call-record}
+use Rattle.rules.specs.Calls.{ended-number, Handed as HandedBy, Ran}
 use Rattle.rules.specs.declared.Record.{Record}
-use Rattle.rules.specs.declared.Ended.{Ended}
-use Rattle.run_state.specs.Views.{setIn, stateIn, deskIn, Refused}
-use Rattle.device_calls.specs.Views.{valueOf, handedOf, Makes, Reads, GivesRecord}
+use Rattle.run_state.specs.Views.{setIn, deskIn}
+use Rattle.device_calls.specs.Views.{Makes, Reads, GivesRecord}
 use Rattle.device_calls.specs.declared.ValueRead.{ValueRead}
 use Rattle.device_calls.specs.declared.Handed.{Handed}
 use Rattle.device_memory_calls.specs.Views.{Runs, Answers}
