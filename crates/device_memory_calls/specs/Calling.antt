@@ -20,8 +20,8 @@ use Rattle.run_state.specs.Views.{setIn, tagIn, jobIn, heldIn, worldIn, bareIn,
 use Rattle.run_state.specs.Reading.{unset, is-set}
 use Rattle.run_state.specs.Stages.{rests-in, waits-in, works-on, works-in}
 use Rattle.run_settle.specs.Views.{Refuses, Accepts}
-use Rattle.run_loop.specs.Views.{Advanced}
-use Rattle.device_memory_calls.specs.Views.{Ends, AdvancedOn, Runs, Answers}
+use Rattle.run_loop.specs.Views.{RanFor}
+use Rattle.device_memory_calls.specs.Views.{Ends, RanOn, Runs, Answers}
 
 -- ---- ended_in
 
@@ -63,16 +63,16 @@ module _ (s : List ℕ) where
 
 pub ruleset ending-in = (ends-waits, ends-off, ends-paused, ends-idle, ends-rung, needs)
 
--- ---- advance_on
+-- ---- run_on
 
 module _ (allowance u : ℕ) (s e c m s′ e′ c′ m′ : List ℕ) where
-  pub on-first : (a b b′ : List ℕ) → getD s 28 0 ≡ 0 → Advanced allowance s e a b c m u s′ e′ b′ c′ m′ → AdvancedOn allowance s e a b c m u s′ e′ a b′ c′ m′
+  pub on-first : (a b b′ : List ℕ) → getD s 28 0 ≡ 0 → RanFor allowance s e a b c m u s′ e′ b′ c′ m′ → RanOn allowance s e a b c m u s′ e′ a b′ c′ m′
   on-first a b b′ z x =
       let here : setIn (getD s 28 0) ≡ false = unset (getD s 28 0) z in
       let there : setIn (getD s′ 28 0) ≡ false = unset (getD s′ 28 0) (x .side ∙ z) in
       record { run = rw (here, there) (x .run) }
 
-  pub on-second : (a b a′ : List ℕ) → (getD s 28 0 ≡ 0 → ⊥) → Advanced allowance s e b a c m u s′ e′ a′ c′ m′ → AdvancedOn allowance s e a b c m u s′ e′ a′ b c′ m′
+  pub on-second : (a b a′ : List ℕ) → (getD s 28 0 ≡ 0 → ⊥) → RanFor allowance s e b a c m u s′ e′ a′ c′ m′ → RanOn allowance s e a b c m u s′ e′ a′ b c′ m′
   on-second a b a′ n x =
       let here : setIn (getD s 28 0) ≡ true = is-set (getD s 28 0) n in
       let there : setIn (getD s′ 28 0) ≡ true = is-set (getD s′ 28 0) (λ z. n (sym (x .side) ∙ z)) in
@@ -100,7 +100,7 @@ module _ (s e a b c m : List ℕ) (allowance memory : ℕ) (is : memory ≡ getD
   unfolding call-run
   ran-as n = rw (memory-in s e a b c m, lent-in s e a b c m, ← is, eq-eqb _ _ n)
 
-  pub runs-done : (s′ e′ a′ b′ c′ m′ : List ℕ) (u : ℕ) (k : Ended) → length m ≡ memory → AdvancedOn allowance s e a b c m u s′ e′ a′ b′ c′ m′ → Ends s′ k
+  pub runs-done : (s′ e′ a′ b′ c′ m′ : List ℕ) (u : ℕ) (k : Ended) → length m ≡ memory → RanOn allowance s e a b c m u s′ e′ a′ b′ c′ m′ → Ends s′ k
       → Runs allowance s e a b c m (record { answer = done; units = u; ended = k }) s′ e′ a′ b′ c′ m′
   runs-done s′ e′ a′ b′ c′ m′ u k n x ends =
       record {

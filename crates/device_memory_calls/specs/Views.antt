@@ -15,7 +15,7 @@ pub record Ends (s : List ℕ) (x : Ended) : Type 0 where
   pub ended : (e r h c m : List ℕ) → x ≡ ending (worldIn s e r h c m .state)
 
 -- words, entries, the first and the second table of resources, records, memory; the units; and what then stands
-pub record AdvancedOn (allowance : ℕ) (s e a b c m : List ℕ) (units : ℕ) (s′ e′ a′ b′ c′ m′ : List ℕ) : Type 0 where
+pub record RanOn (allowance : ℕ) (s e a b c m : List ℕ) (units : ℕ) (s′ e′ a′ b′ c′ m′ : List ℕ) : Type 0 where
   pub run : record { state = deskIn s′ e′ a′ b′ c′ m′; units = units } ≡ run-for allowance (deskIn s e a b c m)
 
 pub record Runs (allowance : ℕ) (s e a b c m : List ℕ) (x : Spent) (s′ e′ a′ b′ c′ m′ : List ℕ) : Type 0 where

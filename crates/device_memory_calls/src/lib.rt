@@ -9,7 +9,6 @@ use rules::numbers::DONE;
 use rules::numbers::HOST_FAILED;
 use rules::numbers::NOTHING_WAITS;
 use rules::numbers::OTHER_MEMORY;
-use run_loop::advance;
 use run_settle::settle_accepted;
 use run_settle::settle_refused;
 use run_state::DOORBELL;
@@ -21,7 +20,7 @@ use run_state::TAG;
 use run_state::WAITING;
 use run_state::Words;
 use widths::word_to_usize;
-ghost use Rattle.device_memory_calls.specs.Views.{Ends, AdvancedOn, Runs, Answers};
+ghost use Rattle.device_memory_calls.specs.Views.{Ends, RanOn, Runs, Answers};
 
 // What a run answers: the call's answer, the units spent and how it ended.
 pub struct Spent {
@@ -51,7 +50,7 @@ fn ended_in(words: &Words) -> Ended
 }
 
 // A run, with the table of resources that is the device's and the other.
-fn advance_on(
+fn run_on(
     words: &mut Words,
     entries: &mut Entries,
     first: &mut Resources,
@@ -60,12 +59,12 @@ fn advance_on(
     mem: &mut [u8],
     allowance: u16,
 ) -> u16
-    ensures { λ r. ⌜ AdvancedOn allowance (now (words .entry)) (now (entries .entry)) (now (first .entry)) (now (second .entry)) (now (records .entry)) (now (mem .entry)) r (now (words .exit)) (now (entries .exit)) (now (first .exit)) (now (second .exit)) (now (records .exit)) (now (mem .exit)) ⌝ }
+    ensures { λ r. ⌜ RanOn allowance (now (words .entry)) (now (entries .entry)) (now (first .entry)) (now (second .entry)) (now (records .entry)) (now (mem .entry)) r (now (words .exit)) (now (entries .exit)) (now (first .exit)) (now (second .exit)) (now (records .exit)) (now (mem .exit)) ⌝ }
 {
     if words[SIDE] == 0 {
-        return advance(words, mem, entries, first, second, records, allowance);
+        return run_loop::run(words, mem, entries, first, second, records, allowance);
     }
-    advance(words, mem, entries, second, first, records, allowance)
+    run_loop::run(words, mem, entries, second, first, records, allowance)
 }
 
 // As many units as are allowed, over the memory lent now; says how many were spent and how it ended.
@@ -88,7 +87,7 @@ pub fn run(
             ended: Ended::Idle,
         };
     }
-    let units = advance_on(words, entries, first, second, records, mem, allowance);
+    let units = run_on(words, entries, first, second, records, mem, allowance);
     let ended = ended_in(words);
     Spent {
         answer: DONE,

@@ -24,26 +24,26 @@ fn up_to(from: u64, to: u64) -> u64
 }
 
 // The kept entry of row i. Its range ends below 2^64, whatever words stand there.
-pub fn entry_row(kept: &Entries, i: usize) -> Entry
+pub fn entry_row(entries: &Entries, i: usize) -> Entry
     requires { ⌜ i < most ⌝ }
-    ensures { λ r. ⌜ RowRead (rowAt 4 (now (kept .entry)) i) r ⌝ }
+    ensures { λ r. ⌜ RowRead (rowAt 4 (now (entries .entry)) i) r ⌝ }
 {
     let b = WORDS * i;
-    let gpa = kept[b + 2];
+    let gpa = entries[b + 2];
     Entry {
-        id: words::low32(kept[b]),
-        flags: words::low32(kept[b + 1]),
+        id: words::low32(entries[b]),
+        flags: words::low32(entries[b + 1]),
         gpa,
-        size: up_to(gpa, kept[b + 3]),
+        size: up_to(gpa, entries[b + 3]),
     }
 }
 
-// The place of the kept entry that has an id, or `n`.
-pub fn find_entry(kept: &Entries, n: usize, id: u32) -> usize
-    requires { ⌜ n ≤ most ⌝ }
-    ensures { λ r. ⌜ r ≡ indexOf entry-id id (entriesOf n (now (kept .entry))) ⌝ }
+// The place of the kept entry that has an id, or `kept`.
+pub fn find_entry(entries: &Entries, kept: usize, id: u32) -> usize
+    requires { ⌜ kept ≤ most ⌝ }
+    ensures { λ r. ⌜ r ≡ indexOf entry-id id (entriesOf kept (now (entries .entry))) ⌝ }
 {
-    rows::finding::find_row(kept, WORDS, n, id)
+    rows::finding::find_row(entries, WORDS, kept, id)
 }
 
 // Reads each field of an entry once.

@@ -29,13 +29,13 @@ pub fn record_row(records: &Records, i: usize) -> Record
     }
 }
 
-// One record more, after `n` others.
-pub fn push_record(records: &mut Records, n: usize, c: Record)
-    requires { ⌜ n < most ⌝ }
-    ensures { λ _. ⌜ recordsOf (n + 1) (now (records .exit)) ≡ pushed (recordsOf n (now (records .entry))) c ⌝ }
+// One record more, after `made` others.
+pub fn push_record(records: &mut Records, made: usize, c: Record)
+    requires { ⌜ made < most ⌝ }
+    ensures { λ _. ⌜ recordsOf (made + 1) (now (records .exit)) ≡ pushed (recordsOf made (now (records .entry))) c ⌝ }
 {
     let all = &records[..];
-    let b = WORDS * n;
+    let b = WORDS * made;
     records[b] = u32_to_word(c.kind);
     records[b + 1] = u32_to_word(c.handle);
     records[b + 2] = u32_to_word(c.id);

@@ -20,43 +20,43 @@ pub const WORDS: usize = 11;
 pub const BUFFER: u64 = 0;
 
 // What the resource of a row is.
-fn kind_at(rooms: &Resources, b: usize) -> Kind
+fn kind_at(resources: &Resources, b: usize) -> Kind
     requires { ⌜ b + 11 ≤ 704 ⌝ }
-    ensures { λ r. ⌜ r ≡ kindIn (now (rooms .entry)) b ⌝ }
+    ensures { λ r. ⌜ r ≡ kindIn (now (resources .entry)) b ⌝ }
 {
-    if rooms[b + 1] == BUFFER {
+    if resources[b + 1] == BUFFER {
         return Kind::Buffer;
     }
     Kind::Texture(Shape {
-        format: words::low32(rooms[b + 3]),
-        width: words::low32(rooms[b + 4]),
-        height: words::low32(rooms[b + 5]),
-        mips: words::low32(rooms[b + 6]),
-        layers: words::low32(rooms[b + 7]),
+        format: words::low32(resources[b + 3]),
+        width: words::low32(resources[b + 4]),
+        height: words::low32(resources[b + 5]),
+        mips: words::low32(resources[b + 6]),
+        layers: words::low32(resources[b + 7]),
     })
 }
 
 // The resource of row i.
-pub fn resource_row(rooms: &Resources, i: usize) -> Resource
+pub fn resource_row(resources: &Resources, i: usize) -> Resource
     requires { ⌜ i < most ⌝ }
-    ensures { λ r. ⌜ r ≡ resourceOf (rowAt 11 (now (rooms .entry)) i) ⌝ }
+    ensures { λ r. ⌜ r ≡ resourceOf (rowAt 11 (now (resources .entry)) i) ⌝ }
 {
     let b = WORDS * i;
-    let kind = kind_at(rooms, b);
+    let kind = kind_at(resources, b);
     Resource {
-        handle: words::low32(rooms[b]),
+        handle: words::low32(resources[b]),
         kind,
-        bytes: rooms[b + 2],
-        pitch: words::low32(rooms[b + 8]),
-        backing: words::low32(rooms[b + 9]),
-        offset: words::low32(rooms[b + 10]),
+        bytes: resources[b + 2],
+        pitch: words::low32(resources[b + 8]),
+        backing: words::low32(resources[b + 9]),
+        offset: words::low32(resources[b + 10]),
     }
 }
 
-// The place of the live resource that has a handle, or `n`.
-pub fn find_resource(rooms: &Resources, n: usize, handle: u32) -> usize
-    requires { ⌜ n ≤ most ⌝ }
-    ensures { λ r. ⌜ r ≡ indexOf handle-of handle (resourcesOf n (now (rooms .entry))) ⌝ }
+// The place of the live resource that has a handle, or `live`.
+pub fn find_resource(resources: &Resources, live: usize, handle: u32) -> usize
+    requires { ⌜ live ≤ most ⌝ }
+    ensures { λ r. ⌜ r ≡ indexOf handle-of handle (resourcesOf live (now (resources .entry))) ⌝ }
 {
-    rows::finding::find_row(rooms, WORDS, n, handle)
+    rows::finding::find_row(resources, WORDS, live, handle)
 }

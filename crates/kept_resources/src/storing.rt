@@ -47,40 +47,40 @@ fn flat(kind: Kind) -> FlatKind
     }
 }
 
-// One resource more, after `n` others.
-pub fn push_resource(rooms: &mut Resources, n: usize, r: Resource)
-    requires { ⌜ n < most ⌝ }
-    ensures { λ _. ⌜ resourcesOf (n + 1) (now (rooms .exit)) ≡ pushed (resourcesOf n (now (rooms .entry))) r ⌝ }
+// One resource more, after `live` others.
+pub fn push_resource(resources: &mut Resources, live: usize, r: Resource)
+    requires { ⌜ live < most ⌝ }
+    ensures { λ _. ⌜ resourcesOf (live + 1) (now (resources .exit)) ≡ pushed (resourcesOf live (now (resources .entry))) r ⌝ }
 {
     let kind = r.kind;
     let f = flat(kind);
-    let all = &rooms[..];
-    let b = WORDS * n;
-    rooms[b] = u32_to_word(r.handle);
-    rooms[b + 1] = f.tag;
-    rooms[b + 2] = r.bytes;
-    rooms[b + 3] = f.format;
-    rooms[b + 4] = f.width;
-    rooms[b + 5] = f.height;
-    rooms[b + 6] = f.mips;
-    rooms[b + 7] = f.layers;
-    rooms[b + 8] = u32_to_word(r.pitch);
-    rooms[b + 9] = u32_to_word(r.backing);
-    rooms[b + 10] = u32_to_word(r.offset);
+    let all = &resources[..];
+    let b = WORDS * live;
+    resources[b] = u32_to_word(r.handle);
+    resources[b + 1] = f.tag;
+    resources[b + 2] = r.bytes;
+    resources[b + 3] = f.format;
+    resources[b + 4] = f.width;
+    resources[b + 5] = f.height;
+    resources[b + 6] = f.mips;
+    resources[b + 7] = f.layers;
+    resources[b + 8] = u32_to_word(r.pitch);
+    resources[b + 9] = u32_to_word(r.backing);
+    resources[b + 10] = u32_to_word(r.offset);
 }
 
-// The resource of row i is gone: the last of `n` takes its place.
-pub fn remove_resource(rooms: &mut Resources, n: usize, i: usize)
-    requires { ⌜ (n ≤ most) × (i < n) ⌝ }
-    ensures { λ _. ⌜ resourcesOf (n - 1) (now (rooms .exit)) ≡ removed i (resourcesOf n (now (rooms .entry))) ⌝ }
+// The resource of row i is gone: the last of `live` takes its place.
+pub fn remove_resource(resources: &mut Resources, live: usize, i: usize)
+    requires { ⌜ (live ≤ most) × (i < live) ⌝ }
+    ensures { λ _. ⌜ resourcesOf (live - 1) (now (resources .exit)) ≡ removed i (resourcesOf live (now (resources .entry))) ⌝ }
 {
-    rows::move_row(rooms, WORDS, n - 1, i);
+    rows::move_row(resources, WORDS, live - 1, i);
 }
 
-// The first `n` resources of one table over another's.
-pub fn copy_resources(from: &Resources, to: &mut Resources, n: usize)
-    requires { ⌜ n ≤ most ⌝ }
-    ensures { λ _. ⌜ resourcesOf n (now (to .exit)) ≡ resourcesOf n (now (from .entry)) ⌝ }
+// The first `live` resources of one table over another's.
+pub fn copy_resources(from: &Resources, to: &mut Resources, live: usize)
+    requires { ⌜ live ≤ most ⌝ }
+    ensures { λ _. ⌜ resourcesOf live (now (to .exit)) ≡ resourcesOf live (now (from .entry)) ⌝ }
 {
-    rows::copy_words(from, to, WORDS * n);
+    rows::copy_words(from, to, WORDS * live);
 }

@@ -24,57 +24,57 @@ use Rattle.packet_ranges.specs.declared.applied.Applied.{Applied}
 use Rattle.packet_apply.specs.declared.apply.Changed.{Changed}
 
 abbrev pub changedOf : Applied → Bool → Changed
-changedOf a own = record { verdict = a .verdict; live = a .live; made = a .made; own = own }
+changedOf a copied = record { verdict = a .verdict; live = a .live; made = a .made; copied = copied }
 
 -- the answer and the rows it leaves are an outcome of the rules, and there is room for them: the resources are in the submission's
 -- own table h, or still in the device's, r
 pub record Changes (o : Outcome) (r : List ℕ) (x : Changed) (h c : List ℕ) : Type 0 where
-  pub outcome : record { verdict = x .verdict; held = holdingsOf (x .live) (pick (x .own) h r) (x .made) c } ≡ o
+  pub outcome : record { verdict = x .verdict; held = holdingsOf (x .live) (pick (x .copied) h r) (x .made) c } ≡ o
   pub live : x .live ≤ most
   pub made : x .made ≤ most
 
 -- ---- take_own
 
-module _ (live : ℕ) (r h : List ℕ) (own : Bool) where
-  pub owned-before : not own ≡ false → resourcesOf live h ≡ resourcesOf live (pick own h r)
-  owned-before t = rw (not-false own t)
+module _ (live : ℕ) (r h : List ℕ) (copied : Bool) where
+  pub owned-before : not copied ≡ false → resourcesOf live h ≡ resourcesOf live (pick copied h r)
+  owned-before t = rw (not-false copied t)
 
-  pub owned-now : (h′ : List ℕ) → not own ≡ true → resourcesOf live h′ ≡ resourcesOf live r → resourcesOf live h′ ≡ resourcesOf live (pick own h r)
-  owned-now h′ t e = rw (not-true own t) e
+  pub owned-now : (h′ : List ℕ) → not copied ≡ true → resourcesOf live h′ ≡ resourcesOf live r → resourcesOf live h′ ≡ resourcesOf live (pick copied h r)
+  owned-now h′ t e = rw (not-true copied t) e
 
 pub ruleset owning = (owned-before, owned-now, needs)
 
 -- ---- make_buffer, make_texture, destroy: on the submission's own table
 
-module _ (n live made : ℕ) (e r h h₁ c : List ℕ) (own : Bool) (same : resourcesOf live h₁ ≡ resourcesOf live (pick own h r)) (a : Applied) (x : Changed) (is : x ≡ changedOf a true) (h′ : List ℕ) where
+module _ (n live made : ℕ) (e r h h₁ c : List ℕ) (copied : Bool) (same : resourcesOf live h₁ ≡ resourcesOf live (pick copied h r)) (a : Applied) (x : Changed) (is : x ≡ changedOf a true) (h′ : List ℕ) where
   on-own : (o : Outcome) (c′ : List ℕ) → Applies o a h′ c′ → Changes o r x h′ c′
   on-own o c′ p = rw is (record { outcome = p .outcome; live = p .live; made = p .made })
 
   pub makes-buffer : (b : CreateBuffer) (c′ : List ℕ) → Applies (on-buffer-packet (entriesOf n e) (holdingsOf live h₁ made c) b) a h′ c′
-      → Changes (on-buffer-packet (entriesOf n e) (holdingsOf live (pick own h r) made c) b) r x h′ c′
+      → Changes (on-buffer-packet (entriesOf n e) (holdingsOf live (pick copied h r) made c) b) r x h′ c′
   makes-buffer b c′ p = rw (← same) (on-own _ c′ p)
 
   pub makes-texture : (b : CreateTexture) (c′ : List ℕ) → Applies (on-texture-packet (entriesOf n e) (holdingsOf live h₁ made c) b) a h′ c′
-      → Changes (on-texture-packet (entriesOf n e) (holdingsOf live (pick own h r) made c) b) r x h′ c′
+      → Changes (on-texture-packet (entriesOf n e) (holdingsOf live (pick copied h r) made c) b) r x h′ c′
   makes-texture b c′ p = rw (← same) (on-own _ c′ p)
 
-  pub destroys : (b : DestroyResource) → Destroys b live made h₁ a h′ → Changes (on-destroy-packet (holdingsOf live (pick own h r) made c) b) r x h′ c
+  pub destroys : (b : DestroyResource) → Destroys b live made h₁ a h′ → Changes (on-destroy-packet (holdingsOf live (pick copied h r) made c) b) r x h′ c
   destroys b p = rw (← same) (on-own _ c (p .applies c))
 
 pub ruleset changing = (makes-buffer, makes-texture, destroys, needs)
 
 -- ---- dirty, copy: on the table that has the resources
 
-module _ (n live made : ℕ) (e r h l c c′ : List ℕ) (own : Bool) (here : l ≡ pick own h r) (a : Applied) (x : Changed) (is : x ≡ changedOf a own) where
+module _ (n live made : ℕ) (e r h l c c′ : List ℕ) (copied : Bool) (here : l ≡ pick copied h r) (a : Applied) (x : Changed) (is : x ≡ changedOf a copied) where
   on-chosen : (o : Outcome) → Applies o a l c′ → Changes o r x h c′
   on-chosen o p = rw is (record { outcome = rw (← here) (p .outcome); live = p .live; made = p .made })
 
   pub dirties : (b : DirtyRange) → Applies (on-dirty-packet (entriesOf n e) (holdingsOf live l made c) b) a l c′
-      → Changes (on-dirty-packet (entriesOf n e) (holdingsOf live (pick own h r) made c) b) r x h c′
+      → Changes (on-dirty-packet (entriesOf n e) (holdingsOf live (pick copied h r) made c) b) r x h c′
   dirties b p = rw (← here) (on-chosen _ p)
 
   pub copies : (b : CopyBuffer) → Applies (on-copy-packet (entriesOf n e) (holdingsOf live l made c) b) a l c′
-      → Changes (on-copy-packet (entriesOf n e) (holdingsOf live (pick own h r) made c) b) r x h c′
+      → Changes (on-copy-packet (entriesOf n e) (holdingsOf live (pick copied h r) made c) b) r x h c′
   copies b p = rw (← here) (on-chosen _ p)
 
 pub ruleset reading-resources = (dirties, copies, needs)
@@ -107,9 +107,9 @@ module _ (n live made : ℕ) (e r l c h′ c′ : List ℕ) (p : Packet) (x : Ch
   unfolding apply
   copy-applied b q h = rw q h
 
-pub unknown-applied : (n live made : ℕ) (e r h c : List ℕ) (own : Bool) (p : Packet) → p ≡ Unknown → RowsExist n live made
-    → Changes (apply (entriesOf n e) (holdingsOf live (pick own h r) made c) p) r (record { verdict = Fine; live = live; made = made; own = own }) h c
+pub unknown-applied : (n live made : ℕ) (e r h c : List ℕ) (copied : Bool) (p : Packet) → p ≡ Unknown → RowsExist n live made
+    → Changes (apply (entriesOf n e) (holdingsOf live (pick copied h r) made c) p) r (record { verdict = Fine; live = live; made = made; copied = copied }) h c
 unfolding apply
-unknown-applied n live made e r h c own p q room = rw q (record { outcome = refl; live = room .live; made = room .made })
+unknown-applied n live made e r h c copied p q room = rw q (record { outcome = refl; live = room .live; made = room .made })
 
 pub ruleset applying = (buffer-applied, texture-applied, destroy-applied, dirty-applied, copy-applied, unknown-applied, needs)

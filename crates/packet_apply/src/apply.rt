@@ -33,153 +33,196 @@ pub struct Changed {
     pub verdict: Verdict,
     pub live: usize,
     pub made: usize,
-    pub own: bool,
+    pub copied: bool,
 }
 
-fn with_own(a: Applied, own: bool) -> Changed
-    ensures { λ x. ⌜ x ≡ changedOf a own ⌝ }
+fn with_own(a: Applied, copied: bool) -> Changed
+    ensures { λ x. ⌜ x ≡ changedOf a copied ⌝ }
 {
     let verdict = a.verdict;
     Changed {
         verdict,
         live: a.live,
         made: a.made,
-        own,
+        copied,
     }
 }
 
 // The table that has the submission's resources.
-fn chosen<'a>(rooms: &'a Resources, held: &'a Resources, own: bool) -> &'a Resources
-    ensures { λ r. ⌜ now r ≡ pick own (now (held .entry)) (now (rooms .entry)) ⌝ }
+fn chosen<'a>(resources: &'a Resources, own: &'a Resources, copied: bool) -> &'a Resources
+    ensures { λ r. ⌜ now r ≡ pick copied (now (own .entry)) (now (resources .entry)) ⌝ }
 {
-    if own { held } else { rooms }
+    if copied { own } else { resources }
 }
 
 // Sees that the submission's resources are in its own table.
-fn take_own(rooms: &Resources, held: &mut Resources, own: bool, live: usize)
+fn take_own(resources: &Resources, own: &mut Resources, copied: bool, live: usize)
     requires { ⌜ live ≤ most ⌝ }
-    ensures { λ _. ⌜ resourcesOf live (now (held .exit)) ≡ resourcesOf live (pick own (now (held .entry)) (now (rooms .entry))) ⌝ }
+    ensures { λ _. ⌜ resourcesOf live (now (own .exit)) ≡ resourcesOf live (pick copied (now (own .entry)) (now (resources .entry))) ⌝ }
 {
-    if !own {
-        copy_resources(rooms, held, live);
+    if !copied {
+        copy_resources(resources, own, live);
     }
 }
 
 fn make_buffer(
     entries: &Entries,
-    n: usize,
-    rooms: &Resources,
-    held: &mut Resources,
-    own: bool,
+    kept: usize,
+    resources: &Resources,
+    own: &mut Resources,
+    copied: bool,
     live: usize,
     records: &mut Records,
     made: usize,
     c: CreateBuffer,
 ) -> Changed
-    requires { ⌜ RowsExist n live made ⌝ }
-    ensures { λ x. ⌜ Changes (on-buffer-packet (entriesOf n (now (entries .entry))) (holdingsOf live (pick own (now (held .entry)) (now (rooms .entry))) made (now (records .entry))) c) (now (rooms .entry)) x (now (held .exit)) (now (records .exit)) ⌝ }
+    requires { ⌜ RowsExist kept live made ⌝ }
+    ensures { λ x. ⌜ Changes (on-buffer-packet (entriesOf kept (now (entries .entry))) (holdingsOf live (pick copied (now (own .entry)) (now (resources .entry))) made (now (records .entry))) c) (now (resources .entry)) x (now (own .exit)) (now (records .exit)) ⌝ }
 {
-    take_own(rooms, held, own, live);
-    with_own(on_buffer(entries, n, held, live, records, made, c), true)
+    take_own(resources, own, copied, live);
+    with_own(on_buffer(entries, kept, own, live, records, made, c), true)
 }
 
 fn make_texture(
     entries: &Entries,
-    n: usize,
-    rooms: &Resources,
-    held: &mut Resources,
-    own: bool,
+    kept: usize,
+    resources: &Resources,
+    own: &mut Resources,
+    copied: bool,
     live: usize,
     records: &mut Records,
     made: usize,
     c: CreateTexture,
 ) -> Changed
-    requires { ⌜ RowsExist n live made ⌝ }
-    ensures { λ x. ⌜ Changes (on-texture-packet (entriesOf n (now (entries .entry))) (holdingsOf live (pick own (now (held .entry)) (now (rooms .entry))) made (now (records .entry))) c) (now (rooms .entry)) x (now (held .exit)) (now (records .exit)) ⌝ }
+    requires { ⌜ RowsExist kept live made ⌝ }
+    ensures { λ x. ⌜ Changes (on-texture-packet (entriesOf kept (now (entries .entry))) (holdingsOf live (pick copied (now (own .entry)) (now (resources .entry))) made (now (records .entry))) c) (now (resources .entry)) x (now (own .exit)) (now (records .exit)) ⌝ }
 {
-    take_own(rooms, held, own, live);
-    with_own(on_texture(entries, n, held, live, records, made, c), true)
+    take_own(resources, own, copied, live);
+    with_own(on_texture(entries, kept, own, live, records, made, c), true)
 }
 
 fn destroy(
-    rooms: &Resources,
-    held: &mut Resources,
-    own: bool,
+    resources: &Resources,
+    own: &mut Resources,
+    copied: bool,
     live: usize,
     records: &Records,
     made: usize,
     c: DestroyResource,
 ) -> Changed
     requires { ⌜ (live ≤ most) × (made ≤ most) ⌝ }
-    ensures { λ x. ⌜ Changes (on-destroy-packet (holdingsOf live (pick own (now (held .entry)) (now (rooms .entry))) made (now (records .entry))) c) (now (rooms .entry)) x (now (held .exit)) (now (records .entry)) ⌝ }
+    ensures { λ x. ⌜ Changes (on-destroy-packet (holdingsOf live (pick copied (now (own .entry)) (now (resources .entry))) made (now (records .entry))) c) (now (resources .entry)) x (now (own .exit)) (now (records .entry)) ⌝ }
 {
-    take_own(rooms, held, own, live);
-    with_own(on_destroy(held, live, made, c), true)
+    take_own(resources, own, copied, live);
+    with_own(on_destroy(own, live, made, c), true)
 }
 
 fn dirty<'a>(
     entries: &Entries,
-    n: usize,
-    rooms: &'a Resources,
-    held: &'a Resources,
-    own: bool,
+    kept: usize,
+    resources: &'a Resources,
+    own: &'a Resources,
+    copied: bool,
     live: usize,
     records: &mut Records,
     made: usize,
     c: DirtyRange,
 ) -> Changed
-    requires { ⌜ RowsExist n live made ⌝ }
-    ensures { λ x. ⌜ Changes (on-dirty-packet (entriesOf n (now (entries .entry))) (holdingsOf live (pick own (now (held .entry)) (now (rooms .entry))) made (now (records .entry))) c) (now (rooms .entry)) x (now (held .entry)) (now (records .exit)) ⌝ }
+    requires { ⌜ RowsExist kept live made ⌝ }
+    ensures { λ x. ⌜ Changes (on-dirty-packet (entriesOf kept (now (entries .entry))) (holdingsOf live (pick copied (now (own .entry)) (now (resources .entry))) made (now (records .entry))) c) (now (resources .entry)) x (now (own .entry)) (now (records .exit)) ⌝ }
 {
-    let resources = chosen(rooms, held, own);
-    with_own(on_dirty(entries, n, resources, live, records, made, c), own)
+    let held = chosen(resources, own, copied);
+    with_own(
+        on_dirty(entries, kept, held, live, records, made, c),
+        copied,
+    )
 }
 
 fn copy<'a>(
     entries: &Entries,
-    n: usize,
-    rooms: &'a Resources,
-    held: &'a Resources,
-    own: bool,
+    kept: usize,
+    resources: &'a Resources,
+    own: &'a Resources,
+    copied: bool,
     live: usize,
     records: &mut Records,
     made: usize,
     c: CopyBuffer,
 ) -> Changed
-    requires { ⌜ RowsExist n live made ⌝ }
-    ensures { λ x. ⌜ Changes (on-copy-packet (entriesOf n (now (entries .entry))) (holdingsOf live (pick own (now (held .entry)) (now (rooms .entry))) made (now (records .entry))) c) (now (rooms .entry)) x (now (held .entry)) (now (records .exit)) ⌝ }
+    requires { ⌜ RowsExist kept live made ⌝ }
+    ensures { λ x. ⌜ Changes (on-copy-packet (entriesOf kept (now (entries .entry))) (holdingsOf live (pick copied (now (own .entry)) (now (resources .entry))) made (now (records .entry))) c) (now (resources .entry)) x (now (own .entry)) (now (records .exit)) ⌝ }
 {
-    let resources = chosen(rooms, held, own);
-    with_own(on_copy(entries, n, resources, live, records, made, c), own)
+    let held = chosen(resources, own, copied);
+    with_own(on_copy(entries, kept, held, live, records, made, c), copied)
 }
 
-// What a packet does to the resources and records that a submission holds, by the entries of its table. `rooms` is the device's
-// table, `held` the submission's own, which has its resources where `own` says so.
+// What a packet does to the resources and records that a submission holds, by the entries of its table. `resources` is the device's
+// table, `own` the submission's own, which has its resources where `copied` says so.
 pub fn apply_packet(
     entries: &Entries,
-    n: usize,
-    rooms: &Resources,
-    held: &mut Resources,
-    own: bool,
+    kept: usize,
+    resources: &Resources,
+    own: &mut Resources,
+    copied: bool,
     live: usize,
     records: &mut Records,
     made: usize,
     p: Packet,
 ) -> Changed
-    requires { ⌜ RowsExist n live made ⌝ }
-    ensures { λ x. ⌜ Changes (apply (entriesOf n (now (entries .entry))) (holdingsOf live (pick own (now (held .entry)) (now (rooms .entry))) made (now (records .entry))) p) (now (rooms .entry)) x (now (held .exit)) (now (records .exit)) ⌝ }
+    requires { ⌜ RowsExist kept live made ⌝ }
+    ensures { λ x. ⌜ Changes (apply (entriesOf kept (now (entries .entry))) (holdingsOf live (pick copied (now (own .entry)) (now (resources .entry))) made (now (records .entry))) p) (now (resources .entry)) x (now (own .exit)) (now (records .exit)) ⌝ }
 {
     match p {
-        Packet::Buffer(c) => make_buffer(entries, n, rooms, held, own, live, records, made, c),
-        Packet::Texture(c) => make_texture(entries, n, rooms, held, own, live, records, made, c),
-        Packet::Destroy(c) => destroy(rooms, held, own, live, records, made, c),
-        Packet::Dirty(c) => dirty(entries, n, rooms, held, own, live, records, made, c),
-        Packet::Copy(c) => copy(entries, n, rooms, held, own, live, records, made, c),
+        Packet::Buffer(c) => make_buffer(
+            entries,
+            kept,
+            resources,
+            own,
+            copied,
+            live,
+            records,
+            made,
+            c,
+        ),
+        Packet::Texture(c) => make_texture(
+            entries,
+            kept,
+            resources,
+            own,
+            copied,
+            live,
+            records,
+            made,
+            c,
+        ),
+        Packet::Destroy(c) => destroy(resources, own, copied, live, records, made, c),
+        Packet::Dirty(c) => dirty(
+            entries,
+            kept,
+            resources,
+            own,
+            copied,
+            live,
+            records,
+            made,
+            c,
+        ),
+        Packet::Copy(c) => copy(
+            entries,
+            kept,
+            resources,
+            own,
+            copied,
+            live,
+            records,
+            made,
+            c,
+        ),
         Packet::Unknown => Changed {
             verdict: Verdict::Fine,
             live,
             made,
-            own,
+            copied,
         },
     }
 }

@@ -43,15 +43,15 @@ enum Sought {
 }
 
 // Looks for the live buffer that has a handle.
-fn live_buffer(rooms: &Resources, live: usize, handle: u32) -> Sought
+fn live_buffer(resources: &Resources, live: usize, handle: u32) -> Sought
     requires { ⌜ live ≤ most ⌝ }
-    ensures { λ x. ⌜ x ≡ bufferOf (lookup handle-of handle (resourcesOf live (now (rooms .entry)))) ⌝ }
+    ensures { λ x. ⌜ x ≡ bufferOf (lookup handle-of handle (resourcesOf live (now (resources .entry)))) ⌝ }
 {
-    let place = find_resource(rooms, live, handle);
+    let place = find_resource(resources, live, handle);
     if place >= live {
         return Sought::NoBuffer;
     }
-    let r = resource_row(rooms, place);
+    let r = resource_row(resources, place);
     let kind = r.kind;
     match kind {
         Kind::Buffer => Sought::Live(r),
@@ -59,23 +59,23 @@ fn live_buffer(rooms: &Resources, live: usize, handle: u32) -> Sought
     }
 }
 
-// HandsOut the range of the destination to the host, to be written.
+// Hands the range of the destination to the host, to be written.
 fn write_back(
     entries: &Entries,
-    n: usize,
+    kept: usize,
     records: &mut Records,
     made: usize,
     live: usize,
     c: CopyBuffer,
     dst: Resource,
 ) -> Applied
-    requires { ⌜ RowsExist n live made ⌝ }
-    ensures { λ r. ⌜ HandsOut (written-back (entriesOf n (now (entries .entry))) c dst) live made (now (records .entry)) r (now (records .exit)) ⌝ }
+    requires { ⌜ RowsExist kept live made ⌝ }
+    ensures { λ r. ⌜ HandsOut (written-back (entriesOf kept (now (entries .entry))) c dst) live made (now (records .entry)) r (now (records .exit)) ⌝ }
 {
     if dst.backing == 0 {
         return refuse(HOST_BACKED, live, made);
     }
-    match resolve(entries, n, WRITES, dst, c.dstoffset, c.size) {
+    match resolve(entries, kept, WRITES, dst, c.dstoffset, c.size) {
         Resolved::Missing => refuse(NOT_IN_TABLE, live, made),
         Resolved::Past => refuse(PAST_ENTRY, live, made),
         Resolved::Inside(flags, range) => {
@@ -90,7 +90,7 @@ fn write_back(
 // Judges a copy between two live buffers.
 fn copy_between(
     entries: &Entries,
-    n: usize,
+    kept: usize,
     records: &mut Records,
     made: usize,
     live: usize,
@@ -98,8 +98,8 @@ fn copy_between(
     dst: Resource,
     src: Resource,
 ) -> Applied
-    requires { ⌜ RowsExist n live made ⌝ }
-    ensures { λ r. ⌜ HandsOut (between (entriesOf n (now (entries .entry))) c dst src) live made (now (records .entry)) r (now (records .exit)) ⌝ }
+    requires { ⌜ RowsExist kept live made ⌝ }
+    ensures { λ r. ⌜ HandsOut (between (entriesOf kept (now (entries .entry))) c dst src) live made (now (records .entry)) r (now (records .exit)) ⌝ }
 {
     if c.dst == c.src {
         return refuse(BAD_COPY, live, made);
@@ -114,7 +114,7 @@ fn copy_between(
         return refuse(PAST_RESOURCE, live, made);
     }
     if c.flags == WRITEBACK {
-        return write_back(entries, n, records, made, live, c, dst);
+        return write_back(entries, kept, records, made, live, c, dst);
     }
     Applied {
         verdict: Verdict::Fine,
@@ -126,21 +126,21 @@ fn copy_between(
 // Applies a copy packet, in place.
 pub fn on_copy(
     entries: &Entries,
-    n: usize,
-    rooms: &Resources,
+    kept: usize,
+    resources: &Resources,
     live: usize,
     records: &mut Records,
     made: usize,
     c: CopyBuffer,
 ) -> Applied
-    requires { ⌜ RowsExist n live made ⌝ }
-    ensures { λ r. ⌜ Applies (on-copy-packet (entriesOf n (now (entries .entry))) (holdingsOf live (now (rooms .entry)) made (now (records .entry))) c) r (now (rooms .entry)) (now (records .exit)) ⌝ }
+    requires { ⌜ RowsExist kept live made ⌝ }
+    ensures { λ r. ⌜ Applies (on-copy-packet (entriesOf kept (now (entries .entry))) (holdingsOf live (now (resources .entry)) made (now (records .entry))) c) r (now (resources .entry)) (now (records .exit)) ⌝ }
 {
-    match live_buffer(rooms, live, c.dst) {
+    match live_buffer(resources, live, c.dst) {
         Sought::NoBuffer => refuse(BAD_HANDLE, live, made),
-        Sought::Live(dst) => match live_buffer(rooms, live, c.src) {
+        Sought::Live(dst) => match live_buffer(resources, live, c.src) {
             Sought::NoBuffer => refuse(BAD_HANDLE, live, made),
-            Sought::Live(src) => copy_between(entries, n, records, made, live, c, dst, src),
+            Sought::Live(src) => copy_between(entries, kept, records, made, live, c, dst, src),
         },
     }
 }

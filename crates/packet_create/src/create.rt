@@ -27,15 +27,15 @@ fn backed_only(backing: u32, x: u32) -> u32
 // A new buffer.
 pub fn on_buffer(
     entries: &Entries,
-    n: usize,
-    rooms: &mut Resources,
+    kept: usize,
+    own: &mut Resources,
     live: usize,
     records: &mut Records,
     made: usize,
     c: CreateBuffer,
 ) -> Applied
-    requires { ⌜ RowsExist n live made ⌝ }
-    ensures { λ r. ⌜ Applies (on-buffer-packet (entriesOf n (now (entries .entry))) (holdingsOf live (now (rooms .entry)) made (now (records .entry))) c) r (now (rooms .exit)) (now (records .exit)) ⌝ }
+    requires { ⌜ RowsExist kept live made ⌝ }
+    ensures { λ r. ⌜ Applies (on-buffer-packet (entriesOf kept (now (entries .entry))) (holdingsOf live (now (own .entry)) made (now (records .entry))) c) r (now (own .exit)) (now (records .exit)) ⌝ }
 {
     let good = c.size != 0;
     let r = Resource {
@@ -46,7 +46,7 @@ pub fn on_buffer(
         backing: c.backing,
         offset: backed_only(c.backing, c.offset),
     };
-    create(entries, n, rooms, live, records, made, good, r)
+    create(entries, kept, own, live, records, made, good, r)
 }
 
 // Whether a texture is good, and the bytes that it takes in guest memory.
@@ -76,15 +76,15 @@ fn weigh(c: CreateTexture) -> Weighed
 // A new texture.
 pub fn on_texture(
     entries: &Entries,
-    n: usize,
-    rooms: &mut Resources,
+    kept: usize,
+    own: &mut Resources,
     live: usize,
     records: &mut Records,
     made: usize,
     c: CreateTexture,
 ) -> Applied
-    requires { ⌜ RowsExist n live made ⌝ }
-    ensures { λ r. ⌜ Applies (on-texture-packet (entriesOf n (now (entries .entry))) (holdingsOf live (now (rooms .entry)) made (now (records .entry))) c) r (now (rooms .exit)) (now (records .exit)) ⌝ }
+    requires { ⌜ RowsExist kept live made ⌝ }
+    ensures { λ r. ⌜ Applies (on-texture-packet (entriesOf kept (now (entries .entry))) (holdingsOf live (now (own .entry)) made (now (records .entry))) c) r (now (own .exit)) (now (records .exit)) ⌝ }
 {
     let w = weigh(c);
     let shape = c.shape;
@@ -96,5 +96,5 @@ pub fn on_texture(
         backing: c.backing,
         offset: backed_only(c.backing, c.offset),
     };
-    create(entries, n, rooms, live, records, made, w.good, r)
+    create(entries, kept, own, live, records, made, w.good, r)
 }

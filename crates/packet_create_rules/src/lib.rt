@@ -28,15 +28,15 @@ ghost use Rattle.kept_resources.specs.Views.{holdingsOf};
 ghost use Rattle.packet_ranges.specs.Views.{Applies, RowsExist};
 ghost use Rattle.packet_create_rules.specs.Backing.{store-backed};
 
-// A host-backed resource asks for a room only. It makes no record, so any records stay as they are.
-fn create_hosted(rooms: &mut Resources, live: usize, made: usize, r: Resource) -> Applied
+// A host-backed resource asks for a row only. It makes no record, so any records stay as they are.
+fn create_hosted(own: &mut Resources, live: usize, made: usize, r: Resource) -> Applied
     requires { ⌜ (live ≤ most) × (made ≤ most) ⌝ }
-    ensures { λ a. ⌜ ((l : List ℕ) → Applies (create-hosted (holdingsOf live (now (rooms .entry)) made l) r) a (now (rooms .exit)) l) ⌝ }
+    ensures { λ a. ⌜ ((l : List ℕ) → Applies (create-hosted (holdingsOf live (now (own .entry)) made l) r) a (now (own .exit)) l) ⌝ }
 {
     if live >= MOST_ROWS {
         return refuse(TOO_MANY, live, made);
     }
-    push_resource(rooms, live, r);
+    push_resource(own, live, r);
     Applied {
         verdict: Verdict::Fine,
         live: live + 1,
@@ -44,9 +44,9 @@ fn create_hosted(rooms: &mut Resources, live: usize, made: usize, r: Resource) -
     }
 }
 
-// A backed resource asks for a room and for a record's.
+// A backed resource asks for a row and for a record's.
 fn store_backed(
-    rooms: &mut Resources,
+    own: &mut Resources,
     live: usize,
     records: &mut Records,
     made: usize,
@@ -54,7 +54,7 @@ fn store_backed(
     c: Record,
 ) -> Applied
     requires { ⌜ (live ≤ most) × (made ≤ most) ⌝ }
-    ensures { λ a. ⌜ Applies (store-backed (holdingsOf live (now (rooms .entry)) made (now (records .entry))) r c) a (now (rooms .exit)) (now (records .exit)) ⌝ }
+    ensures { λ a. ⌜ Applies (store-backed (holdingsOf live (now (own .entry)) made (now (records .entry))) r c) a (now (own .exit)) (now (records .exit)) ⌝ }
 {
     if live >= MOST_ROWS {
         return refuse(TOO_MANY, live, made);
@@ -62,7 +62,7 @@ fn store_backed(
     if made >= MOST_ROWS {
         return refuse(TOO_MANY, live, made);
     }
-    push_resource(rooms, live, r);
+    push_resource(own, live, r);
     push_record(records, made, c);
     Applied {
         verdict: Verdict::Fine,
@@ -75,18 +75,18 @@ fn store_backed(
 // above 2^64, so the two are held against the entry's size one after the other.
 fn create_backed(
     entries: &Entries,
-    n: usize,
-    rooms: &mut Resources,
+    kept: usize,
+    own: &mut Resources,
     live: usize,
     records: &mut Records,
     made: usize,
     r: Resource,
 ) -> Applied
-    requires { ⌜ RowsExist n live made ⌝ }
-    ensures { λ a. ⌜ Applies (create-backed (entriesOf n (now (entries .entry))) (holdingsOf live (now (rooms .entry)) made (now (records .entry))) r) a (now (rooms .exit)) (now (records .exit)) ⌝ }
+    requires { ⌜ RowsExist kept live made ⌝ }
+    ensures { λ a. ⌜ Applies (create-backed (entriesOf kept (now (entries .entry))) (holdingsOf live (now (own .entry)) made (now (records .entry))) r) a (now (own .exit)) (now (records .exit)) ⌝ }
 {
-    let place = find_entry(entries, n, r.backing);
-    if place >= n {
+    let place = find_entry(entries, kept, r.backing);
+    if place >= kept {
         return refuse(NOT_IN_TABLE, live, made);
     }
     let e = entry_row(entries, place);
@@ -104,27 +104,27 @@ fn create_backed(
         gpa: e.gpa + offset,
         length: r.bytes,
     };
-    store_backed(rooms, live, records, made, r, c)
+    store_backed(own, live, records, made, r, c)
 }
 
 // What buffers and textures share, once it is known whether the shape is good.
 pub fn create(
     entries: &Entries,
-    n: usize,
-    rooms: &mut Resources,
+    kept: usize,
+    own: &mut Resources,
     live: usize,
     records: &mut Records,
     made: usize,
     good: bool,
     r: Resource,
 ) -> Applied
-    requires { ⌜ RowsExist n live made ⌝ }
-    ensures { λ a. ⌜ Applies (create-rules (entriesOf n (now (entries .entry))) (holdingsOf live (now (rooms .entry)) made (now (records .entry))) good r) a (now (rooms .exit)) (now (records .exit)) ⌝ }
+    requires { ⌜ RowsExist kept live made ⌝ }
+    ensures { λ a. ⌜ Applies (create-rules (entriesOf kept (now (entries .entry))) (holdingsOf live (now (own .entry)) made (now (records .entry))) good r) a (now (own .exit)) (now (records .exit)) ⌝ }
 {
     if r.handle == 0 {
         return refuse(BAD_HANDLE, live, made);
     }
-    let place = find_resource(rooms, live, r.handle);
+    let place = find_resource(own, live, r.handle);
     if place < live {
         return refuse(BAD_HANDLE, live, made);
     }
@@ -132,7 +132,7 @@ pub fn create(
         return refuse(BAD_SHAPE, live, made);
     }
     if r.backing == 0 {
-        return create_hosted(rooms, live, made, r);
+        return create_hosted(own, live, made, r);
     }
-    create_backed(entries, n, rooms, live, records, made, r)
+    create_backed(entries, kept, own, live, records, made, r)
 }

@@ -25,28 +25,28 @@ ghost use Rattle.packet_ranges.specs.Views.{Applies, RowsExist};
 // Applies a dirty packet, in place. The entry is this submission's, whatever table the resource was created with.
 pub fn on_dirty(
     entries: &Entries,
-    n: usize,
-    rooms: &Resources,
+    kept: usize,
+    resources: &Resources,
     live: usize,
     records: &mut Records,
     made: usize,
     c: DirtyRange,
 ) -> Applied
-    requires { ⌜ RowsExist n live made ⌝ }
-    ensures { λ r. ⌜ Applies (on-dirty-packet (entriesOf n (now (entries .entry))) (holdingsOf live (now (rooms .entry)) made (now (records .entry))) c) r (now (rooms .entry)) (now (records .exit)) ⌝ }
+    requires { ⌜ RowsExist kept live made ⌝ }
+    ensures { λ r. ⌜ Applies (on-dirty-packet (entriesOf kept (now (entries .entry))) (holdingsOf live (now (resources .entry)) made (now (records .entry))) c) r (now (resources .entry)) (now (records .exit)) ⌝ }
 {
-    let place = find_resource(rooms, live, c.handle);
+    let place = find_resource(resources, live, c.handle);
     if place >= live {
         return refuse(BAD_HANDLE, live, made);
     }
-    let r = resource_row(rooms, place);
+    let r = resource_row(resources, place);
     if r.backing == 0 {
         return refuse(HOST_BACKED, live, made);
     }
     if beyond(c.offset, c.size, r.bytes) {
         return refuse(PAST_RESOURCE, live, made);
     }
-    match resolve(entries, n, READS, r, c.offset, c.size) {
+    match resolve(entries, kept, READS, r, c.offset, c.size) {
         Resolved::Missing => refuse(NOT_IN_TABLE, live, made),
         Resolved::Past => refuse(PAST_ENTRY, live, made),
         Resolved::Inside(_, range) => hand_out(records, made, live, range),

@@ -54,17 +54,17 @@ fn beyond_entry(offset: u64, from: u64, size: u64, bytes: u64) -> bool
 // Holds a range of a backed resource against the entry that this table has for it: the backing offset is added.
 pub fn resolve(
     entries: &Entries,
-    n: usize,
+    kept: usize,
     kind: u32,
     r: Resource,
     from: u64,
     size: u64,
 ) -> Resolved
-    requires { ⌜ n ≤ most ⌝ }
-    ensures { λ x. ⌜ x ≡ resolvedOf kind r from size (matching (r .backing) (entriesOf n (now (entries .entry)))) ⌝ }
+    requires { ⌜ kept ≤ most ⌝ }
+    ensures { λ x. ⌜ x ≡ resolvedOf kind r from size (matching (r .backing) (entriesOf kept (now (entries .entry)))) ⌝ }
 {
-    let i = find_entry(entries, n, r.backing);
-    if i >= n {
+    let i = find_entry(entries, kept, r.backing);
+    if i >= kept {
         return Resolved::Missing;
     }
     let e = entry_row(entries, i);
@@ -82,7 +82,7 @@ pub fn resolve(
     Resolved::Inside(e.flags, range)
 }
 
-// HandsOut a range to the host, if it has bytes: one record more, for which there must be room.
+// Hands a range to the host, if it has bytes: one record more, for which there must be room.
 pub fn hand_out(records: &mut Records, made: usize, live: usize, c: Record) -> Applied
     requires { ⌜ (live ≤ most) × (made ≤ most) ⌝ }
     ensures { λ r. ⌜ HandsOut (hand-out c) live made (now (records .entry)) r (now (records .exit)) ⌝ }

@@ -21,20 +21,20 @@ use Rattle.run_after_phase.specs.Views.{laid-on, played-on, LandsEntries
 
 -- ---- land_entries
 
-module _ (s : List ℕ) (p : EntriesPlace) (m : List ℕ) (pre : (tagIn s ≡ 1) × (p .n ≤ most)) where
+module _ (s : List ℕ) (p : EntriesPlace) (m : List ℕ) (pre : (tagIn s ≡ 1) × (p .kept ≤ most)) where
   -- a device whose phase has this ending
   ended : (k : Ending) → endingOf (p .ending) (p .why) ≡ k → (e r : List ℕ) → laid-on (bareIn s r m) (openedIn s) (readingOf p e .kept) k ≡ laid-on (bareIn s r m) (openedIn s) (readingOf p e .kept) (readingOf p e .ending)
   ended k q e r = ap (laid-on (bareIn s r m) (openedIn s) (readingOf p e .kept)) (sym q)
 
-  pub lands-going : (x : ℕ) → p .ending ≡ 0 → length s ≡ 32 → (x ≡ p .n) × (x < 18446744073709551616) → LandsEntries s p m (set s 24 x) m
+  pub lands-going : (x : ℕ) → p .ending ≡ 0 → length s ≡ 32 → (x ≡ p .kept) × (x < 18446744073709551616) → LandsEntries s p m (set s 24 x) m
   unfolding worldIn
   lands-going x q long is =
       record {
-        world = λ e r h c. spell (λ w. worldIn (set w 24 x) e r h c m) s long ∙ rw (pre .0, count-as x (p .n) is (pre .1)) (ended Going (is-going (p .ending) (p .why) q) e r);
+        world = λ e r h c. spell (λ w. worldIn (set w 24 x) e r h c m) s long ∙ rw (pre .0, count-as x (p .kept) is (pre .1)) (ended Going (is-going (p .ending) (p .why) q) e r);
         side = spell (λ w. getD (set w 24 x) 28 0) s long;
       }
 
-  pub lands-done : (s′ : List ℕ) → p .ending ≡ 1 → Begins s (p .n) s′ → LandsEntries s p m s′ m
+  pub lands-done : (s′ : List ℕ) → p .ending ≡ 1 → Begins s (p .kept) s′ → LandsEntries s p m s′ m
   lands-done s′ q b = record { world = λ e r h c. b .world e r h c m ∙ ended Done (is-done (p .ending) (p .why) q) e r; side = b .side }
 
   pub lands-broken : (s′ m′ : List ℕ) → (p .ending ≡ 0 → ⊥) → (p .ending ≡ 1 → ⊥) → Refuses s m (record { code = p .why }) s′ m′ → LandsEntries s p m s′ m′
@@ -55,7 +55,7 @@ module _ (s : List ℕ) (p : PacketsPlace) (m : List ℕ) (pre : (tagIn s ≡ 2)
   plays-broken s′ m′ a b f =
       record { world = λ e r h c. f .world e r h c ∙ played-to (Broken (refusal (p .why))) (is-broken (p .ending) (p .why) a b) e r h c; side = f .side }
 
-  module _ (long : length s ≡ 32) (y z o : ℕ) (is-y : (y ≡ p .live) × (y < 18446744073709551616)) (is-z : (z ≡ p .made) × (z < 18446744073709551616)) (is-o : o ≡ flagOf (p .own)) where
+  module _ (long : length s ≡ 32) (y z o : ℕ) (is-y : (y ≡ p .live) × (y < 18446744073709551616)) (is-z : (z ≡ p .made) × (z < 18446744073709551616)) (is-o : o ≡ flagOf (p .copied)) where
     abbrev onward-words : ℕ → List ℕ → List ℕ
     onward-words x w = set (set (set (set w 23 x) 26 y) 27 z) 29 o
 
@@ -68,7 +68,7 @@ module _ (s : List ℕ) (p : PacketsPlace) (m : List ℕ) (pre : (tagIn s ≡ 2)
         record {
           world = λ e r h c.
               spell (λ w. worldIn (onward-words x w) e r h c m) s long
-              ∙ rw (pre .0, is-x .0, count-as y (p .live) is-y (pre .1), count-as z (p .made) is-z (pre .2), flag-as o (p .own) is-o) (played-to Going (is-going (p .ending) (p .why) q) e r h c);
+              ∙ rw (pre .0, is-x .0, count-as y (p .live) is-y (pre .1), count-as z (p .made) is-z (pre .2), flag-as o (p .copied) is-o) (played-to Going (is-going (p .ending) (p .why) q) e r h c);
           side = spell (λ w. getD (onward-words x w) 28 0) s long;
         }
 
@@ -78,7 +78,7 @@ module _ (s : List ℕ) (p : PacketsPlace) (m : List ℕ) (pre : (tagIn s ≡ 2)
         record {
           world = λ e r h c.
               spell (λ w. worldIn (waiting-words w) e r h c m) s long
-              ∙ rw (count-as y (p .live) is-y (pre .1), count-as z (p .made) is-z (pre .2), flag-as o (p .own) is-o) (played-to Done (is-done (p .ending) (p .why) q) e r h c);
+              ∙ rw (count-as y (p .live) is-y (pre .1), count-as z (p .made) is-z (pre .2), flag-as o (p .copied) is-o) (played-to Done (is-done (p .ending) (p .why) q) e r h c);
           side = spell (λ w. getD (waiting-words w) 28 0) s long;
         }
 

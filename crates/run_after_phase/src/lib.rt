@@ -7,10 +7,10 @@ use run_entries::ending::GOING;
 use run_entries::entries::EntriesPlace;
 use run_packets::PacketsPlace;
 use run_settle::settle_refused;
+use run_state::COPIED;
 use run_state::HELD;
 use run_state::KEPT;
 use run_state::MADE;
-use run_state::OWN;
 use run_state::PLACE;
 use run_state::TAG;
 use run_state::WAITING;
@@ -25,17 +25,17 @@ ghost use Rattle.run_after_phase.specs.Views.{LandsEntries, LandsPackets
 
 // The entries at a place.
 pub fn land_entries(words: &mut Words, p: EntriesPlace, mem: &mut [u8])
-    requires { ⌜ (tagIn (now words) ≡ 1) × (p .n ≤ most) ⌝ }
+    requires { ⌜ (tagIn (now words) ≡ 1) × (p .kept ≤ most) ⌝ }
     ensures { λ _. ⌜ LandsEntries (now (words .entry)) p (now (mem .entry)) (now (words .exit)) (now (mem .exit)) ⌝ }
 {
     if p.ending == GOING {
-        let n = usize_to_word(p.n);
+        let kept = usize_to_word(p.kept);
         let all = &words[..];
-        words[KEPT] = n;
+        words[KEPT] = kept;
         return;
     }
     if p.ending == DONE {
-        begin_packets(words, p.n);
+        begin_packets(words, p.kept);
         return;
     }
     settle_refused(words, mem, Refusal { code: p.why });
@@ -49,13 +49,13 @@ pub fn land_packets(words: &mut Words, p: PacketsPlace, mem: &mut [u8])
     let at = usize_to_word(p.at);
     let live = usize_to_word(p.live);
     let made = usize_to_word(p.made);
-    let own = flag(p.own);
+    let copied = flag(p.copied);
     if p.ending == GOING {
         let all = &words[..];
         words[PLACE] = at;
         words[HELD] = live;
         words[MADE] = made;
-        words[OWN] = own;
+        words[COPIED] = copied;
         return;
     }
     if p.ending == DONE {
@@ -63,7 +63,7 @@ pub fn land_packets(words: &mut Words, p: PacketsPlace, mem: &mut [u8])
         words[TAG] = WAITING;
         words[HELD] = live;
         words[MADE] = made;
-        words[OWN] = own;
+        words[COPIED] = copied;
         return;
     }
     settle_refused(words, mem, Refusal { code: p.why });

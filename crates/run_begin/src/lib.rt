@@ -3,6 +3,7 @@
 use rules::Job;
 use rules::Opened;
 use rules::numbers::STREAM_HEADER_SIZE;
+use run_state::COPIED;
 use run_state::ENTRIES;
 use run_state::HELD;
 use run_state::JOB_HEAD;
@@ -12,7 +13,6 @@ use run_state::JOB_SILENT;
 use run_state::KEPT;
 use run_state::LIVE;
 use run_state::MADE;
-use run_state::OWN;
 use run_state::PACKETS;
 use run_state::PLACE;
 use run_state::STREAM_GPA;
@@ -43,7 +43,7 @@ pub fn begin_packets(words: &mut Words, kept: usize)
     words[KEPT] = n;
     words[HELD] = live;
     words[MADE] = 0;
-    words[OWN] = 0;
+    words[COPIED] = 0;
     words[PLACE] = STREAM_HEADER_SIZE as u64;
     if STREAM_HEADER_SIZE < size {
         words[TAG] = PACKETS;

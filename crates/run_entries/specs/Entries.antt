@@ -43,7 +43,7 @@ read-step m t s = read-on (t .count) (take-entry m t (s .kept) .verdict) (take-e
 -- ---- views
 
 abbrev pub readingOf : EntriesPlace → List ℕ → Reading
-readingOf p l = record { kept = entriesOf (p .n) l; ending = endingOf (p .ending) (p .why) }
+readingOf p l = record { kept = entriesOf (p .kept) l; ending = endingOf (p .ending) (p .why) }
 
 abbrev pub outOf : EntriesRun → List ℕ → Out Reading
 outOf r l = record { state = readingOf (r .place) l; units = r .units }
@@ -53,11 +53,11 @@ from-row n l = record { kept = entriesOf n l; ending = Going }
 
 pub record EntryStepped (m : List ℕ) (t : Table) (p : EntriesPlace) (l : List ℕ) (r : EntriesPlace) (l′ : List ℕ) : Type 0 where
   pub step : readingOf r l′ ≡ read-step m t (readingOf p l)
-  pub room : r .n ≤ most
+  pub room : r .kept ≤ most
 
 pub record EntriesRan (m : List ℕ) (t : Table) (n : ℕ) (l : List ℕ) (allowance : ℕ) (r : EntriesRun) (l′ : List ℕ) : Type 0 where
   pub run : outOf r l′ ≡ runFor reading-goes (read-step m t) allowance (from-row n l)
-  pub room : r .place .n ≤ most
+  pub room : r .place .kept ≤ most
 
 -- ---- step_entry
 
@@ -72,44 +72,44 @@ fine-room m t kept h = by-reach (in-reach m t (length kept)) refl h
     by-reach true e f = ltb-true (length kept) most (both-left (ltb (length kept) most) _ e)
     by-reach false e f = absurd (let z : _≡_ {A = ℕ} 0 1 = cc in omega arith)
 
-module _ (m : List ℕ) (t : Table) (p : EntriesPlace) (l l′ : List ℕ) (v : Verdict) (took : takenOf v (p .n) l′ ≡ take-entry m t (entriesOf (p .n) l)) where
-  pub step-broken : (r : Refusal) → p .n ≤ most → v ≡ BrokenRule r → EntryStepped m t p l (record { n = p .n; ending = 2; why = r .code }) l′
+module _ (m : List ℕ) (t : Table) (p : EntriesPlace) (l l′ : List ℕ) (v : Verdict) (took : takenOf v (p .kept) l′ ≡ take-entry m t (entriesOf (p .kept) l)) where
+  pub step-broken : (r : Refusal) → p .kept ≤ most → v ≡ BrokenRule r → EntryStepped m t p l (record { kept = p .kept; ending = 2; why = r .code }) l′
   unfolding read-step
   step-broken r h e =
-      let taken : takenOf (BrokenRule r) (p .n) l′ ≡ take-entry m t (entriesOf (p .n) l) = rw e at took in
+      let taken : takenOf (BrokenRule r) (p .kept) l′ ≡ take-entry m t (entriesOf (p .kept) l) = rw e at took in
       record { step = rw (is-broken 2 (r .code) (omega arith) (omega arith), ← taken); room = h }
 
   module _ (e : v ≡ Fine) where
-    taken-fine : takenOf Fine (p .n) l′ ≡ take-entry m t (entriesOf (p .n) l)
+    taken-fine : takenOf Fine (p .kept) l′ ≡ take-entry m t (entriesOf (p .kept) l)
     taken-fine = rw e at took
 
-    pub step-room : p .n < most
-    step-room = rw (length-table entryOf 4 (p .n) l) at (fine-room m t (entriesOf (p .n) l) (sym (ap (λ (x : Taken). x .verdict) taken-fine)))
+    pub step-room : p .kept < most
+    step-room = rw (length-table entryOf 4 (p .kept) l) at (fine-room m t (entriesOf (p .kept) l) (sym (ap (λ (x : Taken). x .verdict) taken-fine)))
 
-    pub step-next-fits : p .n + 1 < 2 ^ 64
+    pub step-next-fits : p .kept + 1 < 2 ^ 64
     step-next-fits = omega (arith, step-room)
 
     module _ (c : ℕ) (same : c ≡ t .count) where
-      pub step-going : p .n + 1 < c → EntryStepped m t p l (record { n = p .n + 1; ending = 0; why = 0 }) l′
+      pub step-going : p .kept + 1 < c → EntryStepped m t p l (record { kept = p .kept + 1; ending = 0; why = 0 }) l′
       unfolding read-step
       step-going h =
-          record { step = rw (is-going 0 0 refl, ← taken-fine, length-table entryOf 4 (p .n + 1) l′, ← same, lt-ltb _ _ h); room = omega (arith, step-room) }
+          record { step = rw (is-going 0 0 refl, ← taken-fine, length-table entryOf 4 (p .kept + 1) l′, ← same, lt-ltb _ _ h); room = omega (arith, step-room) }
 
-      pub step-done : c ≤ p .n + 1 → EntryStepped m t p l (record { n = p .n + 1; ending = 1; why = 0 }) l′
+      pub step-done : c ≤ p .kept + 1 → EntryStepped m t p l (record { kept = p .kept + 1; ending = 1; why = 0 }) l′
       unfolding read-step
       step-done h =
-          record { step = rw (is-done 1 0 refl, ← taken-fine, length-table entryOf 4 (p .n + 1) l′, ← same, le-ltb _ _ h); room = omega (arith, step-room) }
+          record { step = rw (is-done 1 0 refl, ← taken-fine, length-table entryOf 4 (p .kept + 1) l′, ← same, le-ltb _ _ h); room = omega (arith, step-room) }
 
 pub ruleset stepping-entry = (step-broken, step-room, step-next-fits, step-going, step-done, needs)
 
 -- ---- read_entries
 
 module _ (m : List ℕ) (t : Table) (n a : ℕ) (l₀ : List ℕ) where
-  pub reads-first : runFor reading-goes (read-step m t) a (from-row n l₀) ≡ spent 0 (runFor reading-goes (read-step m t) (a - 0) (readingOf (record { n = n; ending = 0; why = 0 }) l₀))
+  pub reads-first : runFor reading-goes (read-step m t) a (from-row n l₀) ≡ spent 0 (runFor reading-goes (read-step m t) (a - 0) (readingOf (record { kept = n; ending = 0; why = 0 }) l₀))
   reads-first = rw (is-going 0 0 refl) (loop-start reading-goes (read-step m t) a (from-row n l₀))
 
   module _ (u : ℕ) (p : EntriesPlace) (l : List ℕ) (inv : runFor reading-goes (read-step m t) a (from-row n l₀) ≡ spent u (runFor reading-goes (read-step m t) (a - u) (readingOf p l))) where
-    pub reads-no-more : a ≤ u → p .n ≤ most → EntriesRan m t n l₀ a (record { place = p; units = u }) l
+    pub reads-no-more : a ≤ u → p .kept ≤ most → EntriesRan m t n l₀ a (record { place = p; units = u }) l
     reads-no-more h room = record { run = loop-out reading-goes (read-step m t) a u (readingOf p l) _ inv h; room = room }
 
     module _ (more : u < a) (here : p .ending ≡ 0) (r : EntriesPlace) (l′ : List ℕ) (s : EntryStepped m t p l r l′) where

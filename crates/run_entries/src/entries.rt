@@ -12,7 +12,7 @@ ghost use Rattle.run_entries.specs.Entries.{EntryStepped, EntriesRan};
 
 // Where the entries stand: how many are kept, how the phase stands, and the number of a rule that is broken, 0 otherwise.
 pub struct EntriesPlace {
-    pub n: usize,
+    pub kept: usize,
     pub ending: u32,
     pub why: u32,
 }
@@ -29,28 +29,28 @@ fn size(x: u32) -> usize
 }
 
 // One unit: the entry after those that are kept.
-fn step_entry(mem: &[u8], t: Table, kept: &mut Entries, p: EntriesPlace) -> EntriesPlace
-    requires { ⌜ p .n ≤ most ⌝ }
-    ensures { λ r. ⌜ EntryStepped (now (mem .entry)) t p (now (kept .entry)) r (now (kept .exit)) ⌝ }
+fn step_entry(mem: &[u8], t: Table, entries: &mut Entries, p: EntriesPlace) -> EntriesPlace
+    requires { ⌜ p .kept ≤ most ⌝ }
+    ensures { λ r. ⌜ EntryStepped (now (mem .entry)) t p (now (entries .entry)) r (now (entries .exit)) ⌝ }
 {
-    let n = p.n;
-    match table_entries::entry::take_entry(mem, t, kept, n) {
+    let kept = p.kept;
+    match table_entries::entry::take_entry(mem, t, entries, kept) {
         Verdict::Broken(why) => EntriesPlace {
-            n,
+            kept,
             ending: BROKEN,
             why: why.code,
         },
         Verdict::Fine => {
-            let next = n + 1;
+            let next = kept + 1;
             if next < size(t.count) {
                 return EntriesPlace {
-                    n: next,
+                    kept: next,
                     ending: GOING,
                     why: 0,
                 };
             }
             EntriesPlace {
-                n: next,
+                kept: next,
                 ending: DONE,
                 why: 0,
             }
@@ -62,21 +62,21 @@ fn step_entry(mem: &[u8], t: Table, kept: &mut Entries, p: EntriesPlace) -> Entr
 pub fn read_entries(
     mem: &[u8],
     t: Table,
-    kept: &mut Entries,
-    n: usize,
+    entries: &mut Entries,
+    kept: usize,
     allowance: u16,
 ) -> EntriesRun
-    requires { ⌜ n ≤ most ⌝ }
-    ensures { λ r. ⌜ EntriesRan (now (mem .entry)) t n (now (kept .entry)) allowance r (now (kept .exit)) ⌝ }
+    requires { ⌜ kept ≤ most ⌝ }
+    ensures { λ r. ⌜ EntriesRan (now (mem .entry)) t kept (now (entries .entry)) allowance r (now (entries .exit)) ⌝ }
 {
     let mut p = EntriesPlace {
-        n,
+        kept,
         ending: GOING,
         why: 0,
     };
     let mut units: u16 = 0;
     while units < allowance {
-        p = step_entry(mem, t, kept, p);
+        p = step_entry(mem, t, entries, p);
         units += 1;
         if p.ending != GOING {
             return EntriesRun { place: p, units };

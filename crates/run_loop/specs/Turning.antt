@@ -28,7 +28,7 @@ use Rattle.run_state.specs.Reading.{unset, is-set}
 use Rattle.run_state.specs.Stages.{waits-in}
 use Rattle.run_after_phase.specs.Views.{laid, LandsEntries, played, LandsPackets}
 use Rattle.run_open.specs.Opening.{Opens}
-use Rattle.run_loop.specs.Views.{TurnOf, EntriesTurn, PacketsTurn, Advanced}
+use Rattle.run_loop.specs.Views.{TurnOf, EntriesTurn, PacketsTurn, RanFor}
 use Rattle.run_loop.specs.Phases.{entries-go, entries-step, packets-go, packets-step}
 
 -- a device in some work is the bare one with that work
@@ -57,21 +57,21 @@ module _ (s s′ m e m′ e′ : List ℕ) (left n : ℕ) (t : Table) (x : Entri
             };
       }
 
-pub entries-land : (s m e e′ : List ℕ) (left n : ℕ) (t : Table) (x : EntriesRun) → (tagIn s ≡ 1) × (0 < left) → EntriesRan m t n e left x e′ → (tagIn s ≡ 1) × (x .place .n ≤ most)
+pub entries-land : (s m e e′ : List ℕ) (left n : ℕ) (t : Table) (x : EntriesRun) → (tagIn s ≡ 1) × (0 < left) → EntriesRan m t n e left x e′ → (tagIn s ≡ 1) × (x .place .kept ≤ most)
 entries-land s m e e′ left n t x pre ran = (pre .0, ran .room)
 
 pub ruleset turning-entries = (entries-turned, entries-land, needs)
 
 -- ---- packets_turn
 
-module _ (s s′ m e r h c m′ h′ c′ : List ℕ) (left n at live made : ℕ) (own : Bool) (t : Stream) (x : PacketsRun) (pre : (tagIn s ≡ 2) × (0 < left)) where
+module _ (s s′ m e r h c m′ h′ c′ : List ℕ) (left n at live made : ℕ) (copied : Bool) (t : Stream) (x : PacketsRun) (pre : (tagIn s ≡ 2) × (0 < left)) where
   abbrev from : PacketsPlace
-  from = record { at = at; live = live; made = made; own = own; ending = 0; why = 0 }
+  from = record { at = at; live = live; made = made; copied = copied; ending = 0; why = 0 }
 
   pub packets-turned : t ≡ streamIn s → (n ≡ countIn (getD s 24 0)) × (n ≤ most) → at ≡ getD s 23 0 → (live ≡ countIn (getD s 26 0)) × (live ≤ most) → (made ≡ countIn (getD s 27 0)) × (made ≤ most)
-      → own ≡ setIn (getD s 29 0) → PacketsRan (stream-bytes m t) (t .size) n e (record { at = at; live = live; made = made; own = own; ending = 0; why = 0 }) r h c left x h′ c′
+      → copied ≡ setIn (getD s 29 0) → PacketsRan (stream-bytes m t) (t .size) n e (record { at = at; live = live; made = made; copied = copied; ending = 0; why = 0 }) r h c left x h′ c′
       → LandsPackets s (x .place) m s′ m′ → PacketsTurn s left m e r h c (x .units) s′ m′ h′ c′
-  packets-turned is-t is-n is-at is-live is-made is-own ran lands =
+  packets-turned is-t is-n is-at is-live is-made is-copied ran lands =
       record {
         turn = λ on.
             record {
@@ -79,7 +79,7 @@ module _ (s s′ m e r h c m′ h′ c′ : List ℕ) (left n at live made : ℕ
                   turned-phase go step playing-goes (play-step (keptIn s e) (stream-bytes m (streamIn s)) (streamIn s .size)) (played (bareIn s r m) (jobIn s) (streamIn s) (keptIn s e))
                   (packets-go (bareIn s r m) on (jobIn s) (streamIn s) (keptIn s e)) (packets-step (bareIn s r m) on (jobIn s) (streamIn s) (keptIn s e)) left
                   (worldIn s e r h c m) (worldIn s′ e r h′ c′ m′) (playingOf from r h c) (packetsOut x r h′ c′)
-                  (pre .1) (goes 0 0 refl) (works-packets s e r h c m (pre .0) ∙ rw (← is-at, ← is-live .0, ← is-made .0, ← is-own, is-going 0 0 refl)) (rw (is-t, is-n .0) at (ran .run)) (lands .world e r h′ c′);
+                  (pre .1) (goes 0 0 refl) (works-packets s e r h c m (pre .0) ∙ rw (← is-at, ← is-live .0, ← is-made .0, ← is-copied, is-going 0 0 refl)) (rw (is-t, is-n .0) at (ran .run)) (lands .world e r h′ c′);
               side = lands .side;
             };
       }
@@ -145,18 +145,18 @@ module _ (s e r h c m : List ℕ) (left : ℕ) (pre : 0 < left) where
 
 pub ruleset turning-once = (turn-off, turn-waits, turn-quiet, turn-opens, turn-entries, turn-packets, needs)
 
--- ---- advance
+-- ---- run
 
 module _ (a u : ℕ) (s₀ e₀ h₀ c₀ m₀ s e r h c m : List ℕ) (inv : run-for a (worldIn s₀ e₀ r h₀ c₀ m₀) ≡ spent u (run-for (a - u) (worldIn s e r h c m))) (same : getD s 28 0 ≡ getD s₀ 28 0) where
   -- a turn that spends nothing is the end
-  pub advance-stops : (k : ℕ) (s′ e′ h′ c′ m′ : List ℕ) → TurnOf (a - u) s e r h c m k s′ e′ h′ c′ m′ → k ≡ 0 → Advanced a s₀ e₀ r h₀ c₀ m₀ u s′ e′ h′ c′ m′
-  advance-stops k s′ e′ h′ c′ m′ t z =
+  pub run-stops : (k : ℕ) (s′ e′ h′ c′ m′ : List ℕ) → TurnOf (a - u) s e r h c m k s′ e′ h′ c′ m′ → k ≡ 0 → RanFor a s₀ e₀ r h₀ c₀ m₀ u s′ e′ h′ c′ m′
+  run-stops k s′ e′ h′ c′ m′ t z =
       record { run = turns-stop go step a u (worldIn s e r h c m) (run-for a (worldIn s₀ e₀ r h₀ c₀ m₀)) inv (worldIn s′ e′ r h′ c′ m′) k (t .turned) z; side = t .side ∙ same }
 
-  pub advance-ends : a ≤ u → Advanced a s₀ e₀ r h₀ c₀ m₀ u s e h c m
-  advance-ends d = record { run = loop-out go step a u (worldIn s e r h c m) (run-for a (worldIn s₀ e₀ r h₀ c₀ m₀)) inv d; side = same }
+  pub run-ends : a ≤ u → RanFor a s₀ e₀ r h₀ c₀ m₀ u s e h c m
+  run-ends d = record { run = loop-out go step a u (worldIn s e r h c m) (run-for a (worldIn s₀ e₀ r h₀ c₀ m₀)) inv d; side = same }
 
-  pub advance-side : (k : ℕ) (s′ e′ h′ c′ m′ : List ℕ) → TurnOf (a - u) s e r h c m k s′ e′ h′ c′ m′ → getD s′ 28 0 ≡ getD s₀ 28 0
-  advance-side k s′ e′ h′ c′ m′ t = t .side ∙ same
+  pub run-side : (k : ℕ) (s′ e′ h′ c′ m′ : List ℕ) → TurnOf (a - u) s e r h c m k s′ e′ h′ c′ m′ → getD s′ 28 0 ≡ getD s₀ 28 0
+  run-side k s′ e′ h′ c′ m′ t = t .side ∙ same
 
-pub ruleset advancing = (loop-start, turns-on, advance-stops, advance-ends, advance-side, needs)
+pub ruleset advancing = (loop-start, turns-on, run-stops, run-ends, run-side, needs)

@@ -21,6 +21,6 @@ pub record EntriesTurn (s : List ℕ) (left : ℕ) (m e : List ℕ) (units : ℕ
 pub record PacketsTurn (s : List ℕ) (left : ℕ) (m e r h c : List ℕ) (units : ℕ) (s′ m′ h′ c′ : List ℕ) : Type 0 where
   pub turn : registersIn s .enabled ≡ true → TurnOf left s e r h c m units s′ e h′ c′ m′
 
-pub record Advanced (allowance : ℕ) (s e r h c m : List ℕ) (units : ℕ) (s′ e′ h′ c′ m′ : List ℕ) : Type 0 where
+pub record RanFor (allowance : ℕ) (s e r h c m : List ℕ) (units : ℕ) (s′ e′ h′ c′ m′ : List ℕ) : Type 0 where
   pub run : record { state = worldIn s′ e′ r h′ c′ m′; units = units } ≡ run-for allowance (worldIn s e r h c m)
   pub side : getD s′ 28 0 ≡ getD s 28 0

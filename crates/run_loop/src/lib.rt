@@ -12,6 +12,7 @@ use run_open::open_ring;
 use run_packets::PacketsPlace;
 use run_packets::PacketsRun;
 use run_packets::read_packets;
+use run_state::COPIED;
 use run_state::DOORBELL;
 use run_state::ENABLED;
 use run_state::ENTRIES;
@@ -19,7 +20,6 @@ use run_state::HELD;
 use run_state::KEPT;
 use run_state::MADE;
 use run_state::NOTHING;
-use run_state::OWN;
 use run_state::PACKETS;
 use run_state::PLACE;
 use run_state::TAG;
@@ -36,7 +36,7 @@ ghost use Rattle.rules.specs.Stream.{stream-bytes};
 ghost use Rattle.packet_ranges.specs.Views.{RowsExist};
 ghost use Rattle.run_packets.specs.Playing.{PacketsRan};
 ghost use Rattle.run_state.specs.Views.{tagIn};
-ghost use Rattle.run_loop.specs.Views.{EntriesTurn, PacketsTurn, TurnOf, Advanced};
+ghost use Rattle.run_loop.specs.Views.{EntriesTurn, PacketsTurn, TurnOf, RanFor};
 
 // The stream's own part of the memory lent now.
 fn stream_part(mem: &[u8], s: Stream) -> &[u8]
@@ -60,19 +60,29 @@ fn play(
     mem: &[u8],
     stream: Stream,
     entries: &Entries,
-    n: usize,
+    kept: usize,
     resources: &Resources,
     own: &mut Resources,
     records: &mut Records,
     from: PacketsPlace,
     left: u16,
 ) -> PacketsRun
-    requires { ⌜ RowsExist n (from .live) (from .made) × (from .ending ≡ 0) ⌝ }
-    ensures { λ r. ⌜ PacketsRan (stream-bytes (now (mem .entry)) stream) (stream .size) n (now (entries .entry)) from (now (resources .entry)) (now (own .entry)) (now (records .entry)) left r (now (own .exit)) (now (records .exit)) ⌝ }
+    requires { ⌜ RowsExist kept (from .live) (from .made) × (from .ending ≡ 0) ⌝ }
+    ensures { λ r. ⌜ PacketsRan (stream-bytes (now (mem .entry)) stream) (stream .size) kept (now (entries .entry)) from (now (resources .entry)) (now (own .entry)) (now (records .entry)) left r (now (own .exit)) (now (records .exit)) ⌝ }
 {
     let part = stream_part(mem, stream);
     let end = u32_to_usize(stream.size);
-    read_packets(part, end, entries, n, resources, own, records, from, left)
+    read_packets(
+        part,
+        end,
+        entries,
+        kept,
+        resources,
+        own,
+        records,
+        from,
+        left,
+    )
 }
 
 // A turn of the phase of entries: the units it spent.
@@ -81,8 +91,8 @@ fn entries_turn(words: &mut Words, mem: &mut [u8], entries: &mut Entries, left: 
     ensures { λ r. ⌜ EntriesTurn (now (words .entry)) left (now (mem .entry)) (now (entries .entry)) r (now (words .exit)) (now (mem .exit)) (now (entries .exit)) ⌝ }
 {
     let table = table_in(words);
-    let n = rows_in(words[KEPT]);
-    let run = read_entries(mem, table, entries, n, left);
+    let kept = rows_in(words[KEPT]);
+    let run = read_entries(mem, table, entries, kept, left);
     let p = run.place;
     land_entries(words, p, mem);
     run.units
@@ -102,16 +112,26 @@ fn packets_turn(
     ensures { λ r. ⌜ PacketsTurn (now (words .entry)) left (now (mem .entry)) (now (entries .entry)) (now (resources .entry)) (now (own .entry)) (now (records .entry)) r (now (words .exit)) (now (mem .exit)) (now (own .exit)) (now (records .exit)) ⌝ }
 {
     let stream = stream_in(words);
-    let n = rows_in(words[KEPT]);
+    let kept = rows_in(words[KEPT]);
     let from = PacketsPlace {
         at: word_to_usize(words[PLACE]),
         live: rows_in(words[HELD]),
         made: rows_in(words[MADE]),
-        own: is_set(words[OWN]),
+        copied: is_set(words[COPIED]),
         ending: GOING,
         why: 0,
     };
-    let run = play(mem, stream, entries, n, resources, own, records, from, left);
+    let run = play(
+        mem,
+        stream,
+        entries,
+        kept,
+        resources,
+        own,
+        records,
+        from,
+        left,
+    );
     let p = run.place;
     land_packets(words, p, mem);
     run.units
@@ -151,7 +171,7 @@ fn turn_once(
 }
 
 // As many units as are allowed, until they are spent, nothing is due, or a submission waits: how many were spent.
-pub fn advance(
+pub fn run(
     words: &mut Words,
     mem: &mut [u8],
     entries: &mut Entries,
@@ -160,11 +180,11 @@ pub fn advance(
     records: &mut Records,
     allowance: u16,
 ) -> u16
-    ensures { λ r. ⌜ Advanced allowance (now (words .entry)) (now (entries .entry)) (now (resources .entry)) (now (own .entry)) (now (records .entry)) (now (mem .entry)) r (now (words .exit)) (now (entries .exit)) (now (own .exit)) (now (records .exit)) (now (mem .exit)) ⌝ }
+    ensures { λ r. ⌜ RanFor allowance (now (words .entry)) (now (entries .entry)) (now (resources .entry)) (now (own .entry)) (now (records .entry)) (now (mem .entry)) r (now (words .exit)) (now (entries .exit)) (now (own .exit)) (now (records .exit)) (now (mem .exit)) ⌝ }
 {
     let mut units: u16 = 0;
     while units < allowance {
-        let n = turn_once(
+        let spent = turn_once(
             words,
             mem,
             entries,
@@ -173,10 +193,10 @@ pub fn advance(
             records,
             allowance - units,
         );
-        if n == 0 {
+        if spent == 0 {
             return units;
         }
-        units += n;
+        units += spent;
     }
     units
 }

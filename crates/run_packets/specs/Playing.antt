@@ -55,7 +55,7 @@ play-step es b end s =
 
 -- the place, the device's rows, the submission's own rows, its records
 abbrev pub playingOf : PacketsPlace → List ℕ → List ℕ → List ℕ → Playing
-playingOf p r l c = record { at = p .at; held = holdingsOf (p .live) (pick (p .own) l r) (p .made) c; ending = endingOf (p .ending) (p .why) }
+playingOf p r l c = record { at = p .at; held = holdingsOf (p .live) (pick (p .copied) l r) (p .made) c; ending = endingOf (p .ending) (p .why) }
 
 abbrev pub outOf : PacketsRun → List ℕ → List ℕ → List ℕ → Out Playing
 outOf x r l c = record { state = playingOf (x .place) r l c; units = x .units }
@@ -71,23 +71,23 @@ pub record PacketsRan (b : List ℕ) (end n : ℕ) (e : List ℕ) (p : PacketsPl
 -- ---- place_after
 
 abbrev pub after-by : ℕ → ℕ → ℕ → Changed → Verdict → PacketsPlace
-after-by at next end x Fine = record { at = next; live = x .live; made = x .made; own = x .own; ending = pick (ltb next end) 0 1; why = 0 }
-after-by at next end x (BrokenRule r) = record { at = at; live = x .live; made = x .made; own = x .own; ending = 2; why = r .code }
+after-by at next end x Fine = record { at = next; live = x .live; made = x .made; copied = x .copied; ending = pick (ltb next end) 0 1; why = 0 }
+after-by at next end x (BrokenRule r) = record { at = at; live = x .live; made = x .made; copied = x .copied; ending = 2; why = r .code }
 
 unfoldable pub placeAfter : ℕ → ℕ → ℕ → Changed → PacketsPlace
 placeAfter at next end x = after-by at next end x (x .verdict)
 
 module _ (at next end : ℕ) (x : Changed) where
   pub after-broken : (r : Refusal) → x .verdict ≡ BrokenRule r
-      → record { at = at; live = x .live; made = x .made; own = x .own; ending = 2; why = r .code } ≡ placeAfter at next end x
+      → record { at = at; live = x .live; made = x .made; copied = x .copied; ending = 2; why = r .code } ≡ placeAfter at next end x
   unfolding placeAfter
   after-broken r e = rw e
 
-  pub after-going : x .verdict ≡ Fine → next < end → record { at = next; live = x .live; made = x .made; own = x .own; ending = 0; why = 0 } ≡ placeAfter at next end x
+  pub after-going : x .verdict ≡ Fine → next < end → record { at = next; live = x .live; made = x .made; copied = x .copied; ending = 0; why = 0 } ≡ placeAfter at next end x
   unfolding placeAfter
   after-going e h = rw (e, lt-ltb _ _ h)
 
-  pub after-done : x .verdict ≡ Fine → end ≤ next → record { at = next; live = x .live; made = x .made; own = x .own; ending = 1; why = 0 } ≡ placeAfter at next end x
+  pub after-done : x .verdict ≡ Fine → end ≤ next → record { at = next; live = x .live; made = x .made; copied = x .copied; ending = 1; why = 0 } ≡ placeAfter at next end x
   unfolding placeAfter
   after-done e h = rw (e, le-ltb _ _ h)
 
@@ -111,7 +111,7 @@ by-end false = is-done 1 0 refl
 
 module _ (b : List ℕ) (end n : ℕ) (e : List ℕ) (p : PacketsPlace) (r l c : List ℕ) (f : Frame) (framed : f ≡ frame-of (drop (p .at) b)) where
   pub step-misframed : (why : Refusal) → RowsExist n (p .live) (p .made) → f ≡ Misframed why
-      → PacketStepped b end n e p r l c (record { at = p .at; live = p .live; made = p .made; own = p .own; ending = 2; why = why .code }) l c
+      → PacketStepped b end n e p r l c (record { at = p .at; live = p .live; made = p .made; copied = p .copied; ending = 2; why = why .code }) l c
   unfolding play-step take-packet
   step-misframed why room q = record { step = rw (is-broken 2 (why .code) (omega arith) (omega arith), ← framed, q); room = room }
 
@@ -128,7 +128,7 @@ module _ (b : List ℕ) (end n : ℕ) (e : List ℕ) (p : PacketsPlace) (r l c :
         record { fits = omega (arith, s .inside, s .header, length-drop (p .at) b) }
 
     module _ (x : Changed) (l′ c′ : List ℕ) where
-      after-verdict : (o : Outcome) (next : ℕ) (v : Verdict) → record { verdict = x .verdict; held = holdingsOf (x .live) (pick (x .own) l′ r) (x .made) c′ } ≡ o
+      after-verdict : (o : Outcome) (next : ℕ) (v : Verdict) → record { verdict = x .verdict; held = holdingsOf (x .live) (pick (x .copied) l′ r) (x .made) c′ } ≡ o
           → playingOf (after-by (p .at) next end x v) r l′ c′ ≡ play-on (p .at) next end (o .held) v
       after-verdict o next Fine h = rw (by-end (ltb next end)) (ap (λ (y : Outcome). record { at = next; held = y .held; ending = ending-at next end }) h)
       after-verdict o next (BrokenRule why) h =
@@ -139,10 +139,10 @@ module _ (b : List ℕ) (end n : ℕ) (e : List ℕ) (p : PacketsPlace) (r l c :
       after-room next (BrokenRule why) h i j = record { entries = h; live = i; made = j }
 
       pub step-taken : (i : ℕ) (y : PacketsPlace) → RowsExist n (p .live) (p .made) → i ≡ size
-          → Changes (take-packet (entriesOf n e) (holdingsOf (p .live) (pick (p .own) l r) (p .made) c) (drop (p .at) b)) r x l′ c′ → y ≡ placeAfter (p .at) (p .at + i) end x → PacketStepped b end n e p r l c y l′ c′
+          → Changes (take-packet (entriesOf n e) (holdingsOf (p .live) (pick (p .copied) l r) (p .made) c) (drop (p .at) b)) r x l′ c′ → y ≡ placeAfter (p .at) (p .at + i) end x → PacketStepped b end n e p r l c y l′ c′
       unfolding play-step placeAfter
       step-taken i y room same change is =
-          let o : Outcome = take-packet (entriesOf n e) (holdingsOf (p .live) (pick (p .own) l r) (p .made) c) (drop (p .at) b) in
+          let o : Outcome = take-packet (entriesOf n e) (holdingsOf (p .live) (pick (p .copied) l r) (p .made) c) (drop (p .at) b) in
           let verdict : x .verdict ≡ o .verdict = ap (λ (z : Outcome). z .verdict) (change .outcome) in
           record {
             step = ap (λ (z : PacketsPlace). playingOf z r l′ c′) is ∙ (after-verdict o (p .at + i) (x .verdict) (change .outcome) ∙ rw (whole, ← verdict, same));
@@ -223,11 +223,11 @@ module _ (b : List ℕ) (end n : ℕ) (e : List ℕ) (p₀ : PacketsPlace) (r l�
       -- and over unknown packets after it
       module _ (going : q .ending ≡ 0) (bound : ℕ) (inner : bound ≤ end) (x : Skipped) (skips : Skips b bound (q .at) (u + 1) a x) where
         abbrev moved : PacketsPlace
-        moved = record { at = x .at; live = q .live; made = q .made; own = q .own; ending = q .ending; why = q .why }
+        moved = record { at = x .at; live = q .live; made = q .made; copied = q .copied; ending = q .ending; why = q .why }
 
         pub plays-skipped : runFor playing-goes (play-step (entriesOf n e) b end) a (playingOf p₀ r l₀ c₀) ≡ spent (x .units) (runFor playing-goes (play-step (entriesOf n e) b end) (a - x .units) (playingOf moved r l′ c′))
         plays-skipped =
-            let held : Holdings = holdingsOf (q .live) (pick (q .own) l′ r) (q .made) c′ in
+            let held : Holdings = holdingsOf (q .live) (pick (q .copied) l′ r) (q .made) c′ in
             let from : _≡_ {A = Playing} (playingOf q r l′ c′) (playing-at (q .at) held) = rw (is-going (q .ending) (q .why) going) in
             let to : _≡_ {A = Playing} (playingOf moved r l′ c′) (playing-at (x .at) held) = rw (is-going (q .ending) (q .why) going) in
             skips .run (entriesOf n e) end held _ inner (plays-on ∙ rw from) ∙ rw to

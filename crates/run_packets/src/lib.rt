@@ -33,7 +33,7 @@ pub struct PacketsPlace {
     pub at: usize,
     pub live: usize,
     pub made: usize,
-    pub own: bool,
+    pub copied: bool,
     pub ending: u32,
     pub why: u32,
 }
@@ -53,7 +53,7 @@ fn place_after(at: usize, next: usize, end: usize, x: Changed) -> PacketsPlace
             at,
             live: x.live,
             made: x.made,
-            own: x.own,
+            copied: x.copied,
             ending: BROKEN,
             why: why.code,
         },
@@ -63,7 +63,7 @@ fn place_after(at: usize, next: usize, end: usize, x: Changed) -> PacketsPlace
                     at: next,
                     live: x.live,
                     made: x.made,
-                    own: x.own,
+                    copied: x.copied,
                     ending: GOING,
                     why: 0,
                 };
@@ -72,7 +72,7 @@ fn place_after(at: usize, next: usize, end: usize, x: Changed) -> PacketsPlace
                 at: next,
                 live: x.live,
                 made: x.made,
-                own: x.own,
+                copied: x.copied,
                 ending: DONE,
                 why: 0,
             }
@@ -94,17 +94,17 @@ fn take_packet(
     op: u32,
     size: u32,
     entries: &Entries,
-    n: usize,
-    rooms: &Resources,
-    held: &mut Resources,
+    kept: usize,
+    resources: &Resources,
+    own: &mut Resources,
     records: &mut Records,
     p: PacketsPlace,
 ) -> Taken
-    requires { ⌜ (frame-of (drop at (now stream)) ≡ Whole op size) × RowsExist n (p .live) (p .made) ⌝ }
-    ensures { λ x. ⌜ Changes (take-packet (entriesOf n (now (entries .entry))) (holdingsOf (p .live) (pick (p .own) (now (held .entry)) (now (rooms .entry))) (p .made) (now (records .entry))) (drop at (now (stream .entry)))) (now (rooms .entry)) (x .changed) (now (held .exit)) (now (records .exit)) ⌝ }
+    requires { ⌜ (frame-of (drop at (now stream)) ≡ Whole op size) × RowsExist kept (p .live) (p .made) ⌝ }
+    ensures { λ x. ⌜ Changes (take-packet (entriesOf kept (now (entries .entry))) (holdingsOf (p .live) (pick (p .copied) (now (own .entry)) (now (resources .entry))) (p .made) (now (records .entry))) (drop at (now (stream .entry)))) (now (resources .entry)) (x .changed) (now (own .exit)) (now (records .exit)) ⌝ }
 {
     let packet = packet_at(stream, at, op, size);
-    let own = p.own;
+    let copied = p.copied;
     let live = p.live;
     let made = p.made;
     match packet {
@@ -113,12 +113,22 @@ fn take_packet(
                 verdict: Verdict::Fine,
                 live,
                 made,
-                own,
+                copied,
             },
             unknown: true,
         },
         _ => Taken {
-            changed: apply_packet(entries, n, rooms, held, own, live, records, made, packet),
+            changed: apply_packet(
+                entries,
+                kept,
+                resources,
+                own,
+                copied,
+                live,
+                records,
+                made,
+                packet,
+            ),
             unknown: false,
         },
     }
@@ -135,14 +145,14 @@ fn step_packet(
     stream: &[u8],
     end: usize,
     entries: &Entries,
-    n: usize,
-    rooms: &Resources,
-    held: &mut Resources,
+    kept: usize,
+    resources: &Resources,
+    own: &mut Resources,
     records: &mut Records,
     p: PacketsPlace,
 ) -> Stepped
-    requires { ⌜ RowsExist n (p .live) (p .made) ⌝ }
-    ensures { λ r. ⌜ PacketStepped (now (stream .entry)) end n (now (entries .entry)) p (now (rooms .entry)) (now (held .entry)) (now (records .entry)) (r .place) (now (held .exit)) (now (records .exit)) ⌝ }
+    requires { ⌜ RowsExist kept (p .live) (p .made) ⌝ }
+    ensures { λ r. ⌜ PacketStepped (now (stream .entry)) end kept (now (entries .entry)) p (now (resources .entry)) (now (own .entry)) (now (records .entry)) (r .place) (now (own .exit)) (now (records .exit)) ⌝ }
 {
     let at = p.at;
     match frame_at(stream, at) {
@@ -151,14 +161,25 @@ fn step_packet(
                 at,
                 live: p.live,
                 made: p.made,
-                own: p.own,
+                copied: p.copied,
                 ending: BROKEN,
                 why: why.code,
             },
             unknown: false,
         },
         Frame::Whole(op, size) => {
-            let t = take_packet(stream, at, op, size, entries, n, rooms, held, records, p);
+            let t = take_packet(
+                stream,
+                at,
+                op,
+                size,
+                entries,
+                kept,
+                resources,
+                own,
+                records,
+                p,
+            );
             Stepped {
                 place: place_after(at, at + u32_to_usize(size), end, t.changed),
                 unknown: t.unknown,
@@ -212,27 +233,27 @@ fn skip_unknown(stream: &[u8], bound: usize, from: usize, spent: u16, allowance:
     Skipped { at, units }
 }
 
-// Packets, one a unit, until the allowance is spent, the stream is done or a rule is broken. `rooms` is the device's table of
-// resources, `held` the submission's own.
+// Packets, one a unit, until the allowance is spent, the stream is done or a rule is broken. `resources` is the device's table of
+// resources, `own` the submission's own.
 pub fn read_packets(
     stream: &[u8],
     end: usize,
     entries: &Entries,
-    n: usize,
-    rooms: &Resources,
-    held: &mut Resources,
+    kept: usize,
+    resources: &Resources,
+    own: &mut Resources,
     records: &mut Records,
     from: PacketsPlace,
     allowance: u16,
 ) -> PacketsRun
-    requires { ⌜ RowsExist n (from .live) (from .made) × (from .ending ≡ 0) ⌝ }
-    ensures { λ r. ⌜ PacketsRan (now (stream .entry)) end n (now (entries .entry)) from (now (rooms .entry)) (now (held .entry)) (now (records .entry)) allowance r (now (held .exit)) (now (records .exit)) ⌝ }
+    requires { ⌜ RowsExist kept (from .live) (from .made) × (from .ending ≡ 0) ⌝ }
+    ensures { λ r. ⌜ PacketsRan (now (stream .entry)) end kept (now (entries .entry)) from (now (resources .entry)) (now (own .entry)) (now (records .entry)) allowance r (now (own .exit)) (now (records .exit)) ⌝ }
 {
     let bound = inner_bound(stream, end);
     let mut p = from;
     let mut units: u16 = 0;
     while units < allowance {
-        let t = step_packet(stream, end, entries, n, rooms, held, records, p);
+        let t = step_packet(stream, end, entries, kept, resources, own, records, p);
         p = t.place;
         units += 1;
         if p.ending != GOING {

@@ -2,6 +2,7 @@
 // Nothing is in work afterwards. Resources are not touched: a good answer only says which table of them is the device's from now on.
 use rules::Refusal;
 use run_state::COMPLETED;
+use run_state::COPIED;
 use run_state::ERROR_CODE;
 use run_state::ERROR_COUNT;
 use run_state::ERROR_FENCE;
@@ -12,7 +13,6 @@ use run_state::JOB_SIGNAL;
 use run_state::JOB_SILENT;
 use run_state::LIVE;
 use run_state::NOTHING;
-use run_state::OWN;
 use run_state::PAGE;
 use run_state::SIDE;
 use run_state::TAG;
@@ -82,7 +82,7 @@ fn turned_if(side: u64, own: u64) -> u64
 pub fn settle_accepted(words: &mut Words, mem: &mut [u8])
     ensures { λ _. ⌜ Accepts (now (words .entry)) (now (mem .entry)) (now (words .exit)) (now (mem .exit)) ⌝ }
 {
-    let side = turned_if(words[SIDE], words[OWN]);
+    let side = turned_if(words[SIDE], words[COPIED]);
     let held = words[HELD];
     let all = &words[..];
     words[SIDE] = side;

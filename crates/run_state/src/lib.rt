@@ -86,7 +86,7 @@ pub const MADE: usize = 27;
 pub const SIDE: usize = 28;
 
 // Whether the submission in work has changed its resources, and so has the other table for its own.
-pub const OWN: usize = 29;
+pub const COPIED: usize = 29;
 
 // A flag as a word says it: any word but 0 is set.
 pub fn is_set(word: u64) -> bool

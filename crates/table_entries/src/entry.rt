@@ -42,16 +42,16 @@ pub fn sound(memory: u64, e: Entry) -> bool
     true
 }
 
-// Judges an entry that was read, after `n` that were kept.
-pub fn judge_entry(memory: u64, e: Entry, kept: &Entries, n: usize) -> Verdict
-    requires { ⌜ n ≤ most ⌝ }
-    ensures { λ r. ⌜ r ≡ entry-rules memory (entriesOf n (now (kept .entry))) e ⌝ }
+// Judges an entry that was read, after `kept` that were kept.
+pub fn judge_entry(memory: u64, e: Entry, entries: &Entries, kept: usize) -> Verdict
+    requires { ⌜ kept ≤ most ⌝ }
+    ensures { λ r. ⌜ r ≡ entry-rules memory (entriesOf kept (now (entries .entry))) e ⌝ }
 {
     if !sound(memory, e) {
         return Verdict::Broken(Refusal { code: BAD_ENTRY });
     }
-    let place = find_entry(kept, n, e.id);
-    if place < n {
+    let place = find_entry(entries, kept, e.id);
+    if place < kept {
         return Verdict::Broken(Refusal {
             code: TWICE_IN_TABLE,
         });
@@ -59,30 +59,30 @@ pub fn judge_entry(memory: u64, e: Entry, kept: &Entries, n: usize) -> Verdict
     Verdict::Fine
 }
 
-// Keeps an entry after `n` others.
-fn push_entry(kept: &mut Entries, n: usize, e: Entry)
-    requires { ⌜ (n < most) × (e .gpa + e .size < 18446744073709551616) ⌝ }
-    ensures { λ _. ⌜ entriesOf (n + 1) (now (kept .exit)) ≡ pushed (entriesOf n (now (kept .entry))) e ⌝ }
+// Keeps an entry after `kept` others.
+fn push_entry(entries: &mut Entries, kept: usize, e: Entry)
+    requires { ⌜ (kept < most) × (e .gpa + e .size < 18446744073709551616) ⌝ }
+    ensures { λ _. ⌜ entriesOf (kept + 1) (now (entries .exit)) ≡ pushed (entriesOf kept (now (entries .entry))) e ⌝ }
 {
     // costs nothing, and says how many words there are
-    let all = &kept[..];
-    let b = WORDS * n;
-    kept[b] = u32_to_word(e.id);
-    kept[b + 1] = u32_to_word(e.flags);
-    kept[b + 2] = e.gpa;
-    kept[b + 3] = e.gpa + e.size;
+    let all = &entries[..];
+    let b = WORDS * kept;
+    entries[b] = u32_to_word(e.id);
+    entries[b + 1] = u32_to_word(e.flags);
+    entries[b + 2] = e.gpa;
+    entries[b + 3] = e.gpa + e.size;
 }
 
-// One step: judges the entry after the `n` kept ones, over the memory lent at this step, and keeps it if it is fine.
-pub fn take_entry(mem: &[u8], t: Table, kept: &mut Entries, n: usize) -> Verdict
-    requires { ⌜ n ≤ most ⌝ }
-    ensures { λ r. ⌜ takenOf r n (now (kept .exit)) ≡ take-entry (now (mem .entry)) t (entriesOf n (now (kept .entry))) ⌝ }
+// One step: judges the entry after the `kept` kept ones, over the memory lent at this step, and keeps it if it is fine.
+pub fn take_entry(mem: &[u8], t: Table, entries: &mut Entries, kept: usize) -> Verdict
+    requires { ⌜ kept ≤ most ⌝ }
+    ensures { λ r. ⌜ takenOf r kept (now (entries .exit)) ≡ take-entry (now (mem .entry)) t (entriesOf kept (now (entries .entry))) ⌝ }
 {
     let memory = mem.len() as u64;
-    if n >= MOST_ROWS {
+    if kept >= MOST_ROWS {
         return Verdict::Broken(Refusal { code: BAD_ENTRY });
     }
-    let offset = entry_offset(t.stride, n as u32);
+    let offset = entry_offset(t.stride, kept as u32);
     if memory < offset + ENTRY_SIZE {
         return Verdict::Broken(Refusal { code: BAD_ENTRY });
     }
@@ -90,10 +90,10 @@ pub fn take_entry(mem: &[u8], t: Table, kept: &mut Entries, n: usize) -> Verdict
         return Verdict::Broken(Refusal { code: BAD_ENTRY });
     }
     let e = entry_at(mem, (t.gpa + offset) as usize);
-    let verdict = judge_entry(memory, e, kept, n);
+    let verdict = judge_entry(memory, e, entries, kept);
     match verdict {
         Verdict::Fine => {
-            push_entry(kept, n, e);
+            push_entry(entries, kept, e);
             Verdict::Fine
         }
         Verdict::Broken(why) => Verdict::Broken(why),

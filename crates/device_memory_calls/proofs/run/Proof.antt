@@ -13,8 +13,8 @@ word-to-usize-requires c κs = search needs
 returns : tie.Need-returns
 returns c = search running
 
-advance-on-requires : tie.Need-advance-on-requires
-advance-on-requires c κs = search needs
+run-on-requires : tie.Need-run-on-requires
+run-on-requires c κs = search needs
 
 ended-in-requires : tie.Need-ended-in-requires
 ended-in-requires c κs = search needs
@@ -32,7 +32,7 @@ run-spec =
     element-copy-out-word-to-usize
     word-to-usize-requires
     returns
-    advance-on-requires
+    run-on-requires
     ended-in-requires
     same-length
     returns-2)

@@ -12,110 +12,110 @@ mul-b c = search needs
 u32-to-word-requires : tie.Need-u32-to-word-requires
 u32-to-word-requires c κs = search needs
 
-mul-rooms : tie.Need-mul-rooms
-mul-rooms c = search needs
+mul-resources : tie.Need-mul-resources
+mul-resources c = search needs
 
-element-write-rooms : tie.Need-element-write-rooms
-element-write-rooms c = search needs
+element-write-resources : tie.Need-element-write-resources
+element-write-resources c = search needs
 
-add-rooms : tie.Need-add-rooms
-add-rooms c = search needs
+add-resources : tie.Need-add-resources
+add-resources c = search needs
 
-mul-rooms-2 : tie.Need-mul-rooms-2
-mul-rooms-2 c = search needs
+mul-resources-2 : tie.Need-mul-resources-2
+mul-resources-2 c = search needs
 
-element-write-rooms-2 : tie.Need-element-write-rooms-2
-element-write-rooms-2 c = search needs
+element-write-resources-2 : tie.Need-element-write-resources-2
+element-write-resources-2 c = search needs
 
-add-rooms-2 : tie.Need-add-rooms-2
-add-rooms-2 c = search needs
+add-resources-2 : tie.Need-add-resources-2
+add-resources-2 c = search needs
 
-mul-rooms-3 : tie.Need-mul-rooms-3
-mul-rooms-3 c = search needs
+mul-resources-3 : tie.Need-mul-resources-3
+mul-resources-3 c = search needs
 
-element-write-rooms-3 : tie.Need-element-write-rooms-3
-element-write-rooms-3 c = search needs
+element-write-resources-3 : tie.Need-element-write-resources-3
+element-write-resources-3 c = search needs
 
-add-rooms-3 : tie.Need-add-rooms-3
-add-rooms-3 c = search needs
+add-resources-3 : tie.Need-add-resources-3
+add-resources-3 c = search needs
 
-mul-rooms-4 : tie.Need-mul-rooms-4
-mul-rooms-4 c = search needs
+mul-resources-4 : tie.Need-mul-resources-4
+mul-resources-4 c = search needs
 
-element-write-rooms-4 : tie.Need-element-write-rooms-4
-element-write-rooms-4 c = search needs
+element-write-resources-4 : tie.Need-element-write-resources-4
+element-write-resources-4 c = search needs
 
-add-rooms-4 : tie.Need-add-rooms-4
-add-rooms-4 c = search needs
+add-resources-4 : tie.Need-add-resources-4
+add-resources-4 c = search needs
 
-mul-rooms-5 : tie.Need-mul-rooms-5
-mul-rooms-5 c = search needs
+mul-resources-5 : tie.Need-mul-resources-5
+mul-resources-5 c = search needs
 
-element-write-rooms-5 : tie.Need-element-write-rooms-5
-element-write-rooms-5 c = search needs
+element-write-resources-5 : tie.Need-element-write-resources-5
+element-write-resources-5 c = search needs
 
-add-rooms-5 : tie.Need-add-rooms-5
-add-rooms-5 c = search needs
+add-resources-5 : tie.Need-add-resources-5
+add-resources-5 c = search needs
 
-mul-rooms-6 : tie.Need-mul-rooms-6
-mul-rooms-6 c = search needs
+mul-resources-6 : tie.Need-mul-resources-6
+mul-resources-6 c = search needs
 
-element-write-rooms-6 : tie.Need-element-write-rooms-6
-element-write-rooms-6 c = search needs
+element-write-resources-6 : tie.Need-element-write-resources-6
+element-write-resources-6 c = search needs
 
-add-rooms-6 : tie.Need-add-rooms-6
-add-rooms-6 c = search needs
+add-resources-6 : tie.Need-add-resources-6
+add-resources-6 c = search needs
 
-mul-rooms-7 : tie.Need-mul-rooms-7
-mul-rooms-7 c = search needs
+mul-resources-7 : tie.Need-mul-resources-7
+mul-resources-7 c = search needs
 
-element-write-rooms-7 : tie.Need-element-write-rooms-7
-element-write-rooms-7 c = search needs
+element-write-resources-7 : tie.Need-element-write-resources-7
+element-write-resources-7 c = search needs
 
-add-rooms-7 : tie.Need-add-rooms-7
-add-rooms-7 c = search needs
+add-resources-7 : tie.Need-add-resources-7
+add-resources-7 c = search needs
 
-mul-rooms-8 : tie.Need-mul-rooms-8
-mul-rooms-8 c = search needs
+mul-resources-8 : tie.Need-mul-resources-8
+mul-resources-8 c = search needs
 
-element-write-rooms-8 : tie.Need-element-write-rooms-8
-element-write-rooms-8 c = search needs
+element-write-resources-8 : tie.Need-element-write-resources-8
+element-write-resources-8 c = search needs
 
 u32-to-word-requires-2 : tie.Need-u32-to-word-requires-2
 u32-to-word-requires-2 c κs = search needs
 
-add-rooms-8 : tie.Need-add-rooms-8
-add-rooms-8 c = search needs
+add-resources-8 : tie.Need-add-resources-8
+add-resources-8 c = search needs
 
-mul-rooms-9 : tie.Need-mul-rooms-9
-mul-rooms-9 c = search needs
+mul-resources-9 : tie.Need-mul-resources-9
+mul-resources-9 c = search needs
 
-element-write-rooms-9 : tie.Need-element-write-rooms-9
-element-write-rooms-9 c = search needs
+element-write-resources-9 : tie.Need-element-write-resources-9
+element-write-resources-9 c = search needs
 
 u32-to-word-requires-3 : tie.Need-u32-to-word-requires-3
 u32-to-word-requires-3 c κs = search needs
 
-add-rooms-9 : tie.Need-add-rooms-9
-add-rooms-9 c = search needs
+add-resources-9 : tie.Need-add-resources-9
+add-resources-9 c = search needs
 
-mul-rooms-10 : tie.Need-mul-rooms-10
-mul-rooms-10 c = search needs
+mul-resources-10 : tie.Need-mul-resources-10
+mul-resources-10 c = search needs
 
-element-write-rooms-10 : tie.Need-element-write-rooms-10
-element-write-rooms-10 c = search needs
+element-write-resources-10 : tie.Need-element-write-resources-10
+element-write-resources-10 c = search needs
 
 u32-to-word-requires-4 : tie.Need-u32-to-word-requires-4
 u32-to-word-requires-4 c κs = search needs
 
-add-rooms-10 : tie.Need-add-rooms-10
-add-rooms-10 c = search needs
+add-resources-10 : tie.Need-add-resources-10
+add-resources-10 c = search needs
 
-mul-rooms-11 : tie.Need-mul-rooms-11
-mul-rooms-11 c = search needs
+mul-resources-11 : tie.Need-mul-resources-11
+mul-resources-11 c = search needs
 
-element-write-rooms-11 : tie.Need-element-write-rooms-11
-element-write-rooms-11 c = search needs
+element-write-resources-11 : tie.Need-element-write-resources-11
+element-write-resources-11 c = search needs
 
 returns : tie.Need-returns
 returns c = search pushing-resource
@@ -127,39 +127,39 @@ push-resource-spec =
     flat-requires
     mul-b
     u32-to-word-requires
-    mul-rooms
-    element-write-rooms
-    add-rooms
-    mul-rooms-2
-    element-write-rooms-2
-    add-rooms-2
-    mul-rooms-3
-    element-write-rooms-3
-    add-rooms-3
-    mul-rooms-4
-    element-write-rooms-4
-    add-rooms-4
-    mul-rooms-5
-    element-write-rooms-5
-    add-rooms-5
-    mul-rooms-6
-    element-write-rooms-6
-    add-rooms-6
-    mul-rooms-7
-    element-write-rooms-7
-    add-rooms-7
-    mul-rooms-8
-    element-write-rooms-8
+    mul-resources
+    element-write-resources
+    add-resources
+    mul-resources-2
+    element-write-resources-2
+    add-resources-2
+    mul-resources-3
+    element-write-resources-3
+    add-resources-3
+    mul-resources-4
+    element-write-resources-4
+    add-resources-4
+    mul-resources-5
+    element-write-resources-5
+    add-resources-5
+    mul-resources-6
+    element-write-resources-6
+    add-resources-6
+    mul-resources-7
+    element-write-resources-7
+    add-resources-7
+    mul-resources-8
+    element-write-resources-8
     u32-to-word-requires-2
-    add-rooms-8
-    mul-rooms-9
-    element-write-rooms-9
+    add-resources-8
+    mul-resources-9
+    element-write-resources-9
     u32-to-word-requires-3
-    add-rooms-9
-    mul-rooms-10
-    element-write-rooms-10
+    add-resources-9
+    mul-resources-10
+    element-write-resources-10
     u32-to-word-requires-4
-    add-rooms-10
-    mul-rooms-11
-    element-write-rooms-11
+    add-resources-10
+    mul-resources-11
+    element-write-resources-11
     returns)

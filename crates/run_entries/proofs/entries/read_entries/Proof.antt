@@ -13,7 +13,7 @@ abbrev Inv-loop : tie.InvT-loop
 Inv-loop mem t kept₀ n allowance p₀ units₀ kept p units =
     (units ≤ allowance)
     × (p .ending ≡ 0)
-    × (p .n ≤ most)
+    × (p .kept ≤ most)
     × (runFor reading-goes (read-step mem t) allowance (from-row n kept₀) ≡ spent units (runFor reading-goes (read-step mem t) (allowance - units) (readingOf p kept)))
 
 abbrev μ-loop : tie.MeasureT-loop

@@ -9,44 +9,44 @@ mul-b c = search needs
 u32-to-word-requires : tie.Need-u32-to-word-requires
 u32-to-word-requires c κs = search needs
 
-mul-kept : tie.Need-mul-kept
-mul-kept c = search needs
+mul-entries : tie.Need-mul-entries
+mul-entries c = search needs
 
-element-write-kept : tie.Need-element-write-kept
-element-write-kept c = search needs
+element-write-entries : tie.Need-element-write-entries
+element-write-entries c = search needs
 
 u32-to-word-requires-2 : tie.Need-u32-to-word-requires-2
 u32-to-word-requires-2 c κs = search needs
 
-add-kept : tie.Need-add-kept
-add-kept c = search needs
+add-entries : tie.Need-add-entries
+add-entries c = search needs
 
-mul-kept-2 : tie.Need-mul-kept-2
-mul-kept-2 c = search needs
+mul-entries-2 : tie.Need-mul-entries-2
+mul-entries-2 c = search needs
 
-element-write-kept-2 : tie.Need-element-write-kept-2
-element-write-kept-2 c = search needs
+element-write-entries-2 : tie.Need-element-write-entries-2
+element-write-entries-2 c = search needs
 
-add-kept-2 : tie.Need-add-kept-2
-add-kept-2 c = search needs
+add-entries-2 : tie.Need-add-entries-2
+add-entries-2 c = search needs
 
-mul-kept-3 : tie.Need-mul-kept-3
-mul-kept-3 c = search needs
+mul-entries-3 : tie.Need-mul-entries-3
+mul-entries-3 c = search needs
 
-element-write-kept-3 : tie.Need-element-write-kept-3
-element-write-kept-3 c = search needs
+element-write-entries-3 : tie.Need-element-write-entries-3
+element-write-entries-3 c = search needs
 
-add-kept-3 : tie.Need-add-kept-3
-add-kept-3 c = search needs
+add-entries-3 : tie.Need-add-entries-3
+add-entries-3 c = search needs
 
-add-kept-4 : tie.Need-add-kept-4
-add-kept-4 c = search needs
+add-entries-4 : tie.Need-add-entries-4
+add-entries-4 c = search needs
 
-mul-kept-4 : tie.Need-mul-kept-4
-mul-kept-4 c = search needs
+mul-entries-4 : tie.Need-mul-entries-4
+mul-entries-4 c = search needs
 
-element-write-kept-4 : tie.Need-element-write-kept-4
-element-write-kept-4 c = search needs
+element-write-entries-4 : tie.Need-element-write-entries-4
+element-write-entries-4 c = search needs
 
 returns : tie.Need-returns
 returns c = search pushing
@@ -57,17 +57,17 @@ push-entry-spec =
     (tie.spec
     mul-b
     u32-to-word-requires
-    mul-kept
-    element-write-kept
+    mul-entries
+    element-write-entries
     u32-to-word-requires-2
-    add-kept
-    mul-kept-2
-    element-write-kept-2
-    add-kept-2
-    mul-kept-3
-    element-write-kept-3
-    add-kept-3
-    add-kept-4
-    mul-kept-4
-    element-write-kept-4
+    add-entries
+    mul-entries-2
+    element-write-entries-2
+    add-entries-2
+    mul-entries-3
+    element-write-entries-3
+    add-entries-3
+    add-entries-4
+    mul-entries-4
+    element-write-entries-4
     returns)

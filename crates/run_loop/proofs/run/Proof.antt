@@ -1,4 +1,4 @@
--- `advance` meets its contract. The invariant: the run of the allowance is the units spent so far and a run of the rest from here, and
+-- `run` meets its contract. The invariant: the run of the allowance is the units spent so far and a run of the rest from here, and
 -- the same table stays the device's. The measure is the allowance that is left. Assumes nothing.
 use mathlib.Core.Path.{_≡_}
 use Prim.Native.Nat.{_≤_, _-_}
@@ -8,8 +8,8 @@ use Rattle.machine.specs.Machine.{spent}
 use Rattle.rules.specs.Steps.{run-for}
 use Rattle.run_state.specs.Views.{worldIn}
 use Rattle.run_loop.specs.Turning.{advancing}
-use Rattle.run_loop.proofs.advance.Statement.{statement}
-use Rattle.run_loop.proofs.advance.Tie as tie
+use Rattle.run_loop.proofs.run.Statement.{statement}
+use Rattle.run_loop.proofs.run.Tie as tie
 
 abbrev Inv-loop : tie.InvT-loop
 Inv-loop words₀ mem₀ entries₀ resources own₀ records₀ allowance units₀ words mem entries own records units =
@@ -52,8 +52,8 @@ same-length-2 c = search advancing
 returns-2 : tie.Need-returns-2 Inv-loop μ-loop
 returns-2 c = search advancing
 
-pub advance-spec : {M : Type 1} → statement M
-advance-spec =
+pub run-spec : {M : Type 1} → statement M
+run-spec =
     tie.close
     (tie.spec
     Inv-loop

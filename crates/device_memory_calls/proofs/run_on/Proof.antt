@@ -1,14 +1,14 @@
--- `advance_on` meets its contract. Assumes nothing.
+-- `run_on` meets its contract. Assumes nothing.
 use Rattle.device_memory_calls.specs.Calling.{choosing}
 use borrow.Author.Needs.{needs}
-use Rattle.device_memory_calls.proofs.advance_on.Statement.{statement}
-use Rattle.device_memory_calls.proofs.advance_on.Tie as tie
+use Rattle.device_memory_calls.proofs.run_on.Statement.{statement}
+use Rattle.device_memory_calls.proofs.run_on.Tie as tie
 
 element-copy-out-if1 : tie.Need-element-copy-out-if1
 element-copy-out-if1 c = search needs
 
-advance-requires : tie.Need-advance-requires
-advance-requires c κs = search needs
+run-requires : tie.Need-run-requires
+run-requires c κs = search needs
 
 same-length : tie.Need-same-length
 same-length c = search needs
@@ -16,8 +16,8 @@ same-length c = search needs
 returns : tie.Need-returns
 returns c = search choosing
 
-advance-requires-2 : tie.Need-advance-requires-2
-advance-requires-2 c κs = search needs
+run-requires-2 : tie.Need-run-requires-2
+run-requires-2 c κs = search needs
 
 same-length-2 : tie.Need-same-length-2
 same-length-2 c = search needs
@@ -25,14 +25,14 @@ same-length-2 c = search needs
 returns-2 : tie.Need-returns-2
 returns-2 c = search choosing
 
-pub advance-on-spec : {M : Type 1} → statement M
-advance-on-spec =
+pub run-on-spec : {M : Type 1} → statement M
+run-on-spec =
     tie.close
     (tie.spec
     element-copy-out-if1
-    advance-requires
+    run-requires
     same-length
     returns
-    advance-requires-2
+    run-requires-2
     same-length-2
     returns-2)
