@@ -10,6 +10,7 @@ use Rattle.registers.specs.Views.{Writes}
 use Rattle.device_calls.specs.Views.{valueOf, handedOf, Makes, Reads, GivesRecord}
 use Rattle.device_calls.specs.declared.ValueRead.{ValueRead}
 use Rattle.device_calls.specs.declared.Handed.{Handed}
+use Rattle.run_state.specs.Views.{lent}
 use Rattle.device_memory_calls.specs.Views.{Runs, Answers}
 use Rattle.device_memory_calls.specs.declared.Spent.{Spent}
 use Rattle.device.specs.Views.{stateOf, worldOf, wroteOf, ranOf, toldOf}
@@ -29,7 +30,7 @@ module _ (d : Device) where
   pub handed : (i : ℕ) (x : Handed) → GivesRecord (d .words) (d .records) i x → handedOf x ≡ call-record (stateOf d) i
   handed i x k = k .hands (d .entries) (d .first) (d .second)
 
-  pub ran : (m : List ℕ) (allowance : ℕ) (x : Spent) (s′ e′ a′ b′ c′ m′ : List ℕ) → Runs allowance (d .words) (d .entries) (d .first) (d .second) (d .records) m x s′ e′ a′ b′ c′ m′
+  pub ran : (m : List ℕ) (allowance : ℕ) (x : Spent) (s′ e′ a′ b′ c′ m′ : List ℕ) → Runs allowance (lent (d .words) (d .entries) (d .first) (d .second) (d .records) m) x (lent s′ e′ a′ b′ c′ m′)
       → ranOf (record { answer = x .answer; units = x .units; ended = x .ended; device = record { words = s′; entries = e′; first = a′; second = b′; records = c′ } }) m′ ≡ call-run (worldOf d m) allowance
   ran m allowance x s′ e′ a′ b′ c′ m′ k = k .ran
 

@@ -16,7 +16,8 @@ use Rattle.rules.specs.Calls.{ending, ran, call-run, call-answer}
 use Rattle.rules.specs.declared.Ended.{Ended}
 use Rattle.rules.specs.declared.Ended.the-variants.{Idle, Waiting, Paused}
 use Rattle.rules.specs.declared.Verdict.the-variants.{Fine, Broken}
-use Rattle.run_state.specs.Views.{setIn, tagIn, jobIn, heldIn, worldIn, bareIn, sideIn, deskIn}
+use Rattle.run_state.specs.Views.{setIn, tagIn, jobIn, heldIn, worldIn, bareIn, sideIn, deskIn, lent}
+use Rattle.kept_resources.specs.Views.{tables}
 use Rattle.run_state.specs.Reading.{unset, is-set}
 use Rattle.run_state.specs.Stages.{rests-in, waits-in, works-on, works-in}
 use Rattle.run_settle.specs.Views.{Refuses, Accepts}
@@ -66,13 +67,13 @@ pub ruleset ending-in = (ends-waits, ends-off, ends-paused, ends-idle, ends-rung
 -- ---- run_on
 
 module _ (allowance u : ℕ) (s e c m s′ e′ c′ m′ : List ℕ) where
-  pub on-first : (a b b′ : List ℕ) → getD s 28 0 ≡ 0 → RanFor allowance s e a b c m u s′ e′ b′ c′ m′ → RanOn allowance s e a b c m u s′ e′ a b′ c′ m′
+  pub on-first : (a b b′ : List ℕ) → getD s 28 0 ≡ 0 → RanFor allowance s (tables e a b c) m u s′ (tables e′ a b′ c′) m′ → RanOn allowance (lent s e a b c m) u (lent s′ e′ a b′ c′ m′)
   on-first a b b′ z x =
       let here : setIn (getD s 28 0) ≡ false = unset (getD s 28 0) z in
       let there : setIn (getD s′ 28 0) ≡ false = unset (getD s′ 28 0) (x .side ∙ z) in
       record { run = rw (here, there) (x .run) }
 
-  pub on-second : (a b a′ : List ℕ) → (getD s 28 0 ≡ 0 → ⊥) → RanFor allowance s e b a c m u s′ e′ a′ c′ m′ → RanOn allowance s e a b c m u s′ e′ a′ b c′ m′
+  pub on-second : (a b a′ : List ℕ) → (getD s 28 0 ≡ 0 → ⊥) → RanFor allowance s (tables e b a c) m u s′ (tables e′ b a′ c′) m′ → RanOn allowance (lent s e a b c m) u (lent s′ e′ a′ b c′ m′)
   on-second a b a′ n x =
       let here : setIn (getD s 28 0) ≡ true = is-set (getD s 28 0) n in
       let there : setIn (getD s′ 28 0) ≡ true = is-set (getD s′ 28 0) (λ z. n (sym (x .side) ∙ z)) in
@@ -91,17 +92,17 @@ unfolding worldIn
 lent-in s e a b c m = refl
 
 module _ (s e a b c m : List ℕ) (allowance memory : ℕ) (is : memory ≡ getD s 0 0) where
-  pub runs-other : (length m ≡ memory → ⊥) → Runs allowance s e a b c m (record { answer = other-memory; units = 0; ended = Idle }) s e a b c m
+  pub runs-other : (length m ≡ memory → ⊥) → Runs allowance (lent s e a b c m) (record { answer = other-memory; units = 0; ended = Idle }) (lent s e a b c m)
   unfolding call-run
-  runs-other n = record { ran = rw (memory-in s e a b c m, lent-in s e a b c m, ← is, ne-eqb _ _ n); still = λ q. (refl, (refl, (refl, (refl, (refl, refl))))) }
+  runs-other n = record { ran = rw (memory-in s e a b c m, lent-in s e a b c m, ← is, ne-eqb _ _ n); still = λ q. refl }
 
   -- what the rules' run then is
   ran-as : length m ≡ memory → call-run (deskIn s e a b c m) allowance ≡ ran (run-for allowance (deskIn s e a b c m))
   unfolding call-run
   ran-as n = rw (memory-in s e a b c m, lent-in s e a b c m, ← is, eq-eqb _ _ n)
 
-  pub runs-done : (s′ e′ a′ b′ c′ m′ : List ℕ) (u : ℕ) (k : Ended) → length m ≡ memory → RanOn allowance s e a b c m u s′ e′ a′ b′ c′ m′ → Ends s′ k
-      → Runs allowance s e a b c m (record { answer = done; units = u; ended = k }) s′ e′ a′ b′ c′ m′
+  pub runs-done : (s′ e′ a′ b′ c′ m′ : List ℕ) (u : ℕ) (k : Ended) → length m ≡ memory → RanOn allowance (lent s e a b c m) u (lent s′ e′ a′ b′ c′ m′) → Ends s′ k
+      → Runs allowance (lent s e a b c m) (record { answer = done; units = u; ended = k }) (lent s′ e′ a′ b′ c′ m′)
   runs-done s′ e′ a′ b′ c′ m′ u k n x ends =
       record {
         ran = rw (ends .ended e′ (pick (sideIn s′) b′ a′) (pick (sideIn s′) a′ b′) c′ m′) (ap ran (x .run) ∙ sym (ran-as n));

@@ -7,20 +7,20 @@ use Prim.Native.Nat.{ℕ}
 use Rattle.rules.specs.Steps.{run-for}
 use Rattle.rules.specs.Calls.{ending, Ran, Told, call-run, call-answer}
 use Rattle.rules.specs.declared.Ended.{Ended}
-use Rattle.run_state.specs.Views.{worldIn, deskIn, Refused}
+use Rattle.run_state.specs.Views.{worldIn, deskIn, Lent, deskOf, Refused}
 use Rattle.device_memory_calls.specs.declared.Spent.{Spent}
 
 -- how a run ends, whatever the rows and the memory are
 pub record Ends (s : List ℕ) (x : Ended) : Type 0 where
   pub ended : (e r h c m : List ℕ) → x ≡ ending (worldIn s e r h c m .state)
 
--- words, entries, the first and the second table of resources, records, memory; the units; and what then stands
-pub record RanOn (allowance : ℕ) (s e a b c m : List ℕ) (units : ℕ) (s′ e′ a′ b′ c′ m′ : List ℕ) : Type 0 where
-  pub run : record { state = deskIn s′ e′ a′ b′ c′ m′; units = units } ≡ run-for allowance (deskIn s e a b c m)
+-- what was lent, the units, and what then stands
+pub record RanOn (allowance : ℕ) (l : Lent) (units : ℕ) (l′ : Lent) : Type 0 where
+  pub run : record { state = deskOf l′; units = units } ≡ run-for allowance (deskOf l)
 
-pub record Runs (allowance : ℕ) (s e a b c m : List ℕ) (x : Spent) (s′ e′ a′ b′ c′ m′ : List ℕ) : Type 0 where
-  pub ran : _≡_ {A = Ran} (record { answer = x .answer; units = x .units; ended = x .ended; world = deskIn s′ e′ a′ b′ c′ m′ }) (call-run (deskIn s e a b c m) allowance)
-  pub still : Refused (x .answer) → (s′ ≡ s) × ((e′ ≡ e) × ((a′ ≡ a) × ((b′ ≡ b) × ((c′ ≡ c) × (m′ ≡ m)))))
+pub record Runs (allowance : ℕ) (l : Lent) (x : Spent) (l′ : Lent) : Type 0 where
+  pub ran : _≡_ {A = Ran} (record { answer = x .answer; units = x .units; ended = x .ended; world = deskOf l′ }) (call-run (deskOf l) allowance)
+  pub still : Refused (x .answer) → l′ ≡ l
 
 -- whatever stands in the tables
 pub record Answers (s m : List ℕ) (good : Bool) (answer : ℕ) (s′ m′ : List ℕ) : Type 0 where

@@ -59,7 +59,24 @@ fn run_on(
     mem: &mut [u8],
     allowance: u16,
 ) -> u16
-    ensures { λ r. ⌜ RanOn allowance (now (words .entry)) (now (entries .entry)) (now (first .entry)) (now (second .entry)) (now (records .entry)) (now (mem .entry)) r (now (words .exit)) (now (entries .exit)) (now (first .exit)) (now (second .exit)) (now (records .exit)) (now (mem .exit)) ⌝ }
+    ensures { λ r. ⌜ RanOn allowance
+        (record {
+          words = now (words .entry);
+          entries = now (entries .entry);
+          first = now (first .entry);
+          second = now (second .entry);
+          records = now (records .entry);
+          mem = now (mem .entry);
+        })
+        r
+        (record {
+          words = now (words .exit);
+          entries = now (entries .exit);
+          first = now (first .exit);
+          second = now (second .exit);
+          records = now (records .exit);
+          mem = now (mem .exit);
+        }) ⌝ }
 {
     if words[SIDE] == 0 {
         return run_loop::run(words, mem, entries, first, second, records, allowance);
@@ -77,7 +94,24 @@ pub fn run(
     mem: &mut [u8],
     allowance: u16,
 ) -> Spent
-    ensures { λ r. ⌜ Runs allowance (now (words .entry)) (now (entries .entry)) (now (first .entry)) (now (second .entry)) (now (records .entry)) (now (mem .entry)) r (now (words .exit)) (now (entries .exit)) (now (first .exit)) (now (second .exit)) (now (records .exit)) (now (mem .exit)) ⌝ }
+    ensures { λ r. ⌜ Runs allowance
+        (record {
+          words = now (words .entry);
+          entries = now (entries .entry);
+          first = now (first .entry);
+          second = now (second .entry);
+          records = now (records .entry);
+          mem = now (mem .entry);
+        })
+        r
+        (record {
+          words = now (words .exit);
+          entries = now (entries .exit);
+          first = now (first .exit);
+          second = now (second .exit);
+          records = now (records .exit);
+          mem = now (mem .exit);
+        }) ⌝ }
 {
     let memory = word_to_usize(words[MEMORY]);
     if mem.len() != memory {

@@ -41,4 +41,16 @@ recordsOf n l = table recordOf 5 n l
 
 -- what a submission holds
 abbrev pub holdingsOf : ℕ → List ℕ → ℕ → List ℕ → Holdings
-holdingsOf live rooms made records = record { resources = resourcesOf live rooms; records = recordsOf made records }
+holdingsOf live resources made records = record { resources = resourcesOf live resources; records = recordsOf made records }
+
+-- ---- the tables of a device, each by its name
+
+-- those that a unit works on: the entries kept, the device's resources, the submission's own copy of them, its records
+pub record Tables : Type 0 where
+  pub entries : List ℕ
+  pub resources : List ℕ
+  pub own : List ℕ
+  pub records : List ℕ
+
+abbrev pub tables : List ℕ → List ℕ → List ℕ → List ℕ → Tables
+tables e r h c = record { entries = e; resources = r; own = h; records = c }

@@ -77,7 +77,9 @@ fn make_buffer(
     c: CreateBuffer,
 ) -> Changed
     requires { ⌜ RowsExist kept live made ⌝ }
-    ensures { λ x. ⌜ Changes (on-buffer-packet (entriesOf kept (now (entries .entry))) (holdingsOf live (pick copied (now (own .entry)) (now (resources .entry))) made (now (records .entry))) c) (now (resources .entry)) x (now (own .exit)) (now (records .exit)) ⌝ }
+    ensures { λ x. ⌜ Changes (on-buffer-packet (entriesOf kept (now (entries .entry)))
+        (holdingsOf live (pick copied (now (own .entry)) (now (resources .entry))) made (now (records .entry))) c)
+        (now (resources .entry)) x (now (own .exit)) (now (records .exit)) ⌝ }
 {
     take_own(resources, own, copied, live);
     with_own(on_buffer(entries, kept, own, live, records, made, c), true)
@@ -95,7 +97,9 @@ fn make_texture(
     c: CreateTexture,
 ) -> Changed
     requires { ⌜ RowsExist kept live made ⌝ }
-    ensures { λ x. ⌜ Changes (on-texture-packet (entriesOf kept (now (entries .entry))) (holdingsOf live (pick copied (now (own .entry)) (now (resources .entry))) made (now (records .entry))) c) (now (resources .entry)) x (now (own .exit)) (now (records .exit)) ⌝ }
+    ensures { λ x. ⌜ Changes (on-texture-packet (entriesOf kept (now (entries .entry)))
+        (holdingsOf live (pick copied (now (own .entry)) (now (resources .entry))) made (now (records .entry))) c)
+        (now (resources .entry)) x (now (own .exit)) (now (records .exit)) ⌝ }
 {
     take_own(resources, own, copied, live);
     with_own(on_texture(entries, kept, own, live, records, made, c), true)
@@ -111,7 +115,9 @@ fn destroy(
     c: DestroyResource,
 ) -> Changed
     requires { ⌜ (live ≤ most) × (made ≤ most) ⌝ }
-    ensures { λ x. ⌜ Changes (on-destroy-packet (holdingsOf live (pick copied (now (own .entry)) (now (resources .entry))) made (now (records .entry))) c) (now (resources .entry)) x (now (own .exit)) (now (records .entry)) ⌝ }
+    ensures { λ x. ⌜ Changes (on-destroy-packet
+        (holdingsOf live (pick copied (now (own .entry)) (now (resources .entry))) made (now (records .entry))) c)
+        (now (resources .entry)) x (now (own .exit)) (now (records .entry)) ⌝ }
 {
     take_own(resources, own, copied, live);
     with_own(on_destroy(own, live, made, c), true)
@@ -129,7 +135,9 @@ fn dirty<'a>(
     c: DirtyRange,
 ) -> Changed
     requires { ⌜ RowsExist kept live made ⌝ }
-    ensures { λ x. ⌜ Changes (on-dirty-packet (entriesOf kept (now (entries .entry))) (holdingsOf live (pick copied (now (own .entry)) (now (resources .entry))) made (now (records .entry))) c) (now (resources .entry)) x (now (own .entry)) (now (records .exit)) ⌝ }
+    ensures { λ x. ⌜ Changes (on-dirty-packet (entriesOf kept (now (entries .entry)))
+        (holdingsOf live (pick copied (now (own .entry)) (now (resources .entry))) made (now (records .entry))) c)
+        (now (resources .entry)) x (now (own .entry)) (now (records .exit)) ⌝ }
 {
     let held = chosen(resources, own, copied);
     with_own(
@@ -150,7 +158,9 @@ fn copy<'a>(
     c: CopyBuffer,
 ) -> Changed
     requires { ⌜ RowsExist kept live made ⌝ }
-    ensures { λ x. ⌜ Changes (on-copy-packet (entriesOf kept (now (entries .entry))) (holdingsOf live (pick copied (now (own .entry)) (now (resources .entry))) made (now (records .entry))) c) (now (resources .entry)) x (now (own .entry)) (now (records .exit)) ⌝ }
+    ensures { λ x. ⌜ Changes (on-copy-packet (entriesOf kept (now (entries .entry)))
+        (holdingsOf live (pick copied (now (own .entry)) (now (resources .entry))) made (now (records .entry))) c)
+        (now (resources .entry)) x (now (own .entry)) (now (records .exit)) ⌝ }
 {
     let held = chosen(resources, own, copied);
     with_own(on_copy(entries, kept, held, live, records, made, c), copied)
@@ -170,7 +180,9 @@ pub fn apply_packet(
     p: Packet,
 ) -> Changed
     requires { ⌜ RowsExist kept live made ⌝ }
-    ensures { λ x. ⌜ Changes (apply (entriesOf kept (now (entries .entry))) (holdingsOf live (pick copied (now (own .entry)) (now (resources .entry))) made (now (records .entry))) p) (now (resources .entry)) x (now (own .exit)) (now (records .exit)) ⌝ }
+    ensures { λ x. ⌜ Changes (apply (entriesOf kept (now (entries .entry)))
+        (holdingsOf live (pick copied (now (own .entry)) (now (resources .entry))) made (now (records .entry))) p)
+        (now (resources .entry)) x (now (own .exit)) (now (records .exit)) ⌝ }
 {
     match p {
         Packet::Buffer(c) => make_buffer(

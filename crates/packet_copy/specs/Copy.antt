@@ -118,7 +118,7 @@ module _ (n : ℕ) (entries : List ℕ) (live made : ℕ) (records : List ℕ) (
       pub writes-range : (a : Applied) (after : List ℕ) → (flags % 2 ≡ 1 → ⊥) → HandsOut (hand-out range) live made records a after
           → HandsOut (written-back (entriesOf n entries) c d) live made records a after
       writes-range a after t hands =
-          record { applies = λ rooms. rw (judges (holdingsOf live rooms made records), told, ne-eqb _ _ t) (hands .applies rooms) }
+          record { applies = λ resources. rw (judges (holdingsOf live resources made records), told, ne-eqb _ _ t) (hands .applies resources) }
 
 pub ruleset writing-back =
     (writes-hosted, writes-missing, writes-past, writes-read-only, writes-range, needs)
@@ -161,11 +161,11 @@ module _ (n : ℕ) (entries : List ℕ) (live made : ℕ) (records : List ℕ) (
           pub copies-back : (a : Applied) (after : List ℕ) → c .flags ≡ 1 → HandsOut (written-back (entriesOf n entries) c d) live made records a after
               → HandsOut (between (entriesOf n entries) c d s) live made records a after
           copies-back a after f hands =
-              record { applies = λ rooms. rw (passes (holdingsOf live rooms made records), eq-eqb _ _ f) (hands .applies rooms) }
+              record { applies = λ resources. rw (passes (holdingsOf live resources made records), eq-eqb _ _ f) (hands .applies resources) }
 
           pub copies-only : (c .flags ≡ 1 → ⊥) → HandsOut (between (entriesOf n entries) c d s) live made records (acceptedWith live made) records
           copies-only f =
-              record { applies = λ rooms. record { outcome = sym (passes (holdingsOf live rooms made records) ∙ rw (ne-eqb _ _ f)); live = room .live; made = room .made } }
+              record { applies = λ resources. record { outcome = sym (passes (holdingsOf live resources made records) ∙ rw (ne-eqb _ _ f)); live = room .live; made = room .made } }
 
 pub ruleset copying-between =
     (copies-onto-itself, copies-other-flags, copies-past-dst, copies-past-src, copies-back, copies-only, needs)
@@ -173,31 +173,31 @@ pub ruleset copying-between =
 -- ---- on_copy
 
 abbrev Copies : ℕ → List ℕ → ℕ → List ℕ → ℕ → List ℕ → CopyBuffer → Applied → List ℕ → Type 0
-Copies n entries live rooms made records c a after =
-    Applies (on-copy-packet (entriesOf n entries) (holdingsOf live rooms made records) c) a rooms after
+Copies n entries live resources made records c a after =
+    Applies (on-copy-packet (entriesOf n entries) (holdingsOf live resources made records) c) a resources after
 
-module _ (n : ℕ) (entries : List ℕ) (live : ℕ) (rooms : List ℕ) (made : ℕ) (records : List ℕ) (c : CopyBuffer) (room : RowsExist n live made)
-    (x : Sought) (dst : x ≡ bufferOf (lookup handle-of (c .dst) (resourcesOf live rooms))) where
-  pub copies-no-dst : (a : Applied) → x ≡ NoBuffer → a ≡ refusedWith bad-handle live made → Copies n entries live rooms made records c a records
+module _ (n : ℕ) (entries : List ℕ) (live : ℕ) (resources : List ℕ) (made : ℕ) (records : List ℕ) (c : CopyBuffer) (room : RowsExist n live made)
+    (x : Sought) (dst : x ≡ bufferOf (lookup handle-of (c .dst) (resourcesOf live resources))) where
+  pub copies-no-dst : (a : Applied) → x ≡ NoBuffer → a ≡ refusedWith bad-handle live made → Copies n entries live resources made records c a records
   unfolding on-copy-packet
   copies-no-dst a told e =
-      refused-applies bad-handle n live made records a room e _ rooms (no-buffer _ _ _ (sym dst ∙ told))
+      refused-applies bad-handle n live made records a room e _ resources (no-buffer _ _ _ (sym dst ∙ told))
 
-  module _ (d : Resource) (told : x ≡ Live d) (y : Sought) (src : y ≡ bufferOf (lookup handle-of (c .src) (resourcesOf live rooms))) where
-    pub copies-no-src : (a : Applied) → y ≡ NoBuffer → a ≡ refusedWith bad-handle live made → Copies n entries live rooms made records c a records
+  module _ (d : Resource) (told : x ≡ Live d) (y : Sought) (src : y ≡ bufferOf (lookup handle-of (c .src) (resourcesOf live resources))) where
+    pub copies-no-src : (a : Applied) → y ≡ NoBuffer → a ≡ refusedWith bad-handle live made → Copies n entries live resources made records c a records
     unfolding on-copy-packet
     copies-no-src a gone e =
-        refused-applies bad-handle n live made records a room e _ rooms (buffer-then _ d _ _ (sym dst ∙ told) ∙ no-buffer _ _ _ (sym src ∙ gone))
+        refused-applies bad-handle n live made records a room e _ resources (buffer-then _ d _ _ (sym dst ∙ told) ∙ no-buffer _ _ _ (sym src ∙ gone))
 
     module _ (s : Resource) (some : y ≡ Live s) where
-      both-live : on-copy-packet (entriesOf n entries) (holdingsOf live rooms made records) c
-          ≡ between (entriesOf n entries) c d s (holdingsOf live rooms made records)
+      both-live : on-copy-packet (entriesOf n entries) (holdingsOf live resources made records) c
+          ≡ between (entriesOf n entries) c d s (holdingsOf live resources made records)
       unfolding on-copy-packet between
       both-live = buffer-then _ d _ _ (sym dst ∙ told) ∙ buffer-then _ s _ _ (sym src ∙ some)
 
       pub copies-between : (a : Applied) (after : List ℕ) → HandsOut (between (entriesOf n entries) c d s) live made records a after
-          → Copies n entries live rooms made records c a after
+          → Copies n entries live resources made records c a after
       copies-between a after hands =
-          rw both-live (hands .applies rooms)
+          rw both-live (hands .applies resources)
 
 pub ruleset copying = (copies-no-dst, copies-no-src, copies-between, needs)

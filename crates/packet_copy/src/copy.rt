@@ -134,7 +134,9 @@ pub fn on_copy(
     c: CopyBuffer,
 ) -> Applied
     requires { ⌜ RowsExist kept live made ⌝ }
-    ensures { λ r. ⌜ Applies (on-copy-packet (entriesOf kept (now (entries .entry))) (holdingsOf live (now (resources .entry)) made (now (records .entry))) c) r (now (resources .entry)) (now (records .exit)) ⌝ }
+    ensures { λ r. ⌜ Applies (on-copy-packet (entriesOf kept (now (entries .entry)))
+        (holdingsOf live (now (resources .entry)) made (now (records .entry))) c)
+        r (now (resources .entry)) (now (records .exit)) ⌝ }
 {
     match live_buffer(resources, live, c.dst) {
         Sought::NoBuffer => refuse(BAD_HANDLE, live, made),

@@ -35,7 +35,9 @@ pub fn on_buffer(
     c: CreateBuffer,
 ) -> Applied
     requires { ⌜ RowsExist kept live made ⌝ }
-    ensures { λ r. ⌜ Applies (on-buffer-packet (entriesOf kept (now (entries .entry))) (holdingsOf live (now (own .entry)) made (now (records .entry))) c) r (now (own .exit)) (now (records .exit)) ⌝ }
+    ensures { λ r. ⌜ Applies (on-buffer-packet (entriesOf kept (now (entries .entry)))
+        (holdingsOf live (now (own .entry)) made (now (records .entry))) c)
+        r (now (own .exit)) (now (records .exit)) ⌝ }
 {
     let good = c.size != 0;
     let r = Resource {
@@ -84,7 +86,9 @@ pub fn on_texture(
     c: CreateTexture,
 ) -> Applied
     requires { ⌜ RowsExist kept live made ⌝ }
-    ensures { λ r. ⌜ Applies (on-texture-packet (entriesOf kept (now (entries .entry))) (holdingsOf live (now (own .entry)) made (now (records .entry))) c) r (now (own .exit)) (now (records .exit)) ⌝ }
+    ensures { λ r. ⌜ Applies (on-texture-packet (entriesOf kept (now (entries .entry)))
+        (holdingsOf live (now (own .entry)) made (now (records .entry))) c)
+        r (now (own .exit)) (now (records .exit)) ⌝ }
 {
     let w = weigh(c);
     let shape = c.shape;

@@ -83,7 +83,9 @@ fn create_backed(
     r: Resource,
 ) -> Applied
     requires { ⌜ RowsExist kept live made ⌝ }
-    ensures { λ a. ⌜ Applies (create-backed (entriesOf kept (now (entries .entry))) (holdingsOf live (now (own .entry)) made (now (records .entry))) r) a (now (own .exit)) (now (records .exit)) ⌝ }
+    ensures { λ a. ⌜ Applies (create-backed (entriesOf kept (now (entries .entry)))
+        (holdingsOf live (now (own .entry)) made (now (records .entry))) r)
+        a (now (own .exit)) (now (records .exit)) ⌝ }
 {
     let place = find_entry(entries, kept, r.backing);
     if place >= kept {
@@ -119,7 +121,9 @@ pub fn create(
     r: Resource,
 ) -> Applied
     requires { ⌜ RowsExist kept live made ⌝ }
-    ensures { λ a. ⌜ Applies (create-rules (entriesOf kept (now (entries .entry))) (holdingsOf live (now (own .entry)) made (now (records .entry))) good r) a (now (own .exit)) (now (records .exit)) ⌝ }
+    ensures { λ a. ⌜ Applies (create-rules (entriesOf kept (now (entries .entry)))
+        (holdingsOf live (now (own .entry)) made (now (records .entry))) good r)
+        a (now (own .exit)) (now (records .exit)) ⌝ }
 {
     if r.handle == 0 {
         return refuse(BAD_HANDLE, live, made);

@@ -33,7 +33,9 @@ pub fn on_dirty(
     c: DirtyRange,
 ) -> Applied
     requires { ⌜ RowsExist kept live made ⌝ }
-    ensures { λ r. ⌜ Applies (on-dirty-packet (entriesOf kept (now (entries .entry))) (holdingsOf live (now (resources .entry)) made (now (records .entry))) c) r (now (resources .entry)) (now (records .exit)) ⌝ }
+    ensures { λ r. ⌜ Applies (on-dirty-packet (entriesOf kept (now (entries .entry)))
+        (holdingsOf live (now (resources .entry)) made (now (records .entry))) c)
+        r (now (resources .entry)) (now (records .exit)) ⌝ }
 {
     let place = find_resource(resources, live, c.handle);
     if place >= live {

@@ -118,36 +118,36 @@ pub ruleset resolving = (resolves-missing, resolves-past, resolves-inside, start
 
 -- ---- hand_out
 
--- what a packet leaves that changes no room of a resource: the rules' outcome, whatever the rooms hold
+-- what a packet leaves that changes no room of a resource: the rules' outcome, whatever the resources hold
 pub record HandsOut (o : Holdings → Outcome) (live made : ℕ) (before : List ℕ) (a : Applied) (after : List ℕ) : Type 0 where
-  pub applies : (rooms : List ℕ) → Applies (o (holdingsOf live rooms made before)) a rooms after
+  pub applies : (resources : List ℕ) → Applies (o (holdingsOf live resources made before)) a resources after
 
 abbrev pub acceptedWith : ℕ → ℕ → Applied
 acceptedWith live made = record { verdict = Fine; live = live; made = made }
 
 -- a refusal with the rule's number keeps what was held
 module _ (code n live made : ℕ) (records : List ℕ) (a : Applied) (room : RowsExist n live made) (e : a ≡ refusedWith code live made) where
-  pub refused-applies : (o : Outcome) (rooms : List ℕ) → o ≡ refused code (holdingsOf live rooms made records) → Applies o a rooms records
-  refused-applies o rooms f = rw (e, f) (record { outcome = refl; live = room .live; made = room .made })
+  pub refused-applies : (o : Outcome) (resources : List ℕ) → o ≡ refused code (holdingsOf live resources made records) → Applies o a resources records
+  refused-applies o resources f = rw (e, f) (record { outcome = refl; live = room .live; made = room .made })
 
   pub refused-hands : (o : Holdings → Outcome) → ((h : Holdings) → o h ≡ refused code h) → HandsOut o live made records a records
-  refused-hands o f = record { applies = λ rooms. refused-applies _ rooms (f (holdingsOf live rooms made records)) }
+  refused-hands o f = record { applies = λ resources. refused-applies _ resources (f (holdingsOf live resources made records)) }
 
 module _ (c : Record) (live made : ℕ) (l : List ℕ) (room : (live ≤ most) × (made ≤ most)) where
   pub hands-nothing : c .length ≡ 0 → HandsOut (hand-out c) live made l (acceptedWith live made) l
   unfolding hand-out
-  hands-nothing p = record { applies = λ rooms. record { outcome = rw (eq-eqb _ _ p); live = room .0; made = room .1 } }
+  hands-nothing p = record { applies = λ resources. record { outcome = rw (eq-eqb _ _ p); live = room .0; made = room .1 } }
 
   module _ (p : c .length ≡ 0 → ⊥) where
     pub hands-too-many : (a : Applied) → most ≤ made → a ≡ refusedWith too-many live made → HandsOut (hand-out c) live made l a l
     unfolding hand-out
     hands-too-many a q e =
         rw e
-        (record { applies = λ rooms. record { outcome = rw (ne-eqb _ _ p, length-table recordOf 5 made l, le-leb _ _ q); live = room .0; made = room .1 } })
+        (record { applies = λ resources. record { outcome = rw (ne-eqb _ _ p, length-table recordOf 5 made l, le-leb _ _ q); live = room .0; made = room .1 } })
 
     pub hands-record : (m : List ℕ) → made < most → recordsOf (made + 1) m ≡ pushed (recordsOf made l) c → HandsOut (hand-out c) live made l (acceptedWith live (made + 1)) m
     unfolding hand-out
     hands-record m q e =
-        record { applies = λ rooms. record { outcome = rw (ne-eqb _ _ p, length-table recordOf 5 made l, lt-leb _ _ q, e); live = room .0; made = omega arith } }
+        record { applies = λ resources. record { outcome = rw (ne-eqb _ _ p, length-table recordOf 5 made l, lt-leb _ _ q, e); live = room .0; made = omega arith } }
 
 pub ruleset handing = (hands-nothing, hands-too-many, hands-record, needs)

@@ -13,11 +13,11 @@ abbrev pub refusedWith : ℕ → ℕ → ℕ → Applied
 refusedWith code live made = record { verdict = Broken (refusal code); live = live; made = made }
 
 abbrev pub outcomeOf : Applied → List ℕ → List ℕ → Outcome
-outcomeOf a rooms records = record { verdict = a .verdict; held = holdingsOf (a .live) rooms (a .made) records }
+outcomeOf a resources records = record { verdict = a .verdict; held = holdingsOf (a .live) resources (a .made) records }
 
 -- the answer and the rows it leaves are an outcome of the rules, and there is room for them
-pub record Applies (o : Outcome) (a : Applied) (rooms records : List ℕ) : Type 0 where
-  pub outcome : outcomeOf a rooms records ≡ o
+pub record Applies (o : Outcome) (a : Applied) (resources records : List ℕ) : Type 0 where
+  pub outcome : outcomeOf a resources records ≡ o
   pub live : a .live ≤ most
   pub made : a .made ≤ most
 

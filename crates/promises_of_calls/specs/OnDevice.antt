@@ -12,7 +12,7 @@ use Rattle.rules.specs.Numbers.{done, nothing-waits}
 use Rattle.rules.specs.State.{State, World}
 use Rattle.rules.specs.Steps.{run-for, waits, answered}
 use Rattle.rules.specs.Calls.{lent-another, Ran as RanBy, ran, call-run, Told as ToldBy, call-answer}
-use Rattle.run_state.specs.Views.{worldIn, deskIn}
+use Rattle.run_state.specs.Views.{worldIn, deskIn, lent}
 use Rattle.device.specs.Views.{worldOf, stateOf, ranOf, toldOf}
 use Rattle.device.specs.declared.Device.{Device}
 use Rattle.device.specs.declared.Ran.{Ran}
@@ -42,7 +42,7 @@ module _ {es : List (Event Bool)} {v : World} where
 
   -- those over lent state
   module _ (s e a b c m s₁ m₁ : List ℕ) (here : lent-another (deskIn s e a b c m) ≡ false) where
-    pub lent-runs : (e₁ a₁ b₁ c₁ : List ℕ) (n : ℕ) (x : Spent) → Runs n s e a b c m x s₁ e₁ a₁ b₁ c₁ m₁ → Chain (deskIn s₁ e₁ a₁ b₁ c₁ m₁) es v
+    pub lent-runs : (e₁ a₁ b₁ c₁ : List ℕ) (n : ℕ) (x : Spent) → Runs n (lent s e a b c m) x (lent s₁ e₁ a₁ b₁ c₁ m₁) → Chain (deskIn s₁ e₁ a₁ b₁ c₁ m₁) es v
         → Chain (deskIn s e a b c m) (run n ∷ es) v
     lent-runs e₁ a₁ b₁ c₁ n x k later = runs n (record { answer = x .answer; units = x .units; ended = x .ended; world = deskIn s₁ e₁ a₁ b₁ c₁ m₁ }) (k .ran) here later
 

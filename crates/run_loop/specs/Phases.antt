@@ -19,6 +19,7 @@ use Rattle.rules.specs.State.{Work, World, working}
 use Rattle.rules.specs.State.Work.{entries, packets, waiting}
 use Rattle.rules.specs.Settle.{settled}
 use Rattle.rules.specs.Steps.{go, step, packets-at, entry-step, after-entry, packet-step, after-packet, next-place}
+use Rattle.kept_resources.specs.Views.{tables}
 use Rattle.rules.specs.declared.Entry.{Entry}
 use Rattle.rules.specs.declared.Job.{Job}
 use Rattle.rules.specs.declared.Stream.{Stream}
@@ -64,7 +65,7 @@ pub ruleset parting = (part-none, part-short, part-fits, part-whole, needs)
 -- ---- play
 
 pub played-part : (m b : List ℕ) (t : Stream) (end n : ℕ) (e : List ℕ) (p : PacketsPlace) (r l c : List ℕ) (left : ℕ) (x : PacketsRun) (l′ c′ : List ℕ) → b ≡ stream-bytes m t → end ≡ t .size
-    → PacketsRan b end n e p r l c left x l′ c′ → PacketsRan (stream-bytes m t) (t .size) n e p r l c left x l′ c′
+    → PacketsRan b end n (tables e r l c) p left x (tables e r l′ c′) → PacketsRan (stream-bytes m t) (t .size) n (tables e r l c) p left x (tables e r l′ c′)
 played-part m b t end n e p r l c left x l′ c′ same long h = rw (← same, ← long) h
 
 pub ruleset playing = (played-part, needs)

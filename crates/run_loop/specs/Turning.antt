@@ -23,6 +23,7 @@ use Rattle.run_entries.specs.declared.entries.EntriesRun.{EntriesRun}
 use Rattle.run_packets.specs.Playing.{playing-goes, play-step, playingOf, PacketsRan, outOf as packetsOut}
 use Rattle.run_packets.specs.declared.PacketsPlace.{PacketsPlace}
 use Rattle.run_packets.specs.declared.PacketsRun.{PacketsRun}
+use Rattle.kept_resources.specs.Views.{tables}
 use Rattle.run_state.specs.Views.{setIn, smallIn, countIn, registersIn, tagIn, jobIn, tableIn, streamIn, openedIn, placeIn, keptIn, heldIn, worldIn, bareIn}
 use Rattle.run_state.specs.Reading.{unset, is-set}
 use Rattle.run_state.specs.Stages.{waits-in}
@@ -69,8 +70,8 @@ module _ (s s′ m e r h c m′ h′ c′ : List ℕ) (left n at live made : ℕ
   from = record { at = at; live = live; made = made; copied = copied; ending = 0; why = 0 }
 
   pub packets-turned : t ≡ streamIn s → (n ≡ countIn (getD s 24 0)) × (n ≤ most) → at ≡ getD s 23 0 → (live ≡ countIn (getD s 26 0)) × (live ≤ most) → (made ≡ countIn (getD s 27 0)) × (made ≤ most)
-      → copied ≡ setIn (getD s 29 0) → PacketsRan (stream-bytes m t) (t .size) n e (record { at = at; live = live; made = made; copied = copied; ending = 0; why = 0 }) r h c left x h′ c′
-      → LandsPackets s (x .place) m s′ m′ → PacketsTurn s left m e r h c (x .units) s′ m′ h′ c′
+      → copied ≡ setIn (getD s 29 0) → PacketsRan (stream-bytes m t) (t .size) n (tables e r h c) (record { at = at; live = live; made = made; copied = copied; ending = 0; why = 0 }) left x (tables e r h′ c′)
+      → LandsPackets s (x .place) m s′ m′ → PacketsTurn s left m (tables e r h c) (x .units) s′ m′ (tables e r h′ c′)
   packets-turned is-t is-n is-at is-live is-made is-copied ran lands =
       record {
         turn = λ on.
@@ -85,7 +86,7 @@ module _ (s s′ m e r h c m′ h′ c′ : List ℕ) (left n at live made : ℕ
       }
 
 pub packets-land : (s m e r h c h′ c′ : List ℕ) (left n : ℕ) (t : Stream) (p : PacketsPlace) (x : PacketsRun) → (tagIn s ≡ 2) × (0 < left)
-    → PacketsRan (stream-bytes m t) (t .size) n e p r h c left x h′ c′ → (tagIn s ≡ 2) × (x .place .live ≤ most) × (x .place .made ≤ most)
+    → PacketsRan (stream-bytes m t) (t .size) n (tables e r h c) p left x (tables e r h′ c′) → (tagIn s ≡ 2) × (x .place .live ≤ most) × (x .place .made ≤ most)
 packets-land s m e r h c h′ c′ left n t p x pre ran = (pre .0, ran .room .live, ran .room .made)
 
 pub packets-room : (x y z n live made : ℕ) → (n ≡ countIn x) × (n ≤ most) → (live ≡ countIn y) × (live ≤ most) → (made ≡ countIn z) × (made ≤ most) → RowsExist n live made
@@ -96,21 +97,21 @@ pub ruleset turning-packets = (packets-turned, packets-land, packets-room, needs
 -- ---- turn_once
 
 module _ (s e r h c m : List ℕ) (left : ℕ) (pre : 0 < left) where
-  stands : go (worldIn s e r h c m) ≡ false → TurnOf left s e r h c m 0 s e h c m
+  stands : go (worldIn s e r h c m) ≡ false → TurnOf left s (tables e r h c) m 0 s (tables e r h c) m
   stands g = record { turned = turned-stop go step left (worldIn s e r h c m) g; side = refl }
 
   off-stops : getD s 3 0 ≡ 0 → go (worldIn s e r h c m) ≡ false
   unfolding go worldIn
   off-stops q = rw (unset (getD s 3 0) q)
 
-  pub turn-off : getD s 3 0 ≡ 0 → TurnOf left s e r h c m 0 s e h c m
+  pub turn-off : getD s 3 0 ≡ 0 → TurnOf left s (tables e r h c) m 0 s (tables e r h c) m
   turn-off off = stands (off-stops off)
 
   module _ (on : getD s 3 0 ≡ 0 → ⊥) where
     is-on : registersIn s .enabled ≡ true
     is-on = is-set (getD s 3 0) on
 
-    pub turn-waits : (tagIn s ≡ 2 → ⊥) → (tagIn s ≡ 1 → ⊥) → (tagIn s ≡ 0 → ⊥) → TurnOf left s e r h c m 0 s e h c m
+    pub turn-waits : (tagIn s ≡ 2 → ⊥) → (tagIn s ≡ 1 → ⊥) → (tagIn s ≡ 0 → ⊥) → TurnOf left s (tables e r h c) m 0 s (tables e r h c) m
     unfolding go
     turn-waits x y z = stands (rw (waits-in s e r h c m (omega arith)) (and-false (worldIn s e r h c m .state .regs .enabled)))
 
@@ -119,7 +120,7 @@ module _ (s e r h c m : List ℕ) (left : ℕ) (pre : 0 < left) where
       unfolding go worldIn
       quiet-stops q = rw (i, is-on, unset (getD s 12 0) q)
 
-      pub turn-quiet : getD s 12 0 ≡ 0 → TurnOf left s e r h c m 0 s e h c m
+      pub turn-quiet : getD s 12 0 ≡ 0 → TurnOf left s (tables e r h c) m 0 s (tables e r h c) m
       turn-quiet q = stands (quiet-stops q)
 
       rung-goes : (getD s 12 0 ≡ 0 → ⊥) → go (worldIn s e r h c m) ≡ true
@@ -130,17 +131,17 @@ module _ (s e r h c m : List ℕ) (left : ℕ) (pre : 0 < left) where
       unfolding step open-step worldIn
       opens-step = rw i
 
-      pub turn-opens : (s′ m′ : List ℕ) → (getD s 12 0 ≡ 0 → ⊥) → Opens s m s′ m′ → TurnOf left s e r h c m 1 s′ e h c m′
+      pub turn-opens : (s′ m′ : List ℕ) → (getD s 12 0 ≡ 0 → ⊥) → Opens s m s′ m′ → TurnOf left s (tables e r h c) m 1 s′ (tables e r h c) m′
       turn-opens s′ m′ q o =
           record {
             turned = turned-step go step left (worldIn s e r h c m) (worldIn s′ e r h c m′) pre (rung-goes q) (o .world e r h c ∙ opens-step);
             side = o .side;
           }
 
-    pub turn-entries : (u : ℕ) (s′ m′ e′ : List ℕ) → tagIn s ≡ 1 → EntriesTurn s left m e u s′ m′ e′ → TurnOf left s e r h c m u s′ e′ h c m′
+    pub turn-entries : (u : ℕ) (s′ m′ e′ : List ℕ) → tagIn s ≡ 1 → EntriesTurn s left m e u s′ m′ e′ → TurnOf left s (tables e r h c) m u s′ (tables e′ r h c) m′
     turn-entries u s′ m′ e′ i x = x .turn is-on r h c
 
-    pub turn-packets : (u : ℕ) (s′ m′ h′ c′ : List ℕ) → tagIn s ≡ 2 → PacketsTurn s left m e r h c u s′ m′ h′ c′ → TurnOf left s e r h c m u s′ e h′ c′ m′
+    pub turn-packets : (u : ℕ) (s′ m′ h′ c′ : List ℕ) → tagIn s ≡ 2 → PacketsTurn s left m (tables e r h c) u s′ m′ (tables e r h′ c′) → TurnOf left s (tables e r h c) m u s′ (tables e r h′ c′) m′
     turn-packets u s′ m′ h′ c′ i x = x .turn is-on
 
 pub ruleset turning-once = (turn-off, turn-waits, turn-quiet, turn-opens, turn-entries, turn-packets, needs)
@@ -149,14 +150,14 @@ pub ruleset turning-once = (turn-off, turn-waits, turn-quiet, turn-opens, turn-e
 
 module _ (a u : ℕ) (s₀ e₀ h₀ c₀ m₀ s e r h c m : List ℕ) (inv : run-for a (worldIn s₀ e₀ r h₀ c₀ m₀) ≡ spent u (run-for (a - u) (worldIn s e r h c m))) (same : getD s 28 0 ≡ getD s₀ 28 0) where
   -- a turn that spends nothing is the end
-  pub run-stops : (k : ℕ) (s′ e′ h′ c′ m′ : List ℕ) → TurnOf (a - u) s e r h c m k s′ e′ h′ c′ m′ → k ≡ 0 → RanFor a s₀ e₀ r h₀ c₀ m₀ u s′ e′ h′ c′ m′
+  pub run-stops : (k : ℕ) (s′ e′ h′ c′ m′ : List ℕ) → TurnOf (a - u) s (tables e r h c) m k s′ (tables e′ r h′ c′) m′ → k ≡ 0 → RanFor a s₀ (tables e₀ r h₀ c₀) m₀ u s′ (tables e′ r h′ c′) m′
   run-stops k s′ e′ h′ c′ m′ t z =
       record { run = turns-stop go step a u (worldIn s e r h c m) (run-for a (worldIn s₀ e₀ r h₀ c₀ m₀)) inv (worldIn s′ e′ r h′ c′ m′) k (t .turned) z; side = t .side ∙ same }
 
-  pub run-ends : a ≤ u → RanFor a s₀ e₀ r h₀ c₀ m₀ u s e h c m
+  pub run-ends : a ≤ u → RanFor a s₀ (tables e₀ r h₀ c₀) m₀ u s (tables e r h c) m
   run-ends d = record { run = loop-out go step a u (worldIn s e r h c m) (run-for a (worldIn s₀ e₀ r h₀ c₀ m₀)) inv d; side = same }
 
-  pub run-side : (k : ℕ) (s′ e′ h′ c′ m′ : List ℕ) → TurnOf (a - u) s e r h c m k s′ e′ h′ c′ m′ → getD s′ 28 0 ≡ getD s₀ 28 0
+  pub run-side : (k : ℕ) (s′ e′ h′ c′ m′ : List ℕ) → TurnOf (a - u) s (tables e r h c) m k s′ (tables e′ r h′ c′) m′ → getD s′ 28 0 ≡ getD s₀ 28 0
   run-side k s′ e′ h′ c′ m′ t = t .side ∙ same
 
 pub ruleset advancing = (loop-start, turns-on, run-stops, run-ends, run-side, needs)

@@ -68,7 +68,10 @@ fn play(
     left: u16,
 ) -> PacketsRun
     requires { ⌜ RowsExist kept (from .live) (from .made) × (from .ending ≡ 0) ⌝ }
-    ensures { λ r. ⌜ PacketsRan (stream-bytes (now (mem .entry)) stream) (stream .size) kept (now (entries .entry)) from (now (resources .entry)) (now (own .entry)) (now (records .entry)) left r (now (own .exit)) (now (records .exit)) ⌝ }
+    ensures { λ r. ⌜ PacketsRan (stream-bytes (now (mem .entry)) stream) (stream .size) kept
+        (record { entries = now (entries .entry); resources = now (resources .entry); own = now (own .entry); records = now (records .entry) })
+        from left r
+        (record { entries = now (entries .entry); resources = now (resources .entry); own = now (own .exit); records = now (records .exit) }) ⌝ }
 {
     let part = stream_part(mem, stream);
     let end = u32_to_usize(stream.size);
@@ -88,7 +91,8 @@ fn play(
 // A turn of the phase of entries: the units it spent.
 fn entries_turn(words: &mut Words, mem: &mut [u8], entries: &mut Entries, left: u16) -> u16
     requires { ⌜ (tagIn (now words) ≡ 1) × (0 < left) ⌝ }
-    ensures { λ r. ⌜ EntriesTurn (now (words .entry)) left (now (mem .entry)) (now (entries .entry)) r (now (words .exit)) (now (mem .exit)) (now (entries .exit)) ⌝ }
+    ensures { λ r. ⌜ EntriesTurn (now (words .entry)) left (now (mem .entry)) (now (entries .entry)) r (now (words .exit))
+        (now (mem .exit)) (now (entries .exit)) ⌝ }
 {
     let table = table_in(words);
     let kept = rows_in(words[KEPT]);
@@ -109,7 +113,10 @@ fn packets_turn(
     left: u16,
 ) -> u16
     requires { ⌜ (tagIn (now words) ≡ 2) × (0 < left) ⌝ }
-    ensures { λ r. ⌜ PacketsTurn (now (words .entry)) left (now (mem .entry)) (now (entries .entry)) (now (resources .entry)) (now (own .entry)) (now (records .entry)) r (now (words .exit)) (now (mem .exit)) (now (own .exit)) (now (records .exit)) ⌝ }
+    ensures { λ r. ⌜ PacketsTurn (now (words .entry)) left (now (mem .entry))
+        (record { entries = now (entries .entry); resources = now (resources .entry); own = now (own .entry); records = now (records .entry) })
+        r (now (words .exit)) (now (mem .exit))
+        (record { entries = now (entries .entry); resources = now (resources .entry); own = now (own .exit); records = now (records .exit) }) ⌝ }
 {
     let stream = stream_in(words);
     let kept = rows_in(words[KEPT]);
@@ -148,7 +155,11 @@ fn turn_once(
     left: u16,
 ) -> u16
     requires { ⌜ 0 < left ⌝ }
-    ensures { λ r. ⌜ TurnOf left (now (words .entry)) (now (entries .entry)) (now (resources .entry)) (now (own .entry)) (now (records .entry)) (now (mem .entry)) r (now (words .exit)) (now (entries .exit)) (now (own .exit)) (now (records .exit)) (now (mem .exit)) ⌝ }
+    ensures { λ r. ⌜ TurnOf left (now (words .entry))
+        (record { entries = now (entries .entry); resources = now (resources .entry); own = now (own .entry); records = now (records .entry) })
+        (now (mem .entry)) r (now (words .exit))
+        (record { entries = now (entries .exit); resources = now (resources .entry); own = now (own .exit); records = now (records .exit) })
+        (now (mem .exit)) ⌝ }
 {
     if words[ENABLED] == 0 {
         return 0;
@@ -180,7 +191,11 @@ pub fn run(
     records: &mut Records,
     allowance: u16,
 ) -> u16
-    ensures { λ r. ⌜ RanFor allowance (now (words .entry)) (now (entries .entry)) (now (resources .entry)) (now (own .entry)) (now (records .entry)) (now (mem .entry)) r (now (words .exit)) (now (entries .exit)) (now (own .exit)) (now (records .exit)) (now (mem .exit)) ⌝ }
+    ensures { λ r. ⌜ RanFor allowance (now (words .entry))
+        (record { entries = now (entries .entry); resources = now (resources .entry); own = now (own .entry); records = now (records .entry) })
+        (now (mem .entry)) r (now (words .exit))
+        (record { entries = now (entries .exit); resources = now (resources .entry); own = now (own .exit); records = now (records .exit) })
+        (now (mem .exit)) ⌝ }
 {
     let mut units: u16 = 0;
     while units < allowance {

@@ -23,7 +23,7 @@ use Rattle.rules.specs.declared.Refusal.{Refusal}
 use Rattle.rules.specs.declared.Verdict.{Verdict}
 use Rattle.rules.specs.declared.Verdict.the-variants.{Fine, Broken as BrokenRule}
 use Rattle.kept_entries.specs.Views.{entriesOf}
-use Rattle.kept_resources.specs.Views.{holdingsOf}
+use Rattle.kept_resources.specs.Views.{holdingsOf, Tables, tables}
 use Rattle.stream_packets.specs.Framing.{FrameFits, frame-sound, Passed}
 use Rattle.packet_ranges.specs.Views.{RowsExist}
 use Rattle.packet_apply.specs.Apply.{Changes, unknown-applied}
@@ -57,15 +57,21 @@ play-step es b end s =
 abbrev pub playingOf : PacketsPlace → List ℕ → List ℕ → List ℕ → Playing
 playingOf p r l c = record { at = p .at; held = holdingsOf (p .live) (pick (p .copied) l r) (p .made) c; ending = endingOf (p .ending) (p .why) }
 
+-- the same of tables by name
+abbrev pub playing : PacketsPlace → Tables → Playing
+playing p t = playingOf p (t .resources) (t .own) (t .records)
+
 abbrev pub outOf : PacketsRun → List ℕ → List ℕ → List ℕ → Out Playing
 outOf x r l c = record { state = playingOf (x .place) r l c; units = x .units }
 
-pub record PacketStepped (b : List ℕ) (end n : ℕ) (e : List ℕ) (p : PacketsPlace) (r l c : List ℕ) (q : PacketsPlace) (l′ c′ : List ℕ) : Type 0 where
-  pub step : playingOf q r l′ c′ ≡ play-step (entriesOf n e) b end (playingOf p r l c)
+-- the stream's bytes and its end, the entries kept, the tables and the place before; the place and the tables after
+pub record PacketStepped (b : List ℕ) (end n : ℕ) (t : Tables) (p q : PacketsPlace) (t′ : Tables) : Type 0 where
+  pub step : playing q t′ ≡ play-step (entriesOf n (t .entries)) b end (playing p t)
   pub room : RowsExist n (q .live) (q .made)
 
-pub record PacketsRan (b : List ℕ) (end n : ℕ) (e : List ℕ) (p : PacketsPlace) (r l c : List ℕ) (allowance : ℕ) (x : PacketsRun) (l′ c′ : List ℕ) : Type 0 where
-  pub run : outOf x r l′ c′ ≡ runFor playing-goes (play-step (entriesOf n e) b end) allowance (playingOf p r l c)
+pub record PacketsRan (b : List ℕ) (end n : ℕ) (t : Tables) (p : PacketsPlace) (allowance : ℕ) (x : PacketsRun) (t′ : Tables) : Type 0 where
+  pub run : record { state = playing (x .place) t′; units = x .units }
+      ≡ runFor playing-goes (play-step (entriesOf n (t .entries)) b end) allowance (playing p t)
   pub room : RowsExist n (x .place .live) (x .place .made)
 
 -- ---- place_after
@@ -111,7 +117,7 @@ by-end false = is-done 1 0 refl
 
 module _ (b : List ℕ) (end n : ℕ) (e : List ℕ) (p : PacketsPlace) (r l c : List ℕ) (f : Frame) (framed : f ≡ frame-of (drop (p .at) b)) where
   pub step-misframed : (why : Refusal) → RowsExist n (p .live) (p .made) → f ≡ Misframed why
-      → PacketStepped b end n e p r l c (record { at = p .at; live = p .live; made = p .made; copied = p .copied; ending = 2; why = why .code }) l c
+      → PacketStepped b end n (tables e r l c) p (record { at = p .at; live = p .live; made = p .made; copied = p .copied; ending = 2; why = why .code }) (tables e r l c)
   unfolding play-step take-packet
   step-misframed why room q = record { step = rw (is-broken 2 (why .code) (omega arith) (omega arith), ← framed, q); room = room }
 
@@ -139,7 +145,7 @@ module _ (b : List ℕ) (end n : ℕ) (e : List ℕ) (p : PacketsPlace) (r l c :
       after-room next (BrokenRule why) h i j = record { entries = h; live = i; made = j }
 
       pub step-taken : (i : ℕ) (y : PacketsPlace) → RowsExist n (p .live) (p .made) → i ≡ size
-          → Changes (take-packet (entriesOf n e) (holdingsOf (p .live) (pick (p .copied) l r) (p .made) c) (drop (p .at) b)) r x l′ c′ → y ≡ placeAfter (p .at) (p .at + i) end x → PacketStepped b end n e p r l c y l′ c′
+          → Changes (take-packet (entriesOf n e) (holdingsOf (p .live) (pick (p .copied) l r) (p .made) c) (drop (p .at) b)) r x l′ c′ → y ≡ placeAfter (p .at) (p .at + i) end x → PacketStepped b end n (tables e r l c) p y (tables e r l′ c′)
       unfolding play-step placeAfter
       step-taken i y room same change is =
           let o : Outcome = take-packet (entriesOf n e) (holdingsOf (p .live) (pick (p .copied) l r) (p .made) c) (drop (p .at) b) in
@@ -206,14 +212,14 @@ module _ (b : List ℕ) (end n : ℕ) (e : List ℕ) (p₀ : PacketsPlace) (r l�
 
   module _ (u : ℕ) (p : PacketsPlace) (l c : List ℕ)
       (inv : runFor playing-goes (play-step (entriesOf n e) b end) a (playingOf p₀ r l₀ c₀) ≡ spent u (runFor playing-goes (play-step (entriesOf n e) b end) (a - u) (playingOf p r l c))) where
-    pub plays-no-more : a ≤ u → RowsExist n (p .live) (p .made) → PacketsRan b end n e p₀ r l₀ c₀ a (record { place = p; units = u }) l c
+    pub plays-no-more : a ≤ u → RowsExist n (p .live) (p .made) → PacketsRan b end n (tables e r l₀ c₀) p₀ a (record { place = p; units = u }) (tables e r l c)
     plays-no-more h room = record { run = loop-out playing-goes (play-step (entriesOf n e) b end) a u (playingOf p r l c) _ inv h; room = room }
 
-    module _ (more : u < a) (here : p .ending ≡ 0) (q : PacketsPlace) (l′ c′ : List ℕ) (s : PacketStepped b end n e p r l c q l′ c′) where
+    module _ (more : u < a) (here : p .ending ≡ 0) (q : PacketsPlace) (l′ c′ : List ℕ) (s : PacketStepped b end n (tables e r l c) p q (tables e r l′ c′)) where
       pub plays-on : runFor playing-goes (play-step (entriesOf n e) b end) a (playingOf p₀ r l₀ c₀) ≡ spent (u + 1) (runFor playing-goes (play-step (entriesOf n e) b end) (a - (u + 1)) (playingOf q r l′ c′))
       plays-on = phase-on playing-goes (play-step (entriesOf n e) b end) a u (playingOf p r l c) _ inv more (goes (p .ending) (p .why) here) (playingOf q r l′ c′) (s .step)
 
-      pub plays-to-end : (q .ending ≡ 0 → ⊥) → PacketsRan b end n e p₀ r l₀ c₀ a (record { place = q; units = u + 1 }) l′ c′
+      pub plays-to-end : (q .ending ≡ 0 → ⊥) → PacketsRan b end n (tables e r l₀ c₀) p₀ a (record { place = q; units = u + 1 }) (tables e r l′ c′)
       plays-to-end h =
           record {
             run = phase-left playing-goes (play-step (entriesOf n e) b end) a u (playingOf p r l c) _ inv more (goes (p .ending) (p .why) here) (playingOf q r l′ c′) (s .step) (ends (q .ending) (q .why) h);

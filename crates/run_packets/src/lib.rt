@@ -101,7 +101,9 @@ fn take_packet(
     p: PacketsPlace,
 ) -> Taken
     requires { ⌜ (frame-of (drop at (now stream)) ≡ Whole op size) × RowsExist kept (p .live) (p .made) ⌝ }
-    ensures { λ x. ⌜ Changes (take-packet (entriesOf kept (now (entries .entry))) (holdingsOf (p .live) (pick (p .copied) (now (own .entry)) (now (resources .entry))) (p .made) (now (records .entry))) (drop at (now (stream .entry)))) (now (resources .entry)) (x .changed) (now (own .exit)) (now (records .exit)) ⌝ }
+    ensures { λ x. ⌜ Changes (take-packet (entriesOf kept (now (entries .entry)))
+        (holdingsOf (p .live) (pick (p .copied) (now (own .entry)) (now (resources .entry))) (p .made) (now (records .entry)))
+        (drop at (now (stream .entry)))) (now (resources .entry)) (x .changed) (now (own .exit)) (now (records .exit)) ⌝ }
 {
     let packet = packet_at(stream, at, op, size);
     let copied = p.copied;
@@ -152,7 +154,10 @@ fn step_packet(
     p: PacketsPlace,
 ) -> Stepped
     requires { ⌜ RowsExist kept (p .live) (p .made) ⌝ }
-    ensures { λ r. ⌜ PacketStepped (now (stream .entry)) end kept (now (entries .entry)) p (now (resources .entry)) (now (own .entry)) (now (records .entry)) (r .place) (now (own .exit)) (now (records .exit)) ⌝ }
+    ensures { λ r. ⌜ PacketStepped (now (stream .entry)) end kept
+        (record { entries = now (entries .entry); resources = now (resources .entry); own = now (own .entry); records = now (records .entry) })
+        p (r .place)
+        (record { entries = now (entries .entry); resources = now (resources .entry); own = now (own .exit); records = now (records .exit) }) ⌝ }
 {
     let at = p.at;
     match frame_at(stream, at) {
@@ -247,7 +252,10 @@ pub fn read_packets(
     allowance: u16,
 ) -> PacketsRun
     requires { ⌜ RowsExist kept (from .live) (from .made) × (from .ending ≡ 0) ⌝ }
-    ensures { λ r. ⌜ PacketsRan (now (stream .entry)) end kept (now (entries .entry)) from (now (resources .entry)) (now (own .entry)) (now (records .entry)) allowance r (now (own .exit)) (now (records .exit)) ⌝ }
+    ensures { λ r. ⌜ PacketsRan (now (stream .entry)) end kept
+        (record { entries = now (entries .entry); resources = now (resources .entry); own = now (own .entry); records = now (records .entry) })
+        from allowance r
+        (record { entries = now (entries .entry); resources = now (resources .entry); own = now (own .exit); records = now (records .exit) }) ⌝ }
 {
     let bound = inner_bound(stream, end);
     let mut p = from;

@@ -109,6 +109,22 @@ sideIn s = setIn (getD s 28 0)
 abbrev pub deskIn : List ℕ → List ℕ → List ℕ → List ℕ → List ℕ → List ℕ → World
 deskIn s e a b c m = worldIn s e (pick (sideIn s) b a) (pick (sideIn s) a b) c m
 
+-- all that a call on memory is lent, each part by its name
+pub record Lent : Type 0 where
+  pub words : List ℕ
+  pub entries : List ℕ
+  pub first : List ℕ
+  pub second : List ℕ
+  pub records : List ℕ
+  pub mem : List ℕ
+
+abbrev pub lent : List ℕ → List ℕ → List ℕ → List ℕ → List ℕ → List ℕ → Lent
+lent s e a b c m = record { words = s; entries = e; first = a; second = b; records = c; mem = m }
+
+-- the device and the memory that stand there
+abbrev pub deskOf : Lent → World
+deskOf l = deskIn (l .words) (l .entries) (l .first) (l .second) (l .records) (l .mem)
+
 -- the state alone
 abbrev pub stateIn : List ℕ → List ℕ → List ℕ → List ℕ → List ℕ → State
 stateIn s e a b c = deskIn s e a b c [] .state

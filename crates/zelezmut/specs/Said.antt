@@ -4,7 +4,7 @@ use mathlib.Core.List.{List, [], _∷_}
 use Prim.Native.Nat.{ℕ, _+_, _*_}
 use Rattle.rules.specs.Calls.{ended-number, Value, Ran, call-read, call-run, call-record}
 use Rattle.rules.specs.declared.Record.{Record}
-use Rattle.run_state.specs.Views.{stateIn, deskIn, Refused}
+use Rattle.run_state.specs.Views.{stateIn, Lent, deskOf, Refused}
 
 -- a read's value, its answer above it
 abbrev pub saidValue : Value → ℕ
@@ -24,10 +24,10 @@ pub record SaysValue (s : List ℕ) (offset said : ℕ) : Type 0 where
   pub value : (e a b c : List ℕ) → said ≡ saidValue (call-read (stateIn s e a b c) offset)
 
 -- the rules' run, of the device in the words and tables
-pub record SaysRun (allowance : ℕ) (s e a b c m : List ℕ) (said : ℕ) (s′ e′ a′ b′ c′ m′ : List ℕ) : Type 0 where
-  pub spent : said ≡ saidRun (call-run (deskIn s e a b c m) allowance)
-  pub world : deskIn s′ e′ a′ b′ c′ m′ ≡ call-run (deskIn s e a b c m) allowance .world
-  pub still : Refused (call-run (deskIn s e a b c m) allowance .answer) → (s′ ≡ s) × ((e′ ≡ e) × ((a′ ≡ a) × ((b′ ≡ b) × ((c′ ≡ c) × (m′ ≡ m)))))
+pub record SaysRun (allowance : ℕ) (l : Lent) (said : ℕ) (l′ : Lent) : Type 0 where
+  pub spent : said ≡ saidRun (call-run (deskOf l) allowance)
+  pub world : deskOf l′ ≡ call-run (deskOf l) allowance .world
+  pub still : Refused (call-run (deskOf l) allowance .answer) → l′ ≡ l
 
 -- the rules' record, of the device in the words
 pub record SaysRecord (s c : List ℕ) (i n : ℕ) (said : List ℕ) : Type 0 where

@@ -9,7 +9,7 @@ use lib.ListN.{length, set, drop, drop-of-length-le}
 use lib.Seq.{sets-eq}
 use Rattle.rules.specs.Calls.{ended-number, Handed as HandedBy, Ran}
 use Rattle.rules.specs.declared.Record.{Record}
-use Rattle.run_state.specs.Views.{setIn, deskIn}
+use Rattle.run_state.specs.Views.{setIn, deskIn, lent}
 use Rattle.device_calls.specs.Views.{Makes, Reads, GivesRecord}
 use Rattle.device_calls.specs.declared.ValueRead.{ValueRead}
 use Rattle.device_calls.specs.declared.Handed.{Handed}
@@ -27,11 +27,11 @@ pub ruleset saying-value = (says-value, needs)
 
 -- ---- zelezmut_run
 
-module _ (allowance : ℕ) (s e a b c m s′ e′ a′ b′ c′ m′ : List ℕ) (x : Spent) (k : Runs allowance s e a b c m x s′ e′ a′ b′ c′ m′) (n v u : ℕ) where
+module _ (allowance : ℕ) (s e a b c m s′ e′ a′ b′ c′ m′ : List ℕ) (x : Spent) (k : Runs allowance (lent s e a b c m) x (lent s′ e′ a′ b′ c′ m′)) (n v u : ℕ) where
   abbrev given : Ran
   given = record { answer = x .answer; units = x .units; ended = x .ended; world = deskIn s′ e′ a′ b′ c′ m′ }
 
-  pub says-run : (n ≡ ended-number (x .ended)) × (n ≤ 2) → u ≡ x .units → (v ≡ x .answer) × (v < 4294967296) → SaysRun allowance s e a b c m (v + (256 * n + 65536 * u)) s′ e′ a′ b′ c′ m′
+  pub says-run : (n ≡ ended-number (x .ended)) × (n ≤ 2) → u ≡ x .units → (v ≡ x .answer) × (v < 4294967296) → SaysRun allowance (lent s e a b c m) (v + (256 * n + 65536 * u)) (lent s′ e′ a′ b′ c′ m′)
   says-run p q t =
       record {
         spent = rw (p .0, q, t .0) (ap saidRun (k .ran));

@@ -89,7 +89,24 @@ pub extern "C" fn zelezmut_run(
     mem: &mut [u8],
     allowance: u16,
 ) -> u64
-    ensures { λ r. ⌜ SaysRun allowance (now (words .entry)) (now (entries .entry)) (now (first .entry)) (now (second .entry)) (now (records .entry)) (now (mem .entry)) r (now (words .exit)) (now (entries .exit)) (now (first .exit)) (now (second .exit)) (now (records .exit)) (now (mem .exit)) ⌝ }
+    ensures { λ r. ⌜ SaysRun allowance
+        (record {
+          words = now (words .entry);
+          entries = now (entries .entry);
+          first = now (first .entry);
+          second = now (second .entry);
+          records = now (records .entry);
+          mem = now (mem .entry);
+        })
+        r
+        (record {
+          words = now (words .exit);
+          entries = now (entries .exit);
+          first = now (first .exit);
+          second = now (second .exit);
+          records = now (records .exit);
+          mem = now (mem .exit);
+        }) ⌝ }
 {
     let x = device_memory_calls::run(words, entries, first, second, records, mem, allowance);
     let how = x.ended;

@@ -11,15 +11,15 @@ use Rattle.run_packets.proofs.read_packets.Statement.{statement}
 use Rattle.run_packets.proofs.read_packets.Tie as tie
 
 abbrev Inv-loop : tie.InvT-loop
-Inv-loop stream end entries n rooms held₀ records₀ allowance bound p₀ units₀ held records p units =
+Inv-loop stream end entries n resources own₀ records₀ allowance bound p₀ units₀ own records p units =
     (units ≤ allowance)
     × (p .ending ≡ 0)
     × RowsExist n (p .live) (p .made)
-    × (runFor playing-goes (play-step (entriesOf n entries) stream end) allowance (playingOf p₀ rooms held₀ records₀)
-    ≡ spent units (runFor playing-goes (play-step (entriesOf n entries) stream end) (allowance - units) (playingOf p rooms held records)))
+    × (runFor playing-goes (play-step (entriesOf n entries) stream end) allowance (playingOf p₀ resources own₀ records₀)
+    ≡ spent units (runFor playing-goes (play-step (entriesOf n entries) stream end) (allowance - units) (playingOf p resources own records)))
 
 abbrev μ-loop : tie.MeasureT-loop
-μ-loop stream end entries n rooms held₀ records₀ allowance bound p₀ units₀ held records p units = allowance - units
+μ-loop stream end entries n resources own₀ records₀ allowance bound p₀ units₀ own records p units = allowance - units
 
 inner-bound-requires : tie.Need-inner-bound-requires Inv-loop μ-loop
 inner-bound-requires c κs = search playing-on
