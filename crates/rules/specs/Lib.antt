@@ -3,6 +3,7 @@ pub mod Bytes
 pub mod Lists
 pub mod Judging
 pub mod Layouts
+pub mod Headers
 pub mod Table
 pub mod Stream
 pub mod Ring

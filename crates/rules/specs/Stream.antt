@@ -7,7 +7,10 @@ use lib.ListN.{length, take, drop}
 use Rattle.machine.specs.Machine.{pick}
 use Rattle.rules.specs.Numbers.{bad-stream, bad-packet, stream-magic, create-buffer, create-texture, destroy, dirty-range, copy-buffer, create-buffer-size, create-texture-size, destroy-size, dirty-range-size, copy-buffer-size}
 use Rattle.rules.specs.Judging.{rule, _▹_}
-use Rattle.rules.specs.Layouts.{word, good-version, stream-header-size, packet-header-size, buffer-fields, texture-fields, destroy-fields, dirty-fields, copy-fields}
+use Rattle.rules.specs.Layouts.{word, stream-header-size, packet-header-size, buffer-fields, texture-fields, destroy-fields, dirty-fields, copy-fields}
+use Rattle.rules.specs.Headers.{wrong-front}
+use Rattle.rules.specs.Lists.{Found}
+use Rattle.rules.specs.Lists.Found.{none, found}
 use Rattle.rules.specs.declared.StreamHeader.{StreamHeader}
 use Rattle.rules.specs.declared.Stream.{Stream}
 use Rattle.rules.specs.declared.Refusal.{Refusal}
@@ -21,11 +24,7 @@ use Rattle.rules.specs.declared.Frame.the-variants.{Whole, Misframed}
 -- "16: cmd size below 24; magic; version; stream size below 24 or above cmd size."
 unfoldable pub stream-rules : ℕ → StreamHeader → Verdict
 stream-rules cmdsize h =
-    rule bad-stream (ltb cmdsize stream-header-size)
-    ▹ rule bad-stream (not (eqb (h .magic) stream-magic))
-    ▹ rule bad-stream (not (good-version (h .version)))
-    ▹ rule bad-stream (ltb (h .size) stream-header-size)
-    ▹ rule bad-stream (ltb cmdsize (h .size))
+    rule bad-stream (wrong-front stream-magic stream-header-size cmdsize (h .magic) (h .version) (h .size))
 
 -- the numbers kept of it
 abbrev pub stream-of : ℕ → StreamHeader → Stream
@@ -34,16 +33,39 @@ stream-of gpa h = record { gpa = gpa; size = h .size }
 abbrev pub no-stream : Stream
 no-stream = record { gpa = 0; size = 0 }
 
--- ---- one packet
+-- ---- one packet: the table of opcodes
 
--- the size that the table of opcodes gives; 0 for an opcode that we do not know
+-- a packet that we know: its bytes, and what they say
+pub record Known : Type 0 where
+  pub size : ℕ
+  pub fields : List ℕ → Packet
+
+abbrev pub row : ℕ → (List ℕ → Packet) → Found Known
+row size fields = found (record { size = size; fields = fields })
+
+-- "Opcode | Packet, bytes | Fields": each row once
+unfoldable pub known : ℕ → Found Known
+known op =
+    pick (eqb op create-buffer) (row create-buffer-size (λ b. Buffer (buffer-fields b)))
+    (pick (eqb op create-texture) (row create-texture-size (λ b. Texture (texture-fields b)))
+    (pick (eqb op destroy) (row destroy-size (λ b. Destroy (destroy-fields b)))
+    (pick (eqb op dirty-range) (row dirty-range-size (λ b. Dirty (dirty-fields b)))
+    (pick (eqb op copy-buffer) (row copy-buffer-size (λ b. Copy (copy-fields b))) none))))
+
+-- the bytes of a row, 0 where there is none; and what a packet's own bytes say. "Unknown opcodes are skipped."
+abbrev pub bytes-in : Found Known → ℕ
+bytes-in none = 0
+bytes-in (found k) = k .size
+
+abbrev pub says-in : Found Known → List ℕ → Packet
+says-in none b = Unknown
+says-in (found k) b = k .fields b
+
 unfoldable pub known-size : ℕ → ℕ
-known-size op =
-    pick (eqb op create-buffer) create-buffer-size
-    (pick (eqb op create-texture) create-texture-size
-    (pick (eqb op destroy) destroy-size
-    (pick (eqb op dirty-range) dirty-range-size
-    (pick (eqb op copy-buffer) copy-buffer-size 0))))
+known-size op = bytes-in (known op)
+
+unfoldable pub packet-of : ℕ → List ℕ → Packet
+packet-of op b = says-in (known op) b
 
 -- "a known opcode whose size is not exactly its table size"
 unfoldable pub wrong-size : ℕ → ℕ → Bool
@@ -66,15 +88,6 @@ framed (Broken r) op size = Misframed r
 -- the frame of the packet that the bytes left begin with
 unfoldable pub frame-of : List ℕ → Frame
 frame-of b = framed (frame-rules b) (word b 0) (word b 4)
-
--- the fields of a packet with an opcode, from its own bytes. "Unknown opcodes are skipped."
-unfoldable pub packet-of : ℕ → List ℕ → Packet
-packet-of op b =
-    pick (eqb op create-buffer) (Buffer (buffer-fields b))
-    (pick (eqb op create-texture) (Texture (texture-fields b))
-    (pick (eqb op destroy) (Destroy (destroy-fields b))
-    (pick (eqb op dirty-range) (Dirty (dirty-fields b))
-    (pick (eqb op copy-buffer) (Copy (copy-fields b)) Unknown))))
 
 -- the stream's own bytes, and what is left of them from a place on
 abbrev pub stream-bytes : List ℕ → Stream → List ℕ

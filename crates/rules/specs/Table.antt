@@ -1,5 +1,5 @@
 -- 01, "Open" 13 and 19, and "Entry": the allocation table.
-use mathlib.Core.Bool.{Bool, true, false, not, _&&_}
+use mathlib.Core.Bool.{Bool, true, false, _&&_}
 use mathlib.Core.List.{List, [], _∷_}
 use Prim.Native.Nat.{ℕ, zero, suc, _+_, _*_}
 use lib.Dec.{ltb, leb, eqb}
@@ -9,7 +9,8 @@ use Rattle.rules.specs.Numbers.{bad-table, bad-entry, twice-in-table, to
 use Rattle.rules.specs.Lists.{Found, lookup, pushed}
 use Rattle.rules.specs.Lists.Found.{none, found}
 use Rattle.rules.specs.Judging.{refusal, rule, _▹_, number}
-use Rattle.rules.specs.Layouts.{good-version, table-header, table-header-size, entry, entry-size}
+use Rattle.rules.specs.Layouts.{table-header, table-header-size, entry, entry-size}
+use Rattle.rules.specs.Headers.{wrong-front}
 use Rattle.rules.specs.declared.TableHeader.{TableHeader}
 use Rattle.rules.specs.declared.Entry.{Entry}
 use Rattle.rules.specs.declared.Table.{Table}
@@ -20,11 +21,7 @@ use Rattle.rules.specs.declared.Verdict.the-variants.{Fine, Broken}
 -- 24 + count*stride above header size. Then 19: count above 64."
 unfoldable pub header-rules : ℕ → TableHeader → Verdict
 header-rules tablesize h =
-    rule bad-table (ltb tablesize table-header-size)
-    ▹ rule bad-table (not (eqb (h .magic) table-magic))
-    ▹ rule bad-table (not (good-version (h .version)))
-    ▹ rule bad-table (ltb (h .size) table-header-size)
-    ▹ rule bad-table (ltb tablesize (h .size))
+    rule bad-table (wrong-front table-magic table-header-size tablesize (h .magic) (h .version) (h .size))
     ▹ rule bad-table (ltb (h .stride) entry-size)
     ▹ rule bad-table (ltb (h .size) (table-header-size + h .count * h .stride))
     ▹ rule too-many (ltb most (h .count))

@@ -1,23 +1,24 @@
 -- What the check of a stream's header gives, and the laws that the check asks for. Assumes nothing.
 use mathlib.Core.Path.{_≡_, refl}
-use Prim.Native.Nat.{ℕ, _+_, _/_, _≤_, _<_}
+use Prim.Native.Nat.{ℕ, _+_, _≤_, _<_}
 use native.Mathlib.Omega.{arith}
-use mathlib.Core.Bool.{not}
+use mathlib.Core.Bool.{Bool, true, false}
 use mathlib.Core.List.{List}
 use borrow.Author.Needs.{needs}
-use borrow.Author.Tests.{eq-eqb, ne-eqb, lt-ltb, le-ltb, ltb-false, eqb-true, not-false}
-use lib.Dec.{ltb, eqb}
+use borrow.Author.Tests.{lt-ltb}
 use lib.ListN.{length}
 use Rattle.rules.specs.Numbers.{bad-stream, stream-magic}
 use Rattle.rules.specs.Judging.{refusal}
-use Rattle.rules.specs.Layouts.{word, good-version, stream-header, stream-header-size}
+use Rattle.rules.specs.Layouts.{word, stream-header, stream-header-size}
+use Rattle.rules.specs.Headers.{wrong-front}
 use Rattle.rules.specs.Stream.{stream-rules, stream-of}
 use Rattle.rules.specs.declared.Refusal.{Refusal}
 use Rattle.rules.specs.declared.Stream.{Stream}
 use Rattle.rules.specs.declared.StreamHeader.{StreamHeader}
 use Rattle.rules.specs.declared.Verdict.{Verdict}
 use Rattle.rules.specs.declared.Verdict.the-variants.{Fine, Broken}
-use Rattle.rule_laws.specs.Fine.{all-kept}
+use Rattle.rule_laws.specs.Fine.{kept-rule}
+use Rattle.headers.specs.Front.{GoodFront, front-good}
 use Rattle.stream_header.specs.declared.header.CheckedStream.{CheckedStream}
 use Rattle.stream_header.specs.declared.header.CheckedStream.the-variants.{Good, Bad}
 
@@ -37,52 +38,17 @@ header-is m at k v s p q r = rw (p, q, r)
 
 module _ (cmdsize : ℕ) (h : StreamHeader) where
   pub range-short : cmdsize < stream-header-size → Broken (refusal bad-stream) ≡ stream-rules cmdsize h
-  unfolding stream-rules
+  unfolding stream-rules wrong-front
   range-short p = rw (lt-ltb cmdsize stream-header-size p)
 
-  module _ (long : stream-header-size ≤ cmdsize) where
-    pub other-magic : (h .magic ≡ stream-magic → ⊥) → Broken (refusal bad-stream) ≡ stream-rules cmdsize h
+  module _ (wrong : Bool) (front : wrong ≡ wrong-front stream-magic stream-header-size cmdsize (h .magic) (h .version) (h .size)) where
+    pub stream-wrong : wrong ≡ true → Broken (refusal bad-stream) ≡ stream-rules cmdsize h
     unfolding stream-rules
-    other-magic p = rw (le-ltb cmdsize stream-header-size long, ne-eqb (h .magic) stream-magic p)
+    stream-wrong p = rw (← front, p)
 
-    module _ (magic : h .magic ≡ stream-magic) where
-      pub other-version : (h .version / 65536 ≡ 1 → ⊥) → Broken (refusal bad-stream) ≡ stream-rules cmdsize h
-      unfolding stream-rules
-      other-version p = rw (le-ltb cmdsize stream-header-size long, eq-eqb (h .magic) stream-magic magic, ne-eqb (h .version / 65536) 1 p)
-
-      module _ (version : h .version / 65536 ≡ 1) (size : ℕ) (same : size ≡ h .size) where
-        pub stream-short : size < stream-header-size → Broken (refusal bad-stream) ≡ stream-rules cmdsize h
-        unfolding stream-rules
-        stream-short p =
-            rw (
-              le-ltb cmdsize stream-header-size long,
-              eq-eqb (h .magic) stream-magic magic,
-              eq-eqb (h .version / 65536) 1 version,
-              lt-ltb (h .size) stream-header-size (omega arith),
-            )
-
-        module _ (room : stream-header-size ≤ size) where
-          pub stream-long : cmdsize < size → Broken (refusal bad-stream) ≡ stream-rules cmdsize h
-          unfolding stream-rules
-          stream-long p =
-              rw (
-                le-ltb cmdsize stream-header-size long,
-                eq-eqb (h .magic) stream-magic magic,
-                eq-eqb (h .version / 65536) 1 version,
-                le-ltb (h .size) stream-header-size (omega arith),
-                lt-ltb cmdsize (h .size) (omega arith),
-              )
-
-          pub stream-good : size ≤ cmdsize → Fine ≡ stream-rules cmdsize h
-          unfolding stream-rules
-          stream-good p =
-              rw (
-                le-ltb cmdsize stream-header-size long,
-                eq-eqb (h .magic) stream-magic magic,
-                eq-eqb (h .version / 65536) 1 version,
-                le-ltb (h .size) stream-header-size (omega arith),
-                le-ltb cmdsize (h .size) (omega arith),
-              )
+    pub stream-good : wrong ≡ false → Fine ≡ stream-rules cmdsize h
+    unfolding stream-rules
+    stream-good p = rw (← front, p)
 
 -- ---- check_header
 
@@ -98,28 +64,16 @@ pub begins-bad : (cmdsize : ℕ) (s : Stream) (v : Verdict) (q : Refusal) (h h�
     → Bad q ≡ begun (stream-rules cmdsize h′) s
 begins-bad cmdsize s v q h h′ e r f = rw (← e, ← r, f)
 
-pub ruleset heading = (header-is, range-short, other-magic, other-version, stream-short, stream-long, stream-good, begins-short, begins-good, begins-bad, needs)
+pub ruleset heading = (header-is, stream-wrong, stream-good, begins-short, begins-good, begins-bad, needs)
 
 -- ---- what a good stream is known by
 
-pub record GoodStreamHeader (cmdsize : ℕ) (h : StreamHeader) : Type 0 where
-  pub magic : h .magic ≡ stream-magic
-  pub major : h .version / 65536 ≡ 1
-  pub header : stream-header-size ≤ h .size
-  pub inside : h .size ≤ cmdsize
+abbrev pub GoodStreamHeader : ℕ → StreamHeader → Type 0
+GoodStreamHeader cmdsize h = GoodFront stream-magic stream-header-size cmdsize (h .magic) (h .version) (h .size)
 
 pub stream-sound : (cmdsize : ℕ) (h : StreamHeader) → stream-rules cmdsize h ≡ Fine → GoodStreamHeader cmdsize h
 unfolding stream-rules
-stream-sound cmdsize h e =
-    let k =
-    all-kept bad-stream (ltb cmdsize stream-header-size) (not (eqb (h .magic) stream-magic)) (not (good-version (h .version)))
-    (ltb (h .size) stream-header-size) (ltb cmdsize (h .size)) e in
-    record {
-      magic = eqb-true (h .magic) stream-magic (not-false _ (k .1 .0));
-      major = eqb-true (h .version / 65536) 1 (not-false _ (k .1 .1 .0));
-      header = ltb-false (h .size) stream-header-size (k .1 .1 .1 .0);
-      inside = ltb-false cmdsize (h .size) (k .1 .1 .1 .1);
-    }
+stream-sound cmdsize h e = front-good stream-magic stream-header-size cmdsize (h .magic) (h .version) (h .size) (kept-rule bad-stream _ e)
 
 begun-good : (v : Verdict) (s s′ : Stream) → begun v s ≡ Good s′ → (v ≡ Fine) × (s ≡ s′)
 begun-good Fine s s′ e = (refl, cc)

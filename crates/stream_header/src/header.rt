@@ -6,15 +6,13 @@ ghost use lib.ListN.{length};
 ghost use Rattle.rules.specs.Layouts.{stream-header, stream-header-size};
 ghost use Rattle.rules.specs.Stream.{stream-rules, stream-of};
 ghost use Rattle.stream_header.specs.Header.{begun};
+use headers::wrong_front;
 use rules::Refusal;
 use rules::Stream;
 use rules::StreamHeader;
 use rules::Verdict;
 use rules::numbers::BAD_STREAM;
-use rules::numbers::GOOD_MAJOR;
-use rules::numbers::MINORS;
 use rules::numbers::STREAM_MAGIC;
-use widths::u32_to_word;
 use widths::usize_to_word;
 use words::u32_at;
 
@@ -38,24 +36,18 @@ fn header_at(mem: &[u8], at: usize) -> StreamHeader
     }
 }
 
-// The rules of a stream header, in their order.
+// Judges a header that was read, for a command range of so many bytes.
 pub fn header_verdict(cmdsize: u64, h: StreamHeader) -> Verdict
     ensures { λ r. ⌜ r ≡ stream-rules cmdsize h ⌝ }
 {
-    let size = u32_to_word(h.size);
-    if cmdsize < STREAM_HEADER_SIZE {
-        return Verdict::Broken(Refusal { code: BAD_STREAM });
-    }
-    if h.magic != STREAM_MAGIC {
-        return Verdict::Broken(Refusal { code: BAD_STREAM });
-    }
-    if h.version / MINORS != GOOD_MAJOR {
-        return Verdict::Broken(Refusal { code: BAD_STREAM });
-    }
-    if size < STREAM_HEADER_SIZE {
-        return Verdict::Broken(Refusal { code: BAD_STREAM });
-    }
-    if cmdsize < size {
+    if wrong_front(
+        STREAM_MAGIC,
+        STREAM_HEADER_SIZE,
+        cmdsize,
+        h.magic,
+        h.version,
+        h.size,
+    ) {
         return Verdict::Broken(Refusal { code: BAD_STREAM });
     }
     Verdict::Fine

@@ -1,16 +1,18 @@
 -- A table's header: what its reading and its judging ask, and what a fine one says. Assumes nothing.
 use mathlib.Core.Path.{_≡_}
-use mathlib.Core.Bool.{not}
+use mathlib.Core.Bool.{Bool, true, false}
 use mathlib.Core.List.{List}
-use Prim.Native.Nat.{ℕ, _+_, _*_, _-_, _/_, _≤_, _<_}
+use Prim.Native.Nat.{ℕ, _+_, _*_, _≤_, _<_}
 use native.Mathlib.Nat.{le-trans}
 use borrow.Author.Needs.{needs}
-use borrow.Author.Tests.{lt-ltb, le-ltb, eq-eqb, ne-eqb, ltb-false}
-use lib.Dec.{ltb, eqb}
+use borrow.Author.Tests.{lt-ltb, le-ltb, ltb-false}
+use lib.Dec.{ltb}
 use Rattle.rules.specs.Numbers.{bad-table, too-many, most, table-magic}
 use Rattle.rules.specs.Judging.{refusal, rule}
-use Rattle.rules.specs.Layouts.{word, good-version, table-header, table-header-size, entry-size}
+use Rattle.rules.specs.Layouts.{word, table-header, table-header-size, entry-size}
+use Rattle.rules.specs.Headers.{wrong-front}
 use Rattle.rules.specs.Table.{header-rules, table-of}
+use Rattle.headers.specs.Front.{front-good}
 use Rattle.rules.specs.declared.Refusal.{Refusal}
 use Rattle.rules.specs.declared.Table.{Table}
 use Rattle.rules.specs.declared.TableHeader.{TableHeader}
@@ -38,82 +40,34 @@ pub ruleset reading-header = (header-read, needs)
 
 module _ (tablesize : ℕ) (h : TableHeader) where
   pub header-short : tablesize < table-header-size → Broken (refusal bad-table) ≡ header-rules tablesize h
-  unfolding header-rules
+  unfolding header-rules wrong-front
   header-short p = rw (lt-ltb _ _ p)
 
-  module _ (long : table-header-size ≤ tablesize) where
-    pub header-magic : (h .magic ≡ table-magic → ⊥) → Broken (refusal bad-table) ≡ header-rules tablesize h
+  module _ (wrong : Bool) (front : wrong ≡ wrong-front table-magic table-header-size tablesize (h .magic) (h .version) (h .size)) where
+    pub header-wrong : wrong ≡ true → Broken (refusal bad-table) ≡ header-rules tablesize h
     unfolding header-rules
-    header-magic p = rw (le-ltb _ _ long, ne-eqb _ _ p)
+    header-wrong p = rw (← front, p)
 
-    module _ (magic : h .magic ≡ table-magic) where
-      pub header-version : (h .version / 65536 ≡ 1 → ⊥) → Broken (refusal bad-table) ≡ header-rules tablesize h
+    module _ (right : wrong ≡ false) where
+      pub header-narrow : h .stride < entry-size → Broken (refusal bad-table) ≡ header-rules tablesize h
       unfolding header-rules
-      header-version p = rw (le-ltb _ _ long, eq-eqb _ _ magic, ne-eqb _ _ p)
+      header-narrow p = rw (← front, right, lt-ltb _ _ p)
 
-      module _ (version : h .version / 65536 ≡ 1) where
-        pub header-small : h .size < table-header-size → Broken (refusal bad-table) ≡ header-rules tablesize h
+      module _ (wide : entry-size ≤ h .stride) (end : ℕ) (at : (end ≡ table-header-size + h .count * h .stride) × (end + 4294967296 ≤ 18446744073709551616)) where
+        pub header-crowded : h .size < end → Broken (refusal bad-table) ≡ header-rules tablesize h
         unfolding header-rules
-        header-small p = rw (le-ltb _ _ long, eq-eqb _ _ magic, eq-eqb _ _ version, lt-ltb _ _ p)
+        header-crowded p = rw (← front, right, le-ltb _ _ wide, ← at .0, lt-ltb _ _ p)
 
-        module _ (whole : table-header-size ≤ h .size) where
-          pub header-large : tablesize < h .size → Broken (refusal bad-table) ≡ header-rules tablesize h
+        module _ (room : end ≤ h .size) where
+          pub header-many : most < h .count → Broken (refusal too-many) ≡ header-rules tablesize h
           unfolding header-rules
-          header-large p = rw (le-ltb _ _ long, eq-eqb _ _ magic, eq-eqb _ _ version, le-ltb _ _ whole, lt-ltb _ _ p)
+          header-many p = rw (← front, right, le-ltb _ _ wide, ← at .0, le-ltb _ _ room, lt-ltb _ _ p)
 
-          module _ (within : h .size ≤ tablesize) where
-            pub header-narrow : h .stride < entry-size → Broken (refusal bad-table) ≡ header-rules tablesize h
-            unfolding header-rules
-            header-narrow p = rw (le-ltb _ _ long, eq-eqb _ _ magic, eq-eqb _ _ version, le-ltb _ _ whole, le-ltb _ _ within, lt-ltb _ _ p)
+          pub header-fine : h .count ≤ most → Fine ≡ header-rules tablesize h
+          unfolding header-rules
+          header-fine p = rw (← front, right, le-ltb _ _ wide, ← at .0, le-ltb _ _ room, le-ltb _ _ p)
 
-            module _ (wide : entry-size ≤ h .stride) (end : ℕ) (at : (end ≡ table-header-size + h .count * h .stride) × (end + 4294967296 ≤ 18446744073709551616)) where
-              pub header-crowded : h .size < end → Broken (refusal bad-table) ≡ header-rules tablesize h
-              unfolding header-rules
-              header-crowded p =
-                  rw (
-                    le-ltb _ _ long,
-                    eq-eqb _ _ magic,
-                    eq-eqb _ _ version,
-                    le-ltb _ _ whole,
-                    le-ltb _ _ within,
-                    le-ltb _ _ wide,
-                    ← at .0,
-                    lt-ltb _ _ p,
-                  )
-
-              module _ (room : end ≤ h .size) where
-                pub header-many : most < h .count → Broken (refusal too-many) ≡ header-rules tablesize h
-                unfolding header-rules
-                header-many p =
-                    rw (
-                      le-ltb _ _ long,
-                      eq-eqb _ _ magic,
-                      eq-eqb _ _ version,
-                      le-ltb _ _ whole,
-                      le-ltb _ _ within,
-                      le-ltb _ _ wide,
-                      ← at .0,
-                      le-ltb _ _ room,
-                      lt-ltb _ _ p,
-                    )
-
-                pub header-fine : h .count ≤ most → Fine ≡ header-rules tablesize h
-                unfolding header-rules
-                header-fine p =
-                    rw (
-                      le-ltb _ _ long,
-                      eq-eqb _ _ magic,
-                      eq-eqb _ _ version,
-                      le-ltb _ _ whole,
-                      le-ltb _ _ within,
-                      le-ltb _ _ wide,
-                      ← at .0,
-                      le-ltb _ _ room,
-                      le-ltb _ _ p,
-                    )
-
-pub ruleset judging-header =
-    (header-short, header-magic, header-version, header-small, header-large, header-narrow, header-crowded, header-many, header-fine, needs)
+pub ruleset judging-header = (header-wrong, header-narrow, header-crowded, header-many, header-fine, needs)
 
 -- ---- check_header
 
@@ -141,17 +95,14 @@ pub record Sized (tablesize : ℕ) (h : TableHeader) : Type 0 where
 pub fine-sized : (tablesize : ℕ) (h : TableHeader) → header-rules tablesize h ≡ Fine → Sized tablesize h
 unfolding header-rules
 fine-sized tablesize h fine =
-    let l₁ = fine-later (rule bad-table (ltb tablesize table-header-size)) _ fine in
-    let l₂ = fine-later (rule bad-table (not (eqb (h .magic) table-magic))) _ l₁ in
-    let l₃ = fine-later (rule bad-table (not (good-version (h .version)))) _ l₂ in
-    let l₄ = fine-later (rule bad-table (ltb (h .size) table-header-size)) _ l₃ in
-    let l₅ = fine-later (rule bad-table (ltb tablesize (h .size))) _ l₄ in
-    let l₆ = fine-later (rule bad-table (ltb (h .stride) entry-size)) _ l₅ in
-    let l₇ = fine-later (rule bad-table (ltb (h .size) (table-header-size + h .count * h .stride))) _ l₆ in
-    let inside = ltb-false tablesize (h .size) (kept-rule bad-table (ltb tablesize (h .size)) (fine-first _ _ l₄)) in
-    let rows = ltb-false (h .size) (table-header-size + h .count * h .stride) (kept-rule bad-table (ltb (h .size) (table-header-size + h .count * h .stride)) (fine-first _ _ l₆)) in
+    let front = wrong-front table-magic table-header-size tablesize (h .magic) (h .version) (h .size) in
+    let l₁ = fine-later (rule bad-table front) _ fine in
+    let l₂ = fine-later (rule bad-table (ltb (h .stride) entry-size)) _ l₁ in
+    let l₃ = fine-later (rule bad-table (ltb (h .size) (table-header-size + h .count * h .stride))) _ l₂ in
+    let good = front-good table-magic table-header-size tablesize (h .magic) (h .version) (h .size) (kept-rule bad-table front (fine-first _ _ fine)) in
+    let rows = ltb-false (h .size) (table-header-size + h .count * h .stride) (kept-rule bad-table (ltb (h .size) (table-header-size + h .count * h .stride)) (fine-first _ _ l₂)) in
     record {
-      few = ltb-false most (h .count) (kept-rule too-many (ltb most (h .count)) l₇);
-      wide = ltb-false (h .stride) entry-size (kept-rule bad-table (ltb (h .stride) entry-size) (fine-first _ _ l₅));
-      room = le-trans rows inside;
+      few = ltb-false most (h .count) (kept-rule too-many (ltb most (h .count)) l₃);
+      wide = ltb-false (h .stride) entry-size (kept-rule bad-table (ltb (h .stride) entry-size) (fine-first _ _ l₁));
+      room = le-trans rows (good .inside);
     }

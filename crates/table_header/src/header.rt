@@ -1,12 +1,11 @@
 // The header of an allocation table: read once, judged, and the numbers kept of it.
 // Later steps go by the numbers kept, whatever the guest writes there since.
+use headers::wrong_front;
 use rules::Refusal;
 use rules::Table;
 use rules::TableHeader;
 use rules::Verdict;
 use rules::numbers::BAD_TABLE;
-use rules::numbers::GOOD_MAJOR;
-use rules::numbers::MINORS;
 use rules::numbers::MOST_ROWS;
 use rules::numbers::TABLE_HEADER_SIZE;
 use rules::numbers::TABLE_MAGIC;
@@ -54,19 +53,14 @@ pub fn entry_offset(stride: u32, i: u32) -> u64
 pub fn header_verdict(tablesize: u64, h: TableHeader) -> Verdict
     ensures { λ r. ⌜ r ≡ header-rules tablesize h ⌝ }
 {
-    if tablesize < HEADER_SIZE {
-        return Verdict::Broken(Refusal { code: BAD_TABLE });
-    }
-    if h.magic != TABLE_MAGIC {
-        return Verdict::Broken(Refusal { code: BAD_TABLE });
-    }
-    if h.version / MINORS != GOOD_MAJOR {
-        return Verdict::Broken(Refusal { code: BAD_TABLE });
-    }
-    if (h.size as u64) < HEADER_SIZE {
-        return Verdict::Broken(Refusal { code: BAD_TABLE });
-    }
-    if tablesize < h.size as u64 {
+    if wrong_front(
+        TABLE_MAGIC,
+        HEADER_SIZE,
+        tablesize,
+        h.magic,
+        h.version,
+        h.size,
+    ) {
         return Verdict::Broken(Refusal { code: BAD_TABLE });
     }
     if (h.stride as u64) < ENTRY_SIZE {

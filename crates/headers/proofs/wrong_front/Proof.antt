@@ -1,0 +1,27 @@
+-- `wrong_front` meets its contract. Assumes nothing.
+use borrow.Author.Needs.{needs}
+use Rattle.headers.specs.Front.{judging-front}
+use Rattle.headers.proofs.wrong_front.Statement.{statement}
+use Rattle.headers.proofs.wrong_front.Tie as tie
+
+u32-to-word-requires : tie.Need-u32-to-word-requires
+u32-to-word-requires c κs = search needs
+
+returns : tie.Need-returns
+returns c = search judging-front
+
+returns-2 : tie.Need-returns-2
+returns-2 c = search judging-front
+
+returns-3 : tie.Need-returns-3
+returns-3 c = search judging-front
+
+returns-4 : tie.Need-returns-4
+returns-4 c = search judging-front
+
+returns-5 : tie.Need-returns-5
+returns-5 c = search judging-front
+
+pub wrong-front-spec : {M : Type 1} → statement M
+wrong-front-spec =
+    tie.close (tie.spec u32-to-word-requires returns returns-2 returns-3 returns-4 returns-5)
