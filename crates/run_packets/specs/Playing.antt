@@ -7,24 +7,25 @@ use native.Mathlib.Omega.{arith}
 use borrow.Author.Needs.{needs}
 use borrow.Author.Tests.{lt-ltb, le-ltb}
 use lib.Dec.{ltb}
-use lib.ListN.{length, take, drop, length-drop}
+use lib.ListN.{length, drop, length-drop}
 use mir.Syntax.{w64}
 use mir.Val.{Fits}
 use Rattle.machine.specs.Machine.{pick, Out, spent, runFor, loop-start, loop-out}
 use Rattle.rules.specs.Numbers.{most}
-use Rattle.rules.specs.Stream.{frame-of, packet-of}
+use Rattle.rules.specs.Stream.{frame-of}
 use Rattle.rules.specs.Packets.{Holdings, Outcome, apply, take-packet}
 use Rattle.rules.specs.Steps.{next-place}
 use Rattle.rules.specs.declared.Entry.{Entry}
 use Rattle.rules.specs.declared.Packet.{Packet}
-use Rattle.rules.specs.declared.Frame.{Frame}
-use Rattle.rules.specs.declared.Frame.the-variants.{Whole, Misframed}
+use Rattle.rules.specs.declared.Frame.the-variants.{Misframed}
 use Rattle.rules.specs.declared.Refusal.{Refusal}
 use Rattle.rules.specs.declared.Verdict.{Verdict}
 use Rattle.rules.specs.declared.Verdict.the-variants.{Fine, Broken as BrokenRule}
 use Rattle.kept_entries.specs.Views.{entriesOf}
 use Rattle.kept_resources.specs.Views.{holdingsOf, Tables, tables}
-use Rattle.stream_packets.specs.Framing.{FrameFits, frame-sound, Passed}
+use Rattle.stream_packets.specs.Framing.{FrameFits, frame-sound, packetAt, WasWhole, was-whole, was-misframed, Passed}
+use Rattle.stream_packets.specs.declared.framing.PacketRead.{PacketRead}
+use Rattle.stream_packets.specs.declared.framing.PacketRead.the-variants.{Whole as WholePacket, Misframed as NoPacket}
 use Rattle.packet_ranges.specs.Views.{RowsExist}
 use Rattle.packet_apply.specs.Apply.{Changes, unknown-applied}
 use Rattle.packet_apply.specs.declared.apply.Changed.{Changed}
@@ -101,13 +102,7 @@ pub ruleset going-after = (after-broken, after-going, after-done, needs)
 
 -- ---- take_packet
 
-module _ (b : List ℕ) (at op size : ℕ) (whole : frame-of (drop at b) ≡ Whole op size) where
-  pub takes-framed : (es : List Entry) (h : Holdings) (k : Packet) (r : List ℕ) (x : Changed) (l′ c′ : List ℕ) → k ≡ packet-of op (take size (drop at b)) → Changes (apply es h k) r x l′ c′
-      → Changes (take-packet es h (drop at b)) r x l′ c′
-  unfolding take-packet
-  takes-framed es h k r x l′ c′ read change = rw (whole, ← read) change
-
-pub ruleset taking-packet = (takes-framed, unknown-applied, needs)
+pub ruleset taking-packet = (unknown-applied, needs)
 
 -- ---- step_packet
 
@@ -115,22 +110,25 @@ by-end : (t : Bool) → endingOf (pick t 0 1) 0 ≡ pick t Going Done
 by-end true = is-going 0 0 refl
 by-end false = is-done 1 0 refl
 
-module _ (b : List ℕ) (end n : ℕ) (e : List ℕ) (p : PacketsPlace) (r l c : List ℕ) (f : Frame) (framed : f ≡ frame-of (drop (p .at) b)) where
-  pub step-misframed : (why : Refusal) → RowsExist n (p .live) (p .made) → f ≡ Misframed why
+module _ (b : List ℕ) (end n : ℕ) (e : List ℕ) (p : PacketsPlace) (r l c : List ℕ) (f : PacketRead) (read : f ≡ packetAt (drop (p .at) b)) where
+  pub step-misframed : (why : Refusal) → RowsExist n (p .live) (p .made) → f ≡ NoPacket why
       → PacketStepped b end n (tables e r l c) p (record { at = p .at; live = p .live; made = p .made; copied = p .copied; ending = 2; why = why .code }) (tables e r l c)
   unfolding play-step take-packet
-  step-misframed why room q = record { step = rw (is-broken 2 (why .code) (omega arith) (omega arith), ← framed, q); room = room }
+  step-misframed why room q =
+      let framed : frame-of (drop (p .at) b) ≡ Misframed why = was-misframed (drop (p .at) b) f read why q in
+      record { step = rw (is-broken 2 (why .code) (omega arith) (omega arith), framed); room = room }
 
-  module _ (op size : ℕ) (q : f ≡ Whole op size) where
-    whole : frame-of (drop (p .at) b) ≡ Whole op size
-    whole = sym framed ∙ q
+  module _ (size : ℕ) (k : Packet) (q : f ≡ WholePacket size k) where
+    whole : WasWhole (drop (p .at) b) size k
+    whole = was-whole (drop (p .at) b) f read size k q
 
-    pub is-framed : frame-of (drop (p .at) b) ≡ Whole op size
-    is-framed = whole
+    taken : (es : List Entry) (h : Holdings) → take-packet es h (drop (p .at) b) ≡ apply es h k
+    unfolding take-packet
+    taken es h = rw (whole .frame, ← whole .says)
 
-    pub next-fits : (k : ℕ) → k ≡ size → p .at < 2 ^ 64 → length b < 2 ^ 64 → Fits w64 (p .at + k)
-    next-fits k same h g =
-        let s : FrameFits (drop (p .at) b) op size = frame-sound (drop (p .at) b) op size whole in
+    pub next-fits : (i : ℕ) → i ≡ size → p .at < 2 ^ 64 → length b < 2 ^ 64 → Fits w64 (p .at + i)
+    next-fits i same h g =
+        let s : FrameFits (drop (p .at) b) (whole .opcode) size = frame-sound (drop (p .at) b) (whole .opcode) size (whole .frame) in
         record { fits = omega (arith, s .inside, s .header, length-drop (p .at) b) }
 
     module _ (x : Changed) (l′ c′ : List ℕ) where
@@ -145,17 +143,17 @@ module _ (b : List ℕ) (end n : ℕ) (e : List ℕ) (p : PacketsPlace) (r l c :
       after-room next (BrokenRule why) h i j = record { entries = h; live = i; made = j }
 
       pub step-taken : (i : ℕ) (y : PacketsPlace) → RowsExist n (p .live) (p .made) → i ≡ size
-          → Changes (take-packet (entriesOf n e) (holdingsOf (p .live) (pick (p .copied) l r) (p .made) c) (drop (p .at) b)) r x l′ c′ → y ≡ placeAfter (p .at) (p .at + i) end x → PacketStepped b end n (tables e r l c) p y (tables e r l′ c′)
+          → Changes (apply (entriesOf n e) (holdingsOf (p .live) (pick (p .copied) l r) (p .made) c) k) r x l′ c′ → y ≡ placeAfter (p .at) (p .at + i) end x → PacketStepped b end n (tables e r l c) p y (tables e r l′ c′)
       unfolding play-step placeAfter
       step-taken i y room same change is =
-          let o : Outcome = take-packet (entriesOf n e) (holdingsOf (p .live) (pick (p .copied) l r) (p .made) c) (drop (p .at) b) in
+          let o : Outcome = apply (entriesOf n e) (holdingsOf (p .live) (pick (p .copied) l r) (p .made) c) k in
           let verdict : x .verdict ≡ o .verdict = ap (λ (z : Outcome). z .verdict) (change .outcome) in
           record {
-            step = ap (λ (z : PacketsPlace). playingOf z r l′ c′) is ∙ (after-verdict o (p .at + i) (x .verdict) (change .outcome) ∙ rw (whole, ← verdict, same));
+            step = ap (λ (z : PacketsPlace). playingOf z r l′ c′) is ∙ (after-verdict o (p .at + i) (x .verdict) (change .outcome) ∙ rw (taken (entriesOf n e) (holdingsOf (p .live) (pick (p .copied) l r) (p .made) c), whole .frame, ← verdict, same));
             room = rw is (after-room (p .at + i) (x .verdict) (room .entries) (change .live) (change .made));
           }
 
-pub ruleset stepping-packet = (step-misframed, is-framed, next-fits, step-taken, needs)
+pub ruleset stepping-packet = (step-misframed, next-fits, step-taken, needs)
 
 -- ---- skip_unknown
 

@@ -4,23 +4,20 @@ use kept_records::Records;
 use kept_resources::resources::Resources;
 use packet_apply::apply::Changed;
 use packet_apply::apply::apply_packet;
-use rules::Frame;
 use rules::Packet;
 use rules::Verdict;
 use run_entries::ending::BROKEN;
 use run_entries::ending::DONE;
 use run_entries::ending::GOING;
-use stream_packets::framing::frame_at;
+use stream_packets::framing::PacketRead;
 use stream_packets::framing::packet_at;
 use stream_packets::framing::unknown_size;
 use widths::u32_to_usize;
 ghost use mathlib.Core.Path.{_≡_};
 ghost use Prim.Native.Nat.{_+_, _-_, _≤_, _^_, _<_};
-ghost use lib.ListN.{length, drop};
+ghost use lib.ListN.{length};
 ghost use Rattle.machine.specs.Machine.{pick};
-ghost use Rattle.rules.specs.Stream.{frame-of};
-ghost use Rattle.rules.specs.Packets.{take-packet};
-ghost use Rattle.rules.specs.declared.Frame.the-variants.{Whole};
+ghost use Rattle.rules.specs.Packets.{apply};
 ghost use Rattle.kept_entries.specs.Views.{entriesOf};
 ghost use Rattle.kept_resources.specs.Views.{holdingsOf};
 ghost use Rattle.packet_ranges.specs.Views.{RowsExist};
@@ -87,25 +84,21 @@ struct Taken {
     unknown: bool,
 }
 
-// The packet that was framed at a place of the stream.
+// A packet that was read does to what the submission holds what its kind does.
 fn take_packet(
-    stream: &[u8],
-    at: usize,
-    op: u32,
-    size: u32,
     entries: &Entries,
     kept: usize,
     resources: &Resources,
     own: &mut Resources,
     records: &mut Records,
     p: PacketsPlace,
+    packet: Packet,
 ) -> Taken
-    requires { ⌜ (frame-of (drop at (now stream)) ≡ Whole op size) × RowsExist kept (p .live) (p .made) ⌝ }
-    ensures { λ x. ⌜ Changes (take-packet (entriesOf kept (now (entries .entry)))
-        (holdingsOf (p .live) (pick (p .copied) (now (own .entry)) (now (resources .entry))) (p .made) (now (records .entry)))
-        (drop at (now (stream .entry)))) (now (resources .entry)) (x .changed) (now (own .exit)) (now (records .exit)) ⌝ }
+    requires { ⌜ RowsExist kept (p .live) (p .made) ⌝ }
+    ensures { λ x. ⌜ Changes (apply (entriesOf kept (now (entries .entry)))
+        (holdingsOf (p .live) (pick (p .copied) (now (own .entry)) (now (resources .entry))) (p .made) (now (records .entry))) packet)
+        (now (resources .entry)) (x .changed) (now (own .exit)) (now (records .exit)) ⌝ }
 {
-    let packet = packet_at(stream, at, op, size);
     let copied = p.copied;
     let live = p.live;
     let made = p.made;
@@ -160,8 +153,8 @@ fn step_packet(
         (record { entries = now (entries .entry); resources = now (resources .entry); own = now (own .exit); records = now (records .exit) }) ⌝ }
 {
     let at = p.at;
-    match frame_at(stream, at) {
-        Frame::Misframed(why) => Stepped {
+    match packet_at(stream, at) {
+        PacketRead::Misframed(why) => Stepped {
             place: PacketsPlace {
                 at,
                 live: p.live,
@@ -172,19 +165,8 @@ fn step_packet(
             },
             unknown: false,
         },
-        Frame::Whole(op, size) => {
-            let t = take_packet(
-                stream,
-                at,
-                op,
-                size,
-                entries,
-                kept,
-                resources,
-                own,
-                records,
-                p,
-            );
+        PacketRead::Whole(size, packet) => {
+            let t = take_packet(entries, kept, resources, own, records, p, packet);
             Stepped {
                 place: place_after(at, at + u32_to_usize(size), end, t.changed),
                 unknown: t.unknown,

@@ -1,18 +1,27 @@
--- What the readers of a packet's fields ask for, and the table of opcodes by its rows. Assumes nothing.
-use mathlib.Core.Path.{_≡_}
+-- The table of opcodes by its rows, and what the readers of a packet's fields ask for. Assumes nothing.
+use mathlib.Core.Path.{_≡_, refl, sym, _∙_}
+use mathlib.Core.Bool.{Bool, true, false, not, and-false}
 use mathlib.Core.List.{List}
-use Prim.Native.Nat.{ℕ, _≤_}
+use Prim.Native.Nat.{ℕ}
+use native.Mathlib.Omega.{arith}
 use borrow.Author.Needs.{needs}
-use borrow.Author.Tests.{ne-eqb}
-use Rattle.rules.specs.Numbers.{create-buffer, create-texture, destroy, dirty-range, copy-buffer}
+use borrow.Author.Tests.{eq-eqb, ne-eqb}
+use lib.Dec.{eqb}
+use lib.ListN.{length}
+use Rattle.machine.specs.Machine.{pick}
+use Rattle.rules.specs.Numbers.{create-buffer, create-texture, destroy, dirty-range, copy-buffer, create-buffer-size, create-texture-size, destroy-size, dirty-range-size, copy-buffer-size}
 use Rattle.rules.specs.Layouts.{word, long, buffer-fields, texture-fields, destroy-fields, dirty-fields, copy-fields}
-use Rattle.rules.specs.Stream.{known-size, packet-of}
+use Rattle.rules.specs.Stream.{known, known-size, wrong-size, packet-of}
+use Rattle.rules.specs.Lists.Found.{none}
 use Rattle.rules.specs.declared.Shape.{Shape}
 use Rattle.rules.specs.declared.CreateBuffer.{CreateBuffer}
 use Rattle.rules.specs.declared.CreateTexture.{CreateTexture}
 use Rattle.rules.specs.declared.DestroyResource.{DestroyResource}
 use Rattle.rules.specs.declared.DirtyRange.{DirtyRange}
 use Rattle.rules.specs.declared.CopyBuffer.{CopyBuffer}
+use Rattle.stream_packets.specs.declared.fields.Reading.{Reading}
+use Rattle.stream_packets.specs.declared.fields.Reading.the-variants.{WrongSize, Says}
+use Rattle.rules.specs.declared.Packet.{Packet}
 use Rattle.rules.specs.declared.Packet.the-variants.{Buffer, Texture, Destroy, Dirty, Copy, Unknown}
 
 -- ---- the fields of each packet
@@ -51,63 +60,118 @@ pub ruleset reading-fields = (buffer-is, shape-is, texture-is, destroy-is, dirty
 
 -- ---- the table of opcodes
 
+-- what a packet's own bytes say, if it has the size of its opcode
+unfoldable pub reading : ℕ → List ℕ → Reading
+reading op b = pick (wrong-size op (length b)) WrongSize (Says (packet-of op b))
+
 -- an opcode that is in none of its rows
 module _ (op : ℕ) (n₁ : op ≡ create-buffer → ⊥) (n₂ : op ≡ create-texture → ⊥) (n₃ : op ≡ destroy → ⊥) (n₄ : op ≡ dirty-range → ⊥)
     (n₅ : op ≡ copy-buffer → ⊥) where
+  none-known : known op ≡ none
+  unfolding known
+  none-known = rw (ne-eqb op create-buffer n₁, ne-eqb op create-texture n₂, ne-eqb op destroy n₃, ne-eqb op dirty-range n₄, ne-eqb op copy-buffer n₅)
+
   pub known-none : 0 ≡ known-size op
   unfolding known-size
-  known-none = rw (ne-eqb op create-buffer n₁, ne-eqb op create-texture n₂, ne-eqb op destroy n₃, ne-eqb op dirty-range n₄, ne-eqb op copy-buffer n₅)
+  known-none = rw none-known
 
   pub says-nothing : (b : List ℕ) → Unknown ≡ packet-of op b
   unfolding packet-of
-  says-nothing b = rw (ne-eqb op create-buffer n₁, ne-eqb op create-texture n₂, ne-eqb op destroy n₃, ne-eqb op dirty-range n₄, ne-eqb op copy-buffer n₅)
+  says-nothing b = rw none-known
 
 module _ (op : ℕ) where
-  pub known-buffer : op ≡ create-buffer → 40 ≡ known-size op
-  unfolding known-size
+  pub known-buffer : op ≡ create-buffer → create-buffer-size ≡ known-size op
+  unfolding known-size known
   known-buffer p = rw p
 
-  pub known-texture : op ≡ create-texture → 56 ≡ known-size op
-  unfolding known-size
+  pub known-texture : op ≡ create-texture → create-texture-size ≡ known-size op
+  unfolding known-size known
   known-texture p = rw p
 
-  pub known-destroy : op ≡ destroy → 16 ≡ known-size op
-  unfolding known-size
+  pub known-destroy : op ≡ destroy → destroy-size ≡ known-size op
+  unfolding known-size known
   known-destroy p = rw p
 
-  pub known-dirty : op ≡ dirty-range → 32 ≡ known-size op
-  unfolding known-size
+  pub known-dirty : op ≡ dirty-range → dirty-range-size ≡ known-size op
+  unfolding known-size known
   known-dirty p = rw p
 
-  pub known-copy : op ≡ copy-buffer → 48 ≡ known-size op
-  unfolding known-size
+  pub known-copy : op ≡ copy-buffer → copy-buffer-size ≡ known-size op
+  unfolding known-size known
   known-copy p = rw p
 
   module _ (b : List ℕ) where
     pub says-buffer : op ≡ create-buffer → (f : CreateBuffer) → f ≡ buffer-fields b → Buffer f ≡ packet-of op b
-    unfolding packet-of
+    unfolding packet-of known
     says-buffer p f q = rw (p, q)
 
     pub says-texture : op ≡ create-texture → (f : CreateTexture) → f ≡ texture-fields b → Texture f ≡ packet-of op b
-    unfolding packet-of
+    unfolding packet-of known
     says-texture p f q = rw (p, q)
 
     pub says-destroy : op ≡ destroy → (f : DestroyResource) → f ≡ destroy-fields b → Destroy f ≡ packet-of op b
-    unfolding packet-of
+    unfolding packet-of known
     says-destroy p f q = rw (p, q)
 
     pub says-dirty : op ≡ dirty-range → (f : DirtyRange) → f ≡ dirty-fields b → Dirty f ≡ packet-of op b
-    unfolding packet-of
+    unfolding packet-of known
     says-dirty p f q = rw (p, q)
 
     pub says-copy : op ≡ copy-buffer → (f : CopyBuffer) → f ≡ copy-fields b → Copy f ≡ packet-of op b
-    unfolding packet-of
+    unfolding packet-of known
     says-copy p f q = rw (p, q)
 
--- a part that is as long as its row says has the row's fields
-pub row-room : (k op n : ℕ) → known-size op ≤ n → k ≡ known-size op → k ≤ n
-row-room k op n h e = rw e h
+    -- a known packet of another size says nothing; one of its own size, and an unknown one, say what stands there
+    pub other-size : (size : ℕ) → size ≡ known-size op → eqb size 0 ≡ false → (length b ≡ size → ⊥) → WrongSize ≡ reading op b
+    unfolding reading wrong-size
+    other-size size is some other = rw (← is, some, ne-eqb size (length b) (λ e. other (sym e)))
 
-pub ruleset knowing = (known-buffer, known-texture, known-destroy, known-dirty, known-copy, known-none, needs)
+    pub own-size : (size : ℕ) → size ≡ known-size op → length b ≡ size → (p : Packet) → p ≡ packet-of op b → Says p ≡ reading op b
+    unfolding reading wrong-size
+    own-size size is own p says = rw (← is, own, eq-eqb size size refl, and-false (not (eqb size 0)), says)
 
-pub ruleset saying = (says-buffer, says-texture, says-destroy, says-dirty, says-copy, says-nothing, row-room, known-buffer, known-texture, known-destroy, known-dirty, known-copy, needs)
+    pub any-size : 0 ≡ known-size op → (p : Packet) → p ≡ packet-of op b → Says p ≡ reading op b
+    unfolding reading wrong-size
+    any-size is p says = rw (← is, says)
+
+pub ruleset reading-part = (
+  other-size,
+  own-size,
+  any-size,
+  says-buffer,
+  says-texture,
+  says-destroy,
+  says-dirty,
+  says-copy,
+  says-nothing,
+  known-buffer,
+  known-texture,
+  known-destroy,
+  known-dirty,
+  known-copy,
+  known-none,
+  needs,
+)
+
+-- ---- what a reading says of the size
+
+module _ (op : ℕ) (b : List ℕ) (x : Reading) (is : x ≡ reading op b) where
+  abbrev by-size : Bool → Reading
+  by-size w = pick w WrongSize (Says (packet-of op b))
+
+  pub size-wrong : x ≡ WrongSize → wrong-size op (length b) ≡ true
+  unfolding reading
+  size-wrong e = by-test (wrong-size op (length b)) (sym is ∙ e)
+    where
+      by-test : (w : Bool) → by-size w ≡ WrongSize → w ≡ true
+      by-test true h = refl
+      by-test false h = absurd (let z : _≡_ {A = ℕ} 0 1 = cc in omega arith)
+
+  module _ (p : Packet) (e : x ≡ Says p) where
+    right : (w : Bool) → by-size w ≡ Says p → (w ≡ false) × (p ≡ packet-of op b)
+    right true h = absurd (let z : _≡_ {A = ℕ} 0 1 = cc in omega arith)
+    right false h = let same : p ≡ packet-of op b = cc in (refl, same)
+
+    pub size-right : (wrong-size op (length b) ≡ false) × (p ≡ packet-of op b)
+    unfolding reading
+    size-right = right (wrong-size op (length b)) (sym is ∙ e)

@@ -1,6 +1,6 @@
--- The frame of a packet: what the framer asks for, and what a whole packet is known by. Assumes nothing.
+-- A packet of the stream: what the reader asks for, and what a whole packet is known by. Assumes nothing.
 use mathlib.Core.Path.{_≡_, refl, sym, _∙_}
-use mathlib.Core.Bool.{Bool, true, false, not, _&&_}
+use mathlib.Core.Bool.{Bool, true, false, not, _&&_, _||_}
 use mathlib.Core.List.{List}
 use mathlib.Core.Logic.{⊎-elim}
 use Prim.Native.Nat.{ℕ, _+_, _-_, _/_, _%_, _≤_, _<_}
@@ -11,18 +11,23 @@ use lib.Dec.{ltb, eqb}
 use lib.ListN.{length, take, drop, length-drop}
 use lib.Seq.{drop-drop, length-take-le}
 use Rattle.rows.specs.Keys.{same-or-not}
-use Rattle.stream_packets.specs.Fields.{knowing, known-none, says-nothing}
+use Rattle.stream_packets.specs.Fields.{reading, known-none, says-nothing, size-wrong, size-right}
 use Rattle.rules.specs.Numbers.{bad-packet}
 use Rattle.rule_laws.specs.Fine.{all-kept}
 use Rattle.rules.specs.Judging.{refusal, rule, _▹_}
 use Rattle.rules.specs.Layouts.{word, packet-header-size}
 use Rattle.rules.specs.Stream.{known-size, wrong-size, frame-rules, framed, frame-of, packet-of}
+use Rattle.rules.specs.declared.Refusal.{Refusal}
 use Rattle.rules.specs.declared.Verdict.{Verdict}
 use Rattle.rules.specs.declared.Verdict.the-variants.{Fine, Broken}
 use Rattle.rules.specs.declared.Packet.{Packet}
 use Rattle.rules.specs.declared.Packet.the-variants.{Unknown}
 use Rattle.rules.specs.declared.Frame.{Frame}
 use Rattle.rules.specs.declared.Frame.the-variants.{Whole, Misframed}
+use Rattle.stream_packets.specs.declared.fields.Reading.{Reading}
+use Rattle.stream_packets.specs.declared.fields.Reading.the-variants.{WrongSize, Says}
+use Rattle.stream_packets.specs.declared.framing.PacketRead.{PacketRead}
+use Rattle.stream_packets.specs.declared.framing.PacketRead.the-variants.{Whole as WholePacket, Misframed as NoPacket}
 
 -- the frame of a packet whose header is there, from the number of bytes left and what the header says
 unfoldable pub frame-by : ℕ → ℕ → ℕ → Frame
@@ -35,75 +40,71 @@ frame-by left op size =
     op
     size
 
--- ---- frame_by
+-- ---- misframed
 
--- rules that break alike: the last is broken, so one is
-one-broken : (a b : Bool) → rule bad-packet a ▹ rule bad-packet b ▹ Broken (refusal bad-packet) ≡ Broken (refusal bad-packet)
-one-broken true b = refl
-one-broken false true = refl
-one-broken false false = refl
+-- a size that no packet has, whatever its opcode, where so many bytes are left
+unfoldable pub misframed : ℕ → ℕ → Bool
+misframed left size = ltb left size || (ltb size packet-header-size || not (eqb (size % 4) 0))
 
-module _ (left op size room : ℕ) (same : room ≡ size) where
-  pub past-end : left < room → Misframed (refusal bad-packet) ≡ frame-by left op size
-  unfolding frame-by
-  past-end h = rw (lt-ltb left size (omega arith), one-broken (ltb size packet-header-size) (not (eqb (size % 4) 0)))
+module _ (left size long : ℕ) (same : long ≡ size) where
+  pub past-end : left < long → true ≡ misframed left size
+  unfolding misframed
+  past-end h = rw (lt-ltb left size (omega arith))
 
-  module _ (s₁ : room ≤ left) where
-    pub small-size : room < packet-header-size → Misframed (refusal bad-packet) ≡ frame-by left op size
-    unfolding frame-by
-    small-size h = rw (lt-ltb size packet-header-size (omega arith))
+  module _ (inside : long ≤ left) where
+    pub small-size : long < packet-header-size → true ≡ misframed left size
+    unfolding misframed
+    small-size h = rw (le-ltb left size (omega arith), lt-ltb size packet-header-size (omega arith))
 
-    module _ (s₂ : packet-header-size ≤ room) where
-      pub odd-size : (size % 4 ≡ 0 → ⊥) → Misframed (refusal bad-packet) ≡ frame-by left op size
-      unfolding frame-by
-      odd-size h = rw (le-ltb size packet-header-size (omega arith), ne-eqb (size % 4) 0 h)
+    pub odd-size : packet-header-size ≤ long → not (eqb (size % 4) 0) ≡ misframed left size
+    unfolding misframed
+    odd-size h = rw (le-ltb left size (omega arith), le-ltb size packet-header-size (omega arith))
 
-      module _ (s₃ : size % 4 ≡ 0) (wrong : Bool) (pw : wrong ≡ wrong-size op size) where
-        by-size : frame-by left op size ≡ framed (rule bad-packet wrong) op size
-        unfolding frame-by
-        by-size = rw (le-ltb size packet-header-size (omega arith), eq-eqb (size % 4) 0 s₃, le-ltb left size (omega arith), pw)
+pub ruleset judging-size = (past-end, small-size, odd-size, needs)
 
-        pub other-size : wrong ≡ true → Misframed (refusal bad-packet) ≡ frame-by left op size
-        other-size h = rw (by-size, h)
+-- the frame, by that test and by the opcode's
+module _ (left op size : ℕ) where
+  by-tests : (a b c w : Bool) → b || (a || c) ≡ true
+      → framed (rule bad-packet a ▹ rule bad-packet c ▹ rule bad-packet b ▹ rule bad-packet w) op size ≡ Misframed (refusal bad-packet)
+  by-tests true b c w h = refl
+  by-tests false b true w h = refl
+  by-tests false true false w h = refl
+  by-tests false false false w h = absurd (let z : _≡_ {A = ℕ} 0 1 = cc in omega arith)
 
-        pub whole : wrong ≡ false → Whole op size ≡ frame-by left op size
-        whole h = rw (by-size, h)
+  pub frame-bad : misframed left size ≡ true → frame-by left op size ≡ Misframed (refusal bad-packet)
+  unfolding misframed frame-by
+  frame-bad h = by-tests (ltb size packet-header-size) (ltb left size) (not (eqb (size % 4) 0)) (wrong-size op size) h
 
-pub ruleset judging-frame = (past-end, small-size, odd-size, other-size, whole, needs)
+  by-none : (a b c w : Bool) → b || (a || c) ≡ false
+      → framed (rule bad-packet a ▹ rule bad-packet c ▹ rule bad-packet b ▹ rule bad-packet w) op size ≡ framed (rule bad-packet w) op size
+  by-none true true c w h = absurd (let z : _≡_ {A = ℕ} 0 1 = cc in omega arith)
+  by-none true false c w h = absurd (let z : _≡_ {A = ℕ} 0 1 = cc in omega arith)
+  by-none false true c w h = absurd (let z : _≡_ {A = ℕ} 0 1 = cc in omega arith)
+  by-none false false true w h = absurd (let z : _≡_ {A = ℕ} 0 1 = cc in omega arith)
+  by-none false false false w h = refl
 
--- ---- frame_at
+  pub frame-rest : misframed left size ≡ false → frame-by left op size ≡ framed (rule bad-packet (wrong-size op size)) op size
+  unfolding misframed frame-by
+  frame-rest h = by-none (ltb size packet-header-size) (ltb left size) (not (eqb (size % 4) 0)) (wrong-size op size) h
+
+  inside-of : (b c : Bool) → b || c ≡ false → b ≡ false
+  inside-of true c h = h
+  inside-of false c h = refl
+
+  pub frame-inside : misframed left size ≡ false → size ≤ left
+  unfolding misframed
+  frame-inside h = ltb-false left size (inside-of (ltb left size) _ h)
+
+-- ---- the frame of a packet whose header is there
 
 module _ (m : List ℕ) (at : ℕ) where
-  few : length m - at < packet-header-size → Misframed (refusal bad-packet) ≡ frame-of (drop at m)
+  few : length m - at < packet-header-size → frame-of (drop at m) ≡ Misframed (refusal bad-packet)
   unfolding frame-of frame-rules
   few h = rw (length-drop, lt-ltb (length m - at) packet-header-size h)
 
-  pub short-stream : length m < packet-header-size → Misframed (refusal bad-packet) ≡ frame-of (drop at m)
-  short-stream h = few (omega arith)
-
-  module _ (long : packet-header-size ≤ length m) where
-    pub last-bytes : length m - packet-header-size < at → Misframed (refusal bad-packet) ≡ frame-of (drop at m)
-    last-bytes h = few (omega arith)
-
-    pub frame-read : (op size : ℕ) (f : Frame) → at ≤ length m - packet-header-size → op ≡ word m at → size ≡ word m (at + 4)
-        → f ≡ frame-by (length m - at) op size → f ≡ frame-of (drop at m)
-    unfolding frame-of frame-rules frame-by
-    frame-read op size f h po ps e = e ∙ rw (length-drop, le-ltb (length m - at) packet-header-size (omega arith), drop-drop, ps, po)
-
-pub ruleset framing-packets = (short-stream, last-bytes, frame-read, needs)
-
--- ---- wrong_size
-
-module _ (op size : ℕ) where
-  pub unknown-right : 0 ≡ known-size op → false ≡ wrong-size op size
-  unfolding wrong-size
-  unknown-right h = rw (← h)
-
-  pub known-right : (known : ℕ) → known ≡ known-size op → eqb known 0 ≡ false → not (eqb known size) ≡ wrong-size op size
-  unfolding wrong-size
-  known-right known h some = rw (← h, some)
-
-pub ruleset sizing = (unknown-right, known-right, knowing)
+  frame-read : (op size : ℕ) → packet-header-size ≤ length m - at → op ≡ word m at → size ≡ word m (at + 4) → frame-of (drop at m) ≡ frame-by (length m - at) op size
+  unfolding frame-of frame-rules frame-by
+  frame-read op size h po ps = rw (length-drop, le-ltb (length m - at) packet-header-size h, drop-drop, ps, po)
 
 -- ---- what a whole packet is known by
 
@@ -157,45 +158,89 @@ frame-sound b op size e =
 pub part-is : (at size : ℕ) (m : List ℕ) → take (at + size - at) (drop at m) ≡ take size (drop at m)
 part-is at size m = let n : at + size - at ≡ size = omega arith in rw n
 
-module _ (m : List ℕ) (at op size room : ℕ) (whole : frame-of (drop at m) ≡ Whole op size) (same : room ≡ size) where
-  -- a whole packet ends within the stream
-  pub part-room : at + room ≤ length m
-  part-room =
-      let s = frame-sound (drop at m) op size whole in
-      let in-left : size ≤ length m - at = rw length-drop at (s .inside) in
-      let some : 8 ≤ size = s .header in
-      omega arith
+-- what the packet that some bytes begin with says
+abbrev pub packet-in : Frame → List ℕ → PacketRead
+packet-in (Whole op size) b = WholePacket size (packet-of op (take size b))
+packet-in (Misframed r) b = NoPacket r
 
-  module _ (p : List ℕ) (own : p ≡ take room (drop at m)) where
-    pub part-known : known-size op ≤ length p
-    part-known =
-        let s = frame-sound (drop at m) op size whole in
-        let len : length p ≡ room = rw own (length-take-le room (drop at m) (rw same (s .inside))) in
-        omega (arith, s .known)
+unfoldable pub packetAt : List ℕ → PacketRead
+packetAt b = packet-in (frame-of b) b
 
-    pub says-framed : (r : Packet) → r ≡ packet-of op p → r ≡ packet-of op (take size (drop at m))
-    says-framed r h = rw (h, own, same)
+module _ (m : List ℕ) (at : ℕ) where
+  no-packet : (r : Refusal) → frame-of (drop at m) ≡ Misframed r → NoPacket r ≡ packetAt (drop at m)
+  unfolding packetAt
+  no-packet r h = rw h
 
-pub ruleset packet-reading = (part-is, part-room, part-known, says-framed, needs)
+  pub short-stream : length m < packet-header-size → NoPacket (refusal bad-packet) ≡ packetAt (drop at m)
+  short-stream h = no-packet (refusal bad-packet) (few m at (omega arith))
 
--- ---- a loop over packets, from what frame_at says and the match on it
+  module _ (long : packet-header-size ≤ length m) where
+    pub last-bytes : length m - packet-header-size < at → NoPacket (refusal bad-packet) ≡ packetAt (drop at m)
+    last-bytes h = no-packet (refusal bad-packet) (few m at (omega arith))
 
-module _ (m : List ℕ) (at op size : ℕ) (f : Frame) (said : f ≡ frame-of (drop at m)) (met : f ≡ Whole op size) where
-  pub is-whole : frame-of (drop at m) ≡ Whole op size
-  is-whole = sym said ∙ met
+    module _ (here : at ≤ length m - packet-header-size) (op size : ℕ) (po : op ≡ word m at) (ps : size ≡ word m (at + 4)) (bad : Bool)
+        (is : bad ≡ misframed (length m - at) size) where
+      header : frame-of (drop at m) ≡ frame-by (length m - at) op size
+      header = frame-read m at op size (omega arith) po ps
 
-  module _ (room : ℕ) (same : room ≡ size) where
-    pub next-inside : at + room ≤ length m
-    next-inside = part-room m at op size room is-whole same
+      pub bad-size : bad ≡ true → NoPacket (refusal bad-packet) ≡ packetAt (drop at m)
+      bad-size h = no-packet (refusal bad-packet) (header ∙ frame-bad (length m - at) op size (sym is ∙ h))
 
-    -- each packet brings the end nearer
-    pub next-nearer : length m - (at + room) < length m - at
-    next-nearer =
-        let head : packet-header-size ≤ size = frame-sound (drop at m) op size is-whole .header in
-        let inside : at + room ≤ length m = next-inside in
-        omega arith
+      module _ (good : bad ≡ false) (room : ℕ) (same : room ≡ size) where
+        inside : size ≤ length m - at
+        inside = frame-inside (length m - at) op size (sym is ∙ good)
 
-pub ruleset going-on = (is-whole, next-inside, next-nearer, needs)
+        pub part-room : at + room ≤ length m
+        part-room = omega (arith, inside)
+
+        module _ (p : List ℕ) (own : p ≡ take room (drop at m)) (x : Reading) (says : x ≡ reading op p) where
+          long-as : length p ≡ size
+          long-as = rw own (length-take-le room (drop at m) (rw length-drop (omega (arith, inside)))) ∙ same
+
+          frame : frame-of (drop at m) ≡ framed (rule bad-packet (wrong-size op size)) op size
+          frame = header ∙ frame-rest (length m - at) op size (sym is ∙ good)
+
+          pub wrong-known : x ≡ WrongSize → NoPacket (refusal bad-packet) ≡ packetAt (drop at m)
+          wrong-known h =
+              let wrong : wrong-size op size ≡ true = rw long-as at (size-wrong op p x says h) in
+              no-packet (refusal bad-packet) (rw wrong at frame)
+
+          pub whole-packet : (k : Packet) → x ≡ Says k → WholePacket size k ≡ packetAt (drop at m)
+          unfolding packetAt
+          whole-packet k h =
+              let r : (wrong-size op (length p) ≡ false) × (k ≡ packet-of op p) = size-right op p x says k h in
+              let right : wrong-size op size ≡ false = rw long-as at (r .0) in
+              let whole : frame-of (drop at m) ≡ Whole op size = rw right at frame in
+              rw (whole, r .1, own, same)
+
+pub ruleset packet-reading = (part-is, short-stream, last-bytes, bad-size, part-room, wrong-known, whole-packet, needs)
+
+-- ---- what a packet that was read says of the frame
+
+module _ (b : List ℕ) where
+  pub record WasWhole (size : ℕ) (k : Packet) : Type 0 where
+    pub opcode : ℕ
+    pub frame : frame-of b ≡ Whole opcode size
+    pub says : k ≡ packet-of opcode (take size b)
+
+  by-whole : (f : Frame) → frame-of b ≡ f → (size : ℕ) (k : Packet) → packet-in f b ≡ WholePacket size k → WasWhole size k
+  by-whole (Whole op n) e size k h =
+      let same : n ≡ size = cc in
+      let is : packet-of op (take n b) ≡ k = cc in
+      record { opcode = op; frame = rw same at e; says = rw same at (sym is) }
+  by-whole (Misframed r) e size k h = absurd (let z : _≡_ {A = ℕ} 0 1 = cc in omega arith)
+
+  pub was-whole : (x : PacketRead) → x ≡ packetAt b → (size : ℕ) (k : Packet) → x ≡ WholePacket size k → WasWhole size k
+  unfolding packetAt
+  was-whole x is size k e = by-whole (frame-of b) refl size k (sym is ∙ e)
+
+  by-bad : (f : Frame) (r : Refusal) → packet-in f b ≡ NoPacket r → f ≡ Misframed r
+  by-bad (Whole op n) r h = absurd (let z : _≡_ {A = ℕ} 0 1 = cc in omega arith)
+  by-bad (Misframed q) r h = let same : q ≡ r = cc in rw same
+
+  pub was-misframed : (x : PacketRead) → x ≡ packetAt b → (r : Refusal) → x ≡ NoPacket r → frame-of b ≡ Misframed r
+  unfolding packetAt
+  was-misframed x is r e = by-bad (frame-of b) r (sym is ∙ e)
 
 -- ---- unknown_size
 
@@ -215,12 +260,13 @@ module _ (b : List ℕ) (at room : ℕ) where
     not-that k h e = other (rw e h)
 
     pub passes : Passed b at room long
+    unfolding misframed wrong-size
     passes =
-        let right : false ≡ wrong-size op size = unknown-right op size (known-none op (not-that _ refl) (not-that _ refl) (not-that _ refl) (not-that _ refl) (not-that _ refl)) in
-        let by : Whole op size ≡ frame-by (length b - at) op size = whole (length b - at) op size long same (omega arith) head fours false right refl in
-        let is : Whole op size ≡ frame-of (drop at b) = frame-read b at (omega arith) op size (Whole op size) (omega arith) po ps by in
+        let none : 0 ≡ known-size op = known-none op (not-that _ refl) (not-that _ refl) (not-that _ refl) (not-that _ refl) (not-that _ refl) in
+        let fits : misframed (length b - at) size ≡ false = rw (le-ltb (length b - at) size (omega arith), le-ltb size packet-header-size (omega arith), eq-eqb (size % 4) 0 fours) in
+        let is : frame-of (drop at b) ≡ framed (rule bad-packet (wrong-size op size)) op size = frame-read b at op size (omega arith) po ps ∙ frame-rest (length b - at) op size fits in
         record {
-          whole = λ _. sym is ∙ rw (po, same);
+          whole = λ _. is ∙ rw (← none, po, same);
           nothing = λ _. rw (← po) (says-nothing op (not-that _ refl) (not-that _ refl) (not-that _ refl) (not-that _ refl) (not-that _ refl) (take long (drop at b)));
           within = λ _. below;
         }

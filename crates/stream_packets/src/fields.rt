@@ -1,10 +1,10 @@
-// What each packet says: the fields of its own part, each read once.
-// A part is at least as long as the table of opcodes says.
+// The table of opcodes, and what each packet says: the fields of its own part, each read once.
 ghost use mathlib.Core.Path.{_≡_};
 ghost use Prim.Native.Nat.{_≤_};
 ghost use lib.ListN.{length};
+ghost use Rattle.rules.specs.Numbers.{create-buffer-size, create-texture-size, destroy-size, dirty-range-size, copy-buffer-size};
 ghost use Rattle.rules.specs.Layouts.{buffer-fields, texture-fields, destroy-fields, dirty-fields, copy-fields};
-ghost use Rattle.rules.specs.Stream.{known-size, packet-of};
+ghost use Rattle.stream_packets.specs.Fields.{reading};
 use rules::CopyBuffer;
 use rules::CreateBuffer;
 use rules::CreateTexture;
@@ -20,8 +20,19 @@ use rules::numbers::DIRTY_RANGE;
 use words::u32_at;
 use words::u64_at;
 
+// The bytes of each packet that we know.
+const CREATE_BUFFER_SIZE: usize = rules::numbers::CREATE_BUFFER_SIZE as usize;
+
+const CREATE_TEXTURE_SIZE: usize = rules::numbers::CREATE_TEXTURE_SIZE as usize;
+
+const DESTROY_SIZE: usize = rules::numbers::DESTROY_SIZE as usize;
+
+const DIRTY_RANGE_SIZE: usize = rules::numbers::DIRTY_RANGE_SIZE as usize;
+
+const COPY_BUFFER_SIZE: usize = rules::numbers::COPY_BUFFER_SIZE as usize;
+
 fn buffer_fields(part: &[u8]) -> CreateBuffer
-    requires { ⌜ 40 ≤ length (now part) ⌝ }
+    requires { ⌜ create-buffer-size ≤ length (now part) ⌝ }
     ensures { λ r. ⌜ r ≡ buffer-fields (now (part .entry)) ⌝ }
 {
     CreateBuffer {
@@ -33,7 +44,7 @@ fn buffer_fields(part: &[u8]) -> CreateBuffer
 }
 
 fn texture_shape(part: &[u8]) -> Shape
-    requires { ⌜ 56 ≤ length (now part) ⌝ }
+    requires { ⌜ create-texture-size ≤ length (now part) ⌝ }
     ensures { λ r. ⌜ r ≡ texture-fields (now (part .entry)) .shape ⌝ }
 {
     Shape {
@@ -46,7 +57,7 @@ fn texture_shape(part: &[u8]) -> Shape
 }
 
 fn texture_fields(part: &[u8]) -> CreateTexture
-    requires { ⌜ 56 ≤ length (now part) ⌝ }
+    requires { ⌜ create-texture-size ≤ length (now part) ⌝ }
     ensures { λ r. ⌜ r ≡ texture-fields (now (part .entry)) ⌝ }
 {
     CreateTexture {
@@ -59,7 +70,7 @@ fn texture_fields(part: &[u8]) -> CreateTexture
 }
 
 fn destroy_fields(part: &[u8]) -> DestroyResource
-    requires { ⌜ 16 ≤ length (now part) ⌝ }
+    requires { ⌜ destroy-size ≤ length (now part) ⌝ }
     ensures { λ r. ⌜ r ≡ destroy-fields (now (part .entry)) ⌝ }
 {
     DestroyResource {
@@ -68,7 +79,7 @@ fn destroy_fields(part: &[u8]) -> DestroyResource
 }
 
 fn dirty_fields(part: &[u8]) -> DirtyRange
-    requires { ⌜ 32 ≤ length (now part) ⌝ }
+    requires { ⌜ dirty-range-size ≤ length (now part) ⌝ }
     ensures { λ r. ⌜ r ≡ dirty-fields (now (part .entry)) ⌝ }
 {
     DirtyRange {
@@ -79,7 +90,7 @@ fn dirty_fields(part: &[u8]) -> DirtyRange
 }
 
 fn copy_fields(part: &[u8]) -> CopyBuffer
-    requires { ⌜ 48 ≤ length (now part) ⌝ }
+    requires { ⌜ copy-buffer-size ≤ length (now part) ⌝ }
     ensures { λ r. ⌜ r ≡ copy-fields (now (part .entry)) ⌝ }
 {
     CopyBuffer {
@@ -92,17 +103,49 @@ fn copy_fields(part: &[u8]) -> CopyBuffer
     }
 }
 
-// What a packet with an opcode says, from its own part. One whose opcode we do not know says nothing.
-pub fn packet_from(op: u32, part: &[u8]) -> Packet
-    requires { ⌜ known-size op ≤ length (now part) ⌝ }
-    ensures { λ r. ⌜ r ≡ packet-of op (now (part .entry)) ⌝ }
+// What a packet says: nothing, if we know its opcode and it has another size than its own.
+pub enum Reading {
+    WrongSize,
+    Says(Packet),
+}
+
+// The table of opcodes: what a packet with an opcode says, from its own part of the stream. One whose opcode we do not know is skipped,
+// whatever its size.
+pub fn read_part(op: u32, part: &[u8]) -> Reading
+    ensures { λ r. ⌜ r ≡ reading op (now (part .entry)) ⌝ }
 {
+    let size = part.len();
     match op {
-        CREATE_BUFFER => Packet::Buffer(buffer_fields(part)),
-        CREATE_TEXTURE => Packet::Texture(texture_fields(part)),
-        DESTROY => Packet::Destroy(destroy_fields(part)),
-        DIRTY_RANGE => Packet::Dirty(dirty_fields(part)),
-        COPY_BUFFER => Packet::Copy(copy_fields(part)),
-        _ => Packet::Unknown,
+        CREATE_BUFFER => {
+            if size != CREATE_BUFFER_SIZE {
+                return Reading::WrongSize;
+            }
+            Reading::Says(Packet::Buffer(buffer_fields(part)))
+        }
+        CREATE_TEXTURE => {
+            if size != CREATE_TEXTURE_SIZE {
+                return Reading::WrongSize;
+            }
+            Reading::Says(Packet::Texture(texture_fields(part)))
+        }
+        DESTROY => {
+            if size != DESTROY_SIZE {
+                return Reading::WrongSize;
+            }
+            Reading::Says(Packet::Destroy(destroy_fields(part)))
+        }
+        DIRTY_RANGE => {
+            if size != DIRTY_RANGE_SIZE {
+                return Reading::WrongSize;
+            }
+            Reading::Says(Packet::Dirty(dirty_fields(part)))
+        }
+        COPY_BUFFER => {
+            if size != COPY_BUFFER_SIZE {
+                return Reading::WrongSize;
+            }
+            Reading::Says(Packet::Copy(copy_fields(part)))
+        }
+        _ => Reading::Says(Packet::Unknown),
     }
 }

@@ -1,19 +1,20 @@
-use Rattle.run_packets.specs.Playing.{stepping-packet}
+-- `step_packet` meets its contract. Assumes nothing.
 use borrow.Author.Needs.{needs}
+use Rattle.run_packets.specs.Playing.{stepping-packet}
 use Rattle.run_packets.proofs.step_packet.Statement.{statement}
 use Rattle.run_packets.proofs.step_packet.Tie as tie
 
-frame-at-requires : tie.Need-frame-at-requires
-frame-at-requires c κs = search needs
+packet-at-requires : tie.Need-packet-at-requires
+packet-at-requires c κs = search needs
 
 enum-known-why : tie.Need-enum-known-why
 enum-known-why c = search needs
 
-enum-known-op : tie.Need-enum-known-op
-enum-known-op c = search needs
+enum-known-size : tie.Need-enum-known-size
+enum-known-size c = search needs
 
 take-packet-requires : tie.Need-take-packet-requires
-take-packet-requires c κs = search stepping-packet
+take-packet-requires c κs = search needs
 
 u32-to-usize-requires : tie.Need-u32-to-usize-requires
 u32-to-usize-requires c κs = search needs
@@ -34,9 +35,9 @@ pub step-packet-spec : {M : Type 1} → statement M
 step-packet-spec =
     tie.close
     (tie.spec
-    frame-at-requires
+    packet-at-requires
     enum-known-why
-    enum-known-op
+    enum-known-size
     take-packet-requires
     u32-to-usize-requires
     add-place-after
