@@ -10,3 +10,4 @@ pub mod Memory
 pub mod InMemory
 pub mod AnyRegisters
 pub mod Night
+pub mod Called
