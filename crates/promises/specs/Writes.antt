@@ -1,5 +1,6 @@
--- What a register write does to what is in work: nothing, unless it resets, and then it drops all. Assumes nothing.
-use mathlib.Core.Path.{_≡_, refl, subst}
+-- What a register write does: it changes registers alone, and of those neither the completed fence nor the error, unless it resets;
+-- a reset is exactly the rules' `reset`. Assumes nothing.
+use mathlib.Core.Path.{_≡_, refl, sym, subst}
 use mathlib.Core.Bool.{Bool, true, false, _&&_}
 use mathlib.Core.List.{List, [], _∷_}
 use Prim.Native.Nat.{ℕ, _≤_}
@@ -10,8 +11,7 @@ use Rattle.machine.specs.Machine.{pick}
 use Rattle.rules.specs.Lists.{Found, lookup}
 use Rattle.rules.specs.Lists.Found.{none, found}
 use Rattle.rules.specs.State.{State, with-regs}
-use Rattle.rules.specs.State.Work.{resting}
-use Rattle.rules.specs.Registers.{Write, with-enabled, bit-of, reset-registers, reset, controlled, writable, write-offset, write-of}
+use Rattle.rules.specs.Registers.{Write, with-enabled, bit-of, reset, controlled, writable, write-offset, write-of}
 use Rattle.rules.specs.Calls.{wrote, call-write}
 use Rattle.rules.specs.declared.Registers.{Registers}
 use Rattle.packet_apply.specs.Held.{Every}
@@ -20,18 +20,18 @@ use Rattle.packet_apply.specs.Held.{Every}
 abbrev pub resets : ℕ → ℕ → Bool
 resets offset v = eqb offset 0x10c && bit-of 1 v
 
--- registers alone have changed, or it was a reset and nothing is left
+-- a write that is no reset changes registers alone, and keeps the completed fence and the error; one that is gives what `reset` gives
 pub data Written (s : State) (offset v : ℕ) : State → Type 0 where
-  keeps : (r : Registers) → Written s offset v (with-regs r s)
-  drops : (r : Registers) → resets offset v ≡ true → Written s offset v (record { memory = s .memory; regs = r; resources = []; work = resting })
+  keeps : (r : Registers) → resets offset v ≡ false → r .completed ≡ s .regs .completed → r .error ≡ s .regs .error → Written s offset v (with-regs r s)
+  drops : resets offset v ≡ true → Written s offset v (reset (bit-of 0 v) s)
 
 control-written : (s : State) (v : ℕ) → Written s 0x10c v (controlled v s)
-unfolding controlled reset
+unfolding controlled
 control-written s v = by-bit (bit-of 1 v) refl
   where
     by-bit : (b : Bool) → bit-of 1 v ≡ b → Written s 0x10c v (pick b (reset (bit-of 0 v) s) (with-regs (with-enabled (bit-of 0 v) (s .regs)) s))
-    by-bit true h = drops (reset-registers (bit-of 0 v) (s .regs)) h
-    by-bit false h = keeps (with-enabled (bit-of 0 v) (s .regs))
+    by-bit true h = drops h
+    by-bit false h = keeps (with-enabled (bit-of 0 v) (s .regs)) h refl refl
 
 abbrev WrittenBy : State → ℕ → Write → Type 0
 WrittenBy s v x = Written s (x .offset) v (x .state)
@@ -51,17 +51,46 @@ lookup-written s offset v (x ∷ xs) h = by-test (eqb (x .offset) offset) refl (
 
 all-written : (s : State) (v : ℕ) → Every (WrittenBy s v) (writable s v)
 unfolding Every
-all-written s v = (keeps _, (keeps _, (keeps _, (control-written s v, (keeps _, (keeps _, (keeps _, (keeps _, (keeps _, omega arith)))))))))
+all-written s v = (keeps _ refl refl refl, (keeps _ refl refl refl, (keeps _ refl refl refl, (control-written s v, (keeps _ refl refl refl, (keeps _ refl refl refl, (keeps _ refl refl refl, (keeps _ refl refl refl, (keeps _ refl refl refl, omega arith)))))))))
 
 pub write-keeps-or-drops : (s : State) (offset v : ℕ) → Written s offset v (call-write s offset v .state)
-unfolding call-write write-of
-write-keeps-or-drops s offset v = by-found (write-of s offset v) (lookup-written s offset v (writable s v) (all-written s v))
+unfolding call-write write-of lookup
+write-keeps-or-drops s offset v = by-control (eqb offset 0x10c) refl
   where
-    by-found : (f : Found Write) → FoundWritten s offset v f → Written s offset v (wrote s f .state)
-    by-found none k = keeps (s .regs)
-    by-found (found x) k = k
+    by-found : (f : Found Write) → resets offset v ≡ false → FoundWritten s offset v f → Written s offset v (wrote s f .state)
+    by-found none n k = keeps (s .regs) n refl refl
+    by-found (found x) n k = k
+
+    by-control : (b : Bool) → eqb offset 0x10c ≡ b → Written s offset v (call-write s offset v .state)
+    by-control true e = subst (λ o. Written s o v (call-write s o v .state)) (sym (eqb-true offset 0x10c e)) (control-written s v)
+    by-control false e = by-found (write-of s offset v) (rw e) (lookup-written s offset v (writable s v) (all-written s v))
 
 -- a write that is no reset leaves what is in work, and every resource
 pub write-keeps-work : (s s′ : State) (offset v : ℕ) → resets offset v ≡ false → Written s offset v s′ → (s′ .work ≡ s .work) × (s′ .resources ≡ s .resources)
-write-keeps-work s s′ offset v n (keeps r) = (refl, refl)
-write-keeps-work s s′ offset v n (drops r h) = absurd (let z : _≡_ {A = ℕ} 0 1 = cc in omega arith)
+write-keeps-work s s′ offset v n (keeps r h c e) = (refl, refl)
+write-keeps-work s s′ offset v n (drops h) = absurd (let z : _≡_ {A = ℕ} 0 1 = cc in omega arith)
+
+-- ---- by the test alone
+
+module _ (s : State) (offset v : ℕ) where
+  keeps-by : resets offset v ≡ false → (s′ : State) → Written s offset v s′
+      → (s′ ≡ with-regs (s′ .regs) s) × ((s′ .regs .completed ≡ s .regs .completed) × (s′ .regs .error ≡ s .regs .error))
+  keeps-by n s′ (keeps r h c e) = (refl, (c, e))
+  keeps-by n s′ (drops h) = absurd (let z : _≡_ {A = ℕ} 0 1 = cc in omega arith)
+
+  drops-by : resets offset v ≡ true → (s′ : State) → Written s offset v s′ → s′ ≡ reset (bit-of 0 v) s
+  drops-by y s′ (keeps r h c e) = absurd (let z : _≡_ {A = ℕ} 0 1 = cc in omega arith)
+  drops-by y s′ (drops h) = refl
+
+  -- a write that is no reset leaves all but the registers
+  pub write-changes-registers-alone : resets offset v ≡ false → call-write s offset v .state ≡ with-regs (call-write s offset v .state .regs) s
+  write-changes-registers-alone n = keeps-by n _ (write-keeps-or-drops s offset v) .0
+
+  -- and, of the registers, the completed fence and the error's code, fence and count
+  pub write-keeps-completed-and-error : resets offset v ≡ false
+      → (call-write s offset v .state .regs .completed ≡ s .regs .completed) × (call-write s offset v .state .regs .error ≡ s .regs .error)
+  write-keeps-completed-and-error n = keeps-by n _ (write-keeps-or-drops s offset v) .1
+
+  -- a reset is the rules' `reset`, with the bit that enables taken from the same write
+  pub reset-drops : resets offset v ≡ true → call-write s offset v .state ≡ reset (bit-of 0 v) s
+  reset-drops y = drops-by y _ (write-keeps-or-drops s offset v)
