@@ -1,6 +1,6 @@
 -- What a register write does: it changes registers alone, and of those neither the completed fence nor the error, unless it resets;
 -- a reset is exactly the rules' `reset`. Assumes nothing.
-use mathlib.Core.Path.{_≡_, refl, sym, subst}
+use mathlib.Core.Path.{_≡_, refl, sym, ap, subst, _∙_}
 use mathlib.Core.Bool.{Bool, true, false, _&&_}
 use mathlib.Core.List.{List, [], _∷_}
 use Prim.Native.Nat.{ℕ, _≤_}
@@ -10,7 +10,7 @@ use lib.Dec.{eqb}
 use Rattle.machine.specs.Machine.{pick}
 use Rattle.rules.specs.Lists.{Found, lookup}
 use Rattle.rules.specs.Lists.Found.{none, found}
-use Rattle.rules.specs.State.{State, with-regs}
+use Rattle.rules.specs.State.{State, made, with-regs}
 use Rattle.rules.specs.Registers.{Write, with-enabled, bit-of, reset, controlled, writable, write-offset, write-of}
 use Rattle.rules.specs.Calls.{wrote, call-write}
 use Rattle.rules.specs.declared.Registers.{Registers}
@@ -94,3 +94,50 @@ module _ (s : State) (offset v : ℕ) where
   -- a reset is the rules' `reset`, with the bit that enables taken from the same write
   pub reset-drops : resets offset v ≡ true → call-write s offset v .state ≡ reset (bit-of 0 v) s
   reset-drops y = drops-by y _ (write-keeps-or-drops s offset v)
+
+-- ---- what a write makes of the registers
+
+-- the same on every device: what else is in the state plays no part
+abbrev pub registers-written : ℕ → ℕ → Registers → Registers
+registers-written offset v r = call-write (with-regs r (made 0)) offset v .state .regs
+
+-- two lists of writes that give the same registers at the same offsets
+unfoldable Alike : List Write → List Write → Type 0
+Alike [] [] = 0 ≤ 0
+Alike [] (y ∷ ys) = ⊥
+Alike (x ∷ xs) [] = ⊥
+Alike (x ∷ xs) (y ∷ ys) = (x .offset ≡ y .offset) × ((x .state .regs ≡ y .state .regs) × Alike xs ys)
+
+module _ (s t : State) (same : s .regs ≡ t .regs) (offset : ℕ) where
+  lookup-alike : (xs ys : List Write) → Alike xs ys → wrote s (lookup write-offset offset xs) .state .regs ≡ wrote t (lookup write-offset offset ys) .state .regs
+  unfolding lookup Alike
+  lookup-alike [] [] h = same
+  lookup-alike [] (y ∷ ys) h = absurd h
+  lookup-alike (x ∷ xs) [] h = absurd h
+  lookup-alike (x ∷ xs) (y ∷ ys) h =
+      ap (λ at. wrote s (pick (eqb at offset) (found x) (lookup write-offset offset xs)) .state .regs) (h .0)
+      ∙ by-test (eqb (y .offset) offset) (lookup-alike xs ys (h .1 .1))
+    where
+      by-test : (b : Bool) → wrote s (lookup write-offset offset xs) .state .regs ≡ wrote t (lookup write-offset offset ys) .state .regs
+          → wrote s (pick b (found x) (lookup write-offset offset xs)) .state .regs ≡ wrote t (pick b (found y) (lookup write-offset offset ys)) .state .regs
+      by-test true k = h .1 .0
+      by-test false k = k
+
+control-alike : (s : State) (v : ℕ) → controlled v s .regs ≡ controlled v (with-regs (s .regs) (made 0)) .regs
+unfolding controlled reset
+control-alike s v = by-bit (bit-of 1 v)
+  where
+    by-bit : (b : Bool) → pick b (reset (bit-of 0 v) s) (with-regs (with-enabled (bit-of 0 v) (s .regs)) s) .regs
+        ≡ pick b (reset (bit-of 0 v) (with-regs (s .regs) (made 0))) (with-regs (with-enabled (bit-of 0 v) (s .regs)) (made 0)) .regs
+    by-bit true = refl
+    by-bit false = refl
+
+same-written : (s : State) (offset v : ℕ) → call-write s offset v .state .regs ≡ registers-written offset v (s .regs)
+unfolding call-write write-of Alike
+same-written s offset v =
+    lookup-alike s (with-regs (s .regs) (made 0)) refl offset (writable s v) (writable (with-regs (s .regs) (made 0)) v)
+    (refl, (refl, (refl, (refl, (refl, (refl, (refl, (control-alike s v, (refl, (refl, (refl, (refl, (refl, (refl, (refl, (refl, (refl, (refl, omega arith))))))))))))))))))
+
+-- a write that is no reset is its registers, in whatever state
+pub write-is-by-registers : (s : State) (offset v : ℕ) → resets offset v ≡ false → call-write s offset v .state ≡ with-regs (registers-written offset v (s .regs)) s
+write-is-by-registers s offset v n = write-changes-registers-alone s offset v n ∙ ap (λ (r : Registers). with-regs r s) (same-written s offset v)
