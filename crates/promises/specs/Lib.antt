@@ -12,3 +12,4 @@ pub mod AnyRegisters
 pub mod Night
 pub mod Called
 pub mod Runs
+pub mod Acts

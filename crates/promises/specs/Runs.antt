@@ -20,7 +20,7 @@ module _ (P : Ran → Type 0) (w : World) (n : ℕ) where
   by-lent true e p q = p e
   by-lent false e p q = q e
 
-  of-run : (lent-another w ≡ true → P (record { answer = other-memory; units = 0; ended = Idle; world = w }))
+  pub of-run : (lent-another w ≡ true → P (record { answer = other-memory; units = 0; ended = Idle; world = w }))
       → (lent-another w ≡ false → P (ran (run-for n w))) → P (call-run w n)
   unfolding call-run
   of-run p q = by-lent (lent-another w) refl p q
