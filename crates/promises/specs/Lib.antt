@@ -13,3 +13,5 @@ pub mod Night
 pub mod Called
 pub mod Runs
 pub mod Acts
+pub mod Chains
+pub mod ChainsStand
