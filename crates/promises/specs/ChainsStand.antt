@@ -1,35 +1,21 @@
 -- Demands 2 and 3, of calls with register writes: from any world, whatever is in work there, calls of which none resets stand where the
 -- unsliced rules say, or some units into a submission. Assumes nothing.
 use mathlib.Core.Path.{_≡_, refl, sym, ap, subst, _∙_}
-use mathlib.Core.Bool.{Bool, true, false, _&&_}
+use mathlib.Core.Bool.{Bool, true, false}
 use mathlib.Core.List.{List, [], _∷_, _++_, append-assoc, append-nil}
-use Prim.Native.Nat.{ℕ, zero, suc, _+_, _≤_, _<_}
+use Prim.Native.Nat.{ℕ, suc, _+_, _<_}
 use native.Mathlib.Omega.{arith}
-use native.Mathlib.Numerals.{one-add}
-use borrow.Author.Tests.{ltb-false, ltb-true}
-use lib.Dec.{ltb}
-use Rattle.machine.specs.Machine.{Out, spent, run-none, run-go}
+use native.Mathlib.Nat.{add-assoc}
+use Rattle.machine.specs.Machine.{Out}
 use Rattle.rules.specs.Ring.{opening-of}
-use Rattle.rules.specs.Table.{entries-of, take-entry}
-use Rattle.rules.specs.Stream.{left}
-use Rattle.rules.specs.Packets.{Holdings, at-first, take-packet}
 use Rattle.rules.specs.State.{Work, World, working, registering}
 use Rattle.rules.specs.State.Work.{resting, entries, packets, waiting}
 use Rattle.rules.specs.Settle.{settled}
-use Rattle.rules.specs.Steps.{busy, entries-at, after-opening, open-step, after-entry, entry-step, after-packet, next-place, packet-step, step-on, step, go, run-for, waits-on, waits, answer-on, answered}
-use Rattle.rules.specs.Unsliced.{submission as submission-of, finished, submitted-on, submitted}
-use Rattle.rules.specs.declared.Entry.{Entry}
-use Rattle.rules.specs.declared.Job.{Job}
+use Rattle.rules.specs.Steps.{step, go, waits-on, answer-on, answered}
+use Rattle.rules.specs.Unsliced.{submitted}
 use Rattle.rules.specs.declared.Registers.{Registers}
-use Rattle.rules.specs.declared.Stream.{Stream}
-use Rattle.rules.specs.declared.Opened.{Opened}
-use Rattle.rules.specs.declared.Verdict.{Verdict}
-use Rattle.rules.specs.declared.Verdict.the-variants.{Fine, Broken}
-use Rattle.rules.specs.declared.Opening.{Opening}
-use Rattle.rules.specs.declared.Opening.the-variants.{BadRing, NoWork, Refused, Started}
 use Rattle.rule_laws.specs.Fine.{both-left}
-use Rattle.promises.specs.Whole.{midst, Course, course-none, course-join}
-use Rattle.promises.specs.Submission.{LiesOn, opening-lies, later-units, course-started, submission-units, Submits, submits, table-judged, packets-judged}
+use Rattle.promises.specs.Whole.{midst, Course, course-none}
 use Rattle.promises.specs.Slices.{waiting-stands-still}
 use Rattle.promises.specs.Writes.{resets, registers-written}
 use Rattle.promises.specs.Night.{Clear}
@@ -37,145 +23,13 @@ use Rattle.promises.specs.Called.{Call, after-all, units-of-all, taken-b
 use Rattle.promises.specs.Acts.{Act, acts-of-all, units-in, answers-in, registers-after, units-in-both, answers-in-both, acts-units, acts-answers, Led, NoReset, calls-lead}
 use Rattle.promises.specs.Acts.Act.{unit, write, answer}
 use Rattle.promises.specs.Acts.Led.{stays, spends, writes-one, takes}
+use Rattle.promises.specs.Courses.{clash, unit-alone, course-one, course-next, course-unique, course-shorter, Opens, opens, opening-ends}
 use Rattle.promises.specs.Chains.{submitted-under, Span, Into, Rest, Served, Next, Stands, counted, given}
 use Rattle.promises.specs.Chains.Span.{last, spending, writing}
 use Rattle.promises.specs.Chains.Rest.{none-left, ends}
 use Rattle.promises.specs.Chains.Served.{begun, submission, written, told}
 use Rattle.promises.specs.Chains.Next.{none-begun, opened}
 use Rattle.promises.specs.Chains.Stands.{in-the-first, past-the-first}
-
--- no test comes out both ways
-clash : {A : Type 0} {b : Bool} → b ≡ true → b ≡ false → A
-clash y n = absurd (let z : _≡_ {A = ℕ} 0 1 = cc in omega arith)
-
--- ---- a unit that is not a submission's last changes the work alone, and takes no heed of the registers
-
-module _ (x : World) (q : Registers) where
-  -- what a unit leads to with registers q is what it leads to with x's own
-  abbrev Heedless : World → World → Type 0
-  Heedless y own = midst (own .state .work) ≡ true → y ≡ registering q (working (own .state .work) x)
-
-  entry-alone : (o : Opened) (kept : List Entry) (v : Verdict) → Heedless (after-entry (registering q x) o kept v) (after-entry x o kept v)
-  unfolding settled
-  entry-alone o kept Fine h = refl
-  entry-alone o kept (Broken f) h = clash h refl
-
-  packet-alone : (j : Job) (t : Stream) (next : ℕ) (es : List Entry) (held : Holdings) (v : Verdict)
-      → Heedless (after-packet (registering q x) j t next es held v) (after-packet x j t next es held v)
-  unfolding settled
-  packet-alone j t next es held Fine h = refl
-  packet-alone j t next es held (Broken f) h = clash h refl
-
-  on-alone : (k : Work) → midst k ≡ true → Heedless (step-on (registering q x) k) (step-on x k)
-  unfolding entry-step packet-step
-  on-alone resting m h = clash m refl
-  on-alone (entries o kept) m h = entry-alone o (take-entry (x .mem) (o .table) kept .kept) (take-entry (x .mem) (o .table) kept .verdict) h
-  on-alone (packets j t at es held) m h =
-      packet-alone j t (next-place at (left (x .mem) t at)) es (take-packet es held (left (x .mem) t at) .held) (take-packet es held (left (x .mem) t at) .verdict) h
-  on-alone (waiting j es held) m h = clash m refl
-
-  unit-alone : midst (x .state .work) ≡ true → Heedless (step (registering q x)) (step x)
-  unfolding step
-  unit-alone m h = on-alone (x .state .work) m h
-
--- ---- courses: in the midst until the end
-
-goes-on : (e r : Bool) (k : Work) → e ≡ true → midst k ≡ true → e && busy r k ≡ true
-goes-on e r resting h m = clash m refl
-goes-on e r (entries o kept) h m = rw h
-goes-on e r (packets j s at es held) h m = rw h
-goes-on e r (waiting j es held) h m = clash m refl
-
--- one unit of it
-course-one : (w : World) → w .state .regs .enabled ≡ true → midst (w .state .work) ≡ true → Course 1 w (step w)
-unfolding go
-course-one w on m = record { ends = run-go go step 0 w (goes-on (w .state .regs .enabled) (w .state .regs .rung) (w .state .work) on m) ∙ rw (run-none go step (step w)); inside = at }
-  where
-    at : (i : ℕ) → i < 1 → midst (run-for i w .state .state .work) ≡ true
-    at zero h = rw (run-none go step w) m
-    at (suc i) h = absurd (omega arith)
-
-course-next : (n : ℕ) (w v : World) → w .state .regs .enabled ≡ true → midst (w .state .work) ≡ true → Course n (step w) v → Course (suc n) w v
-course-next n w v on m c = subst (λ k. Course k w v) (one-add n) (course-join 1 n w (step w) v (course-one w on m) c)
-
--- one that ends clear is not shorter than another from the same world
-not-before : {a b : ℕ} {w x y : World} → Course a w x → Clear x → Course b w y → b ≤ a
-not-before {a} {b} {w} p c q = by-test (ltb a b) refl
-  where
-    by-test : (t : Bool) → ltb a b ≡ t → b ≤ a
-    by-test true h = clash (q .inside a (ltb-true a b h)) (ap (λ (o : Out World). midst (o .state .state .work)) (p .ends) ∙ c)
-    by-test false h = ltb-false a b h
-
--- so two that end clear are one
-course-unique : {a b : ℕ} {w x y : World} → Course a w x → Clear x → Course b w y → Clear y → (a ≡ b) × (x ≡ y)
-course-unique {a} {b} {w} {x} {y} p c q d =
-    let less : b ≤ a = not-before p c q in
-    let more : a ≤ b = not-before q d p in
-    let same : a ≡ b = omega arith in
-    (same, ap (λ (o : Out World). o .state) (sym (p .ends) ∙ (ap (λ k. run-for k w) same ∙ q .ends)))
-
--- and one that ends in the midst is shorter than one that ends clear
-course-shorter : {a b : ℕ} {w x y : World} → Course a w x → midst (x .state .work) ≡ true → Course b w y → Clear y → a < b
-course-shorter {a} {b} {w} {x} {y} p m q d = by-test (ltb a b) refl
-  where
-    by-test : (t : Bool) → ltb a b ≡ t → a < b
-    by-test true h = ltb-true a b h
-    by-test false h =
-        let less : b ≤ a = ltb-false a b h in
-        let more : a ≤ b = not-before q d p in
-        let same : a ≡ b = omega arith in
-        clash m (ap (λ (o : Out World). midst (o .state .state .work)) (sym (p .ends) ∙ (ap (λ k. run-for k w) same ∙ q .ends)) ∙ d)
-
--- ---- a submission that goes on after its opening
-
--- with registers q, its later units end where the unsliced rules end, after their count of units
-record Opens (w : World) (v : Opening) (q : Registers) : Type 0 where
-  alone : step w ≡ working (step w .state .work) w
-  count : ℕ
-  units : suc count ≡ submitted-on (registering q w) v .units
-  course : Course count (registering q (step w)) (submitted-on (registering q w) v .state)
-  clear : Clear (submitted-on (registering q w) v .state)
-
-finished-clear : (w : World) (j : Job) (es : List Entry) (h : Holdings) (v : Verdict) → Clear (finished w j es h v)
-unfolding settled
-finished-clear w j es h Fine = refl
-finished-clear w j es h (Broken r) = refl
-
-module _ (w : World) (rest : w .state .work ≡ resting) (m : midst (step w .state .work) ≡ true) (q : Registers) (on : q .enabled ≡ true) where
-  opens-on : (v : Opening) → LiesOn (w .mem) v → step w ≡ after-opening w v → Opens w v q
-  unfolding settled
-  opens-on BadRing lies e = clash m (ap (λ (x : World). midst (x .state .work)) e ∙ ap midst rest)
-  opens-on NoWork lies e = clash m (ap (λ (x : World). midst (x .state .work)) e ∙ ap midst rest)
-  opens-on (Refused j r) lies e = clash m (ap (λ (x : World). midst (x .state .work)) e)
-  opens-on (Started o) lies e =
-      record {
-        alone = e ∙ ap (λ (x : World). working (x .state .work) w) (sym e);
-        count = later-units (table-judged (registering q w) on o lies .verdict) (table-judged (registering q w) on o lies .count) (packets-judged (registering q w) on o lies .count);
-        units = sym (submission-units (registering q w) on o lies);
-        course = rw e (course-started (registering q w) on o lies);
-        clear = finished-clear (registering q w) (o .job) (entries-of (w .mem) (o .table)) (submission-of (w .mem) o (at-first (w .state .resources)) .held)
-            (submission-of (w .mem) o (at-first (w .state .resources)) .verdict);
-      }
-
-  opens : Opens w (opening-of (w .mem) (w .state .regs .ring) (w .state .regs .ringsize)) q
-  unfolding step open-step
-  opens = opens-on (opening-of (w .mem) (w .state .regs .ring) (w .state .regs .ringsize)) (opening-lies (w .mem) (w .state .regs .ring) (w .state .regs .ringsize)) (rw rest)
-
--- one that its opening ends
-module _ (w : World) (rest : w .state .work ≡ resting) (g : go w ≡ true) (c : Clear (step w)) where
-  first-unit : run-for 1 w ≡ record { state = step w; units = 1 }
-  first-unit = run-go go step 0 w g ∙ rw (run-none go step (step w))
-
-  opening-is-all : submitted w .units ≡ 1
-  opening-is-all = by-test (ltb 1 (submitted w .units)) refl
-    where
-      by-test : (t : Bool) → ltb 1 (submitted w .units) ≡ t → submitted w .units ≡ 1
-      by-test true h =
-          clash (submits w rest g .inside 1 (omega arith) (ltb-true 1 (submitted w .units) h)) (ap (λ (o : Out World). midst (o .state .state .work)) first-unit ∙ c)
-      by-test false h = let some : 0 < submitted w .units = submits w rest g .some in omega (arith, ltb-false 1 (submitted w .units) h)
-
-  opening-ends : submitted w ≡ record { state = step w; units = 1 }
-  opening-ends = sym (submits w rest g .ends) ∙ (ap (λ k. run-for k w) opening-is-all ∙ first-unit)
 
 -- ---- what is clear, and what goes
 
@@ -315,3 +169,75 @@ led-stands {w} (takes good h later) =
 -- end, and whole submissions of the unsliced rules after it, and some units into the next one
 pub calls-stand : (cs : List Call) (w : World) → NoReset cs → Stands w (acts-of-all cs w) (after-all cs w)
 calls-stand cs w n = led-stands (calls-lead cs w n)
+
+-- ---- from a clear world to a clear one
+
+clear-served : {w v : World} {xs : List Act} → Stands w xs v → Clear w → Clear v → Served w xs v
+clear-served (in-the-first m i) c d = clash m c
+clear-served {w} {v} (past-the-first {night = night} e (none-left k) s none-begun) c d = subst (λ l. Served w l v) (sym (e ∙ append-nil night)) s
+clear-served (past-the-first e (none-left k) s (opened rest g a i n)) c d = clash (i .inside) d
+clear-served (past-the-first e (ends m span on k l) s n) c d = clash m c
+
+-- wherever calls that began with nothing in the midst stand so again, whole submissions of the unsliced rules have led there, each settled
+-- with the registers that stood at its last unit, and writes and answers between them
+pub clear-calls-are-unsliced : (cs : List Call) (w : World) → NoReset cs → Clear w → Clear (after-all cs w) → Served w (acts-of-all cs w) (after-all cs w)
+clear-calls-are-unsliced cs w n c d = clear-served (calls-stand cs w n) c d
+
+-- ---- what they report
+
+served-units : {w v : World} {xs : List Act} (s : Served w xs v) → units-in xs ≡ counted s
+unfolding units-in counted
+served-units begun = refl
+served-units (submission {during = during} {xs = xs} rest g span on n later) = units-in-both (unit ∷ during) xs ∙ rw (served-units later, n)
+served-units (written offset n c h later) = served-units later
+served-units (told good h later) = served-units later
+
+span-takes-nothing : {xs : List Act} → Span xs → answers-in xs ≡ []
+unfolding answers-in
+span-takes-nothing last = refl
+span-takes-nothing (spending s) = span-takes-nothing s
+span-takes-nothing (writing offset n h s) = span-takes-nothing s
+
+served-answers : {w v : World} {xs : List Act} (s : Served w xs v) → answers-in xs ≡ given s
+unfolding answers-in given
+served-answers begun = refl
+served-answers (submission {during = during} {xs = xs} rest g span on n later) =
+    answers-in-both (unit ∷ during) xs ∙ rw (span-takes-nothing span, served-answers later)
+served-answers (written offset n c h later) = served-answers later
+served-answers (told good h later) = ap (λ l. good ∷ l) (served-answers later)
+
+rest-takes-nothing : {w x : World} {xs : List Act} → Rest w xs x → answers-in xs ≡ []
+unfolding answers-in
+rest-takes-nothing (none-left c) = refl
+rest-takes-nothing (ends m span on k c) = span-takes-nothing span
+
+next-takes-nothing : {y v : World} {xs : List Act} → Next y xs v → answers-in xs ≡ []
+unfolding answers-in
+next-takes-nothing none-begun = refl
+next-takes-nothing (opened rest g a i n) = i .takes-nothing
+
+module _ (cs : List Call) (w : World) {x y v : World} {first night next : List Act} (e : acts-of-all cs w ≡ first ++ (night ++ next)) (r : Rest w first x) (s : Served x night y)
+    (t : Next y next v) where
+  -- the units that calls report are those of the rest of what was in work, the unsliced rules' counts, and those of the next so far
+  pub units-add-up : units-of-all cs w ≡ units-in first + (counted s + units-in next)
+  units-add-up =
+      sym (acts-units cs w) ∙ (ap units-in e ∙ (units-in-both first (night ++ next) ∙ ap (λ k. units-in first + k) (units-in-both night next ∙ ap (λ k. k + units-in next) (served-units s))))
+
+  -- and the answers that they took are those that were given between the whole submissions
+  pub answers-are-those-given : taken-by-all cs w ≡ given s
+  answers-are-those-given =
+      sym (acts-answers cs w)
+      ∙ (ap answers-in e ∙ (answers-in-both first (night ++ next) ∙ rw (rest-takes-nothing r, answers-in-both night next, next-takes-nothing t, served-answers s, append-nil)))
+
+-- ---- two lists of calls
+
+same-acts : {w u v : World} {xs : List Act} → Led w xs u → Led w xs v → u ≡ v
+same-acts stays stays = refl
+same-acts (spends g p) (spends h q) = same-acts p q
+same-acts (writes-one offset n g p) (writes-one at k h q) = same-acts p q
+same-acts (takes good g p) (takes same h q) = same-acts p q
+
+-- two lists of calls from one world that spent the same units, wrote the same and took the same answers, in the same order, stand in the
+-- same world, however their runs were cut
+pub same-acts-same-world : (cs ds : List Call) (w : World) → NoReset cs → NoReset ds → acts-of-all cs w ≡ acts-of-all ds w → after-all cs w ≡ after-all ds w
+same-acts-same-world cs ds w n k e = same-acts (subst (λ l. Led w l (after-all cs w)) e (calls-lead cs w n)) (calls-lead ds w k)
