@@ -4,9 +4,8 @@ use mathlib.Core.Path.{_≡_, refl, sym, ap, subst, _∙_}
 use mathlib.Core.Bool.{Bool, true, false}
 use mathlib.Core.List.{List, [], _∷_, _++_}
 use Prim.Native.Nat.{ℕ, zero, suc, _+_}
-use native.Mathlib.Nat.{add-zero, zero-add, suc-add}
+use native.Mathlib.Nat.{zero-add, suc-add}
 use native.Mathlib.Numerals.{one-add}
-use native.Mathlib.Omega.{arith}
 use lib.Dec.{eqb}
 use Rattle.machine.specs.Machine.{pick, run-none, run-stop, run-go}
 use Rattle.rules.specs.Numbers.{done, other-memory, nothing-waits}
@@ -20,6 +19,7 @@ use Rattle.promises.specs.Runs.{of-run}
 use Rattle.promises.specs.Called.{Call, after, units-of, taken-by, after-all, units-of-all, taken-by-all, is-reset}
 use Rattle.promises.specs.Called.Call.{writes, reads, runs, records, answers}
 
+-- one act of a device: a unit, a register written with a number, an answer taken
 pub data Act : Type 0 where
   unit : Act
   write : ℕ → ℕ → Act
@@ -45,12 +45,14 @@ acts-of-all (c ∷ cs) w = acts-of c w ++ acts-of-all cs (after c w)
 
 -- ---- what acts come to
 
+-- the units among them
 unfoldable pub units-in : List Act → ℕ
 units-in [] = 0
 units-in (unit ∷ xs) = suc (units-in xs)
 units-in (write offset v ∷ xs) = units-in xs
 units-in (answer good ∷ xs) = units-in xs
 
+-- the answers among them, in order
 unfoldable pub answers-in : List Act → List Bool
 answers-in [] = []
 answers-in (unit ∷ xs) = answers-in xs
@@ -78,7 +80,7 @@ answers-in-both (unit ∷ xs) ys = answers-in-both xs ys
 answers-in-both (write offset v ∷ xs) ys = answers-in-both xs ys
 answers-in-both (answer good ∷ xs) ys = ap (λ l. good ∷ l) (answers-in-both xs ys)
 
--- ---- the units and answers of the acts are those that the calls report
+-- ---- acts and what the calls report
 
 row-units : (n : ℕ) → units-in (in-a-row n) ≡ n
 unfolding units-in in-a-row
@@ -114,11 +116,13 @@ call-answers (answers good) w = by-test (eqb (call-answer w good .answer) done)
     by-test true = refl
     by-test false = refl
 
+-- the units of calls' acts are those that the calls report
 pub acts-units : (cs : List Call) (w : World) → units-in (acts-of-all cs w) ≡ units-of-all cs w
 unfolding acts-of-all units-of-all units-in
 acts-units [] w = refl
 acts-units (c ∷ cs) w = units-in-both (acts-of c w) (acts-of-all cs (after c w)) ∙ rw (call-units c w, acts-units cs (after c w))
 
+-- and the answers are those that they took
 pub acts-answers : (cs : List Call) (w : World) → answers-in (acts-of-all cs w) ≡ taken-by-all cs w
 unfolding acts-of-all taken-by-all answers-in
 acts-answers [] w = refl
@@ -130,8 +134,8 @@ acts-answers (c ∷ cs) w = answers-in-both (acts-of c w) (acts-of-all cs (after
 pub data Led : World → List Act → World → Type 0 where
   stays : {w : World} → Led w [] w
   spends : {w v : World} {xs : List Act} → go w ≡ true → Led (step w) xs v → Led w (unit ∷ xs) v
-  writes-one : {w v : World} {xs : List Act} (offset n : ℕ) → resets offset n ≡ false → Led (registering (registers-written offset n (w .state .regs)) w) xs v
-      → Led w (write offset n ∷ xs) v
+  writes-one : {w v : World} {xs : List Act} (offset n : ℕ) → resets offset n ≡ false
+      → Led (registering (registers-written offset n (w .state .regs)) w) xs v → Led w (write offset n ∷ xs) v
   takes : {w v : World} {xs : List Act} (good : Bool) → waits (w .state) ≡ true → Led (answered good w) xs v → Led w (answer good ∷ xs) v
 
 led-on : {w x v : World} {xs ys : List Act} → Led w xs x → Led x ys v → Led w (xs ++ ys) v
@@ -145,7 +149,8 @@ unfolding in-a-row
 run-leads zero w = rw (run-none go step w) stays
 run-leads (suc n) w = by-test (go w) refl (run-leads n (step w))
   where
-    by-test : (b : Bool) → go w ≡ b → Led (step w) (in-a-row (run-for n (step w) .units)) (run-for n (step w) .state) → Led w (in-a-row (run-for (suc n) w .units)) (run-for (suc n) w .state)
+    by-test : (b : Bool) → go w ≡ b → Led (step w) (in-a-row (run-for n (step w) .units)) (run-for n (step w) .state)
+        → Led w (in-a-row (run-for (suc n) w .units)) (run-for (suc n) w .state)
     by-test true g later = rw (run-go go step n w g, one-add) (spends g later)
     by-test false g later = rw (run-stop go step (suc n) w g) stays
 
@@ -159,7 +164,9 @@ call-leads (records i) w n = stays
 call-leads (answers good) w n = by-tests (lent-another w) (waits (w .state)) refl
   where
     told : Bool → Bool → Told
-    told a b = pick a (record { answer = other-memory; world = w }) (pick b (record { answer = done; world = answered good w }) (record { answer = nothing-waits; world = w }))
+    told a b =
+        pick a (record { answer = other-memory; world = w })
+        (pick b (record { answer = done; world = answered good w }) (record { answer = nothing-waits; world = w }))
 
     by-tests : (a b : Bool) → waits (w .state) ≡ b → Led w (pick (eqb (told a b .answer) done) (answer good ∷ []) []) (told a b .world)
     by-tests true b e = stays

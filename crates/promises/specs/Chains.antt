@@ -53,8 +53,10 @@ pub data Served : World → List Act → World → Type 0 where
       → registers-after during (w .state .regs) .enabled ≡ true
       → suc (units-in during) ≡ submitted-under (registers-after during (w .state .regs)) w .units
       → Served (submitted-under (registers-after during (w .state .regs)) w .state) xs v → Served w ((unit ∷ during) ++ xs) v
+  -- a write between submissions changes registers alone
   written : {w v : World} {xs : List Act} (offset n : ℕ) → Clear w → resets offset n ≡ false
       → Served (registering (registers-written offset n (w .state .regs)) w) xs v → Served w (write offset n ∷ xs) v
+  -- an answer to a submission that waits
   told : {w v : World} {xs : List Act} (good : Bool) → waits (w .state) ≡ true → Served (answered good w) xs v → Served w (answer good ∷ xs) v
 
 -- from w, these acts lead to v, some units into the next submission
@@ -64,10 +66,11 @@ pub data Next (w : World) : List Act → World → Type 0 where
   opened : {xs : List Act} {v : World} → w .state .work ≡ resting → go w ≡ true → step w ≡ working (step w .state .work) w → Into (step w) xs v
       → suc (units-in xs) < submitted w .units → Next w (unit ∷ xs) v
 
--- from any w these acts lead to v
+-- from any w these acts lead to v: in the midst of what was in work at w; or past its end, through whole submissions, some way into the next
 pub data Stands (w : World) (xs : List Act) (v : World) : Type 0 where
   in-the-first : midst (w .state .work) ≡ true → Into w xs v → Stands w xs v
-  past-the-first : {x y : World} {first night next : List Act} → xs ≡ first ++ (night ++ next) → Rest w first x → Served x night y → Next y next v → Stands w xs v
+  past-the-first : {x y : World} {first night next : List Act} → xs ≡ first ++ (night ++ next) → Rest w first x → Served x night y
+      → Next y next v → Stands w xs v
 
 -- ---- what whole submissions count and take
 

@@ -5,9 +5,7 @@ use mathlib.Core.Bool.{Bool, true, false}
 use mathlib.Core.List.{List, [], _∷_, _++_, append-assoc, append-nil}
 use Prim.Native.Nat.{ℕ, suc, _+_, _<_}
 use native.Mathlib.Omega.{arith}
-use native.Mathlib.Nat.{add-assoc}
 use Rattle.machine.specs.Machine.{Out}
-use Rattle.rules.specs.Ring.{opening-of}
 use Rattle.rules.specs.State.{Work, World, working, registering}
 use Rattle.rules.specs.State.Work.{resting, entries, packets, waiting}
 use Rattle.rules.specs.Settle.{settled}
@@ -58,7 +56,8 @@ answer-clear false w (waiting j es held) h = (refl, refl)
 act-between : {w x v : World} {xs : List Act} (a : Act) → Clear w → Clear x → ((ys : List Act) (y : World) → Served x ys y → Served w (a ∷ ys) y)
     → Stands x xs v → Stands w (a ∷ xs) v
 act-between a c d more (in-the-first m i) = clash m d
-act-between a c d more (past-the-first {y = y} {night = night} e (none-left k) s n) = past-the-first {first = []} {night = a ∷ night} (ap (λ l. a ∷ l) e) (none-left c) (more night y s) n
+act-between a c d more (past-the-first {y = y} {night = night} e (none-left k) s n) =
+    past-the-first {first = []} {night = a ∷ night} (ap (λ l. a ∷ l) e) (none-left c) (more night y s) n
 act-between a c d more (past-the-first e (ends m span on k l) s n) = clash m d
 
 -- the opening of a submission that goes on
@@ -67,19 +66,23 @@ module _ (w : World) (rest : w .state .work ≡ resting) (g : go w ≡ true) (m 
   unfolding go
   enabled-before = both-left (w .state .regs .enabled) _ g
 
-  own : Opens w (opening-of (w .mem) (w .state .regs .ring) (w .state .regs .ringsize)) (w .state .regs)
+  own : Opens w (w .state .regs) (submitted-under (w .state .regs) w)
   own = opens w rest m (w .state .regs) enabled-before
 
   not-through : {xs : List Act} {v : World} → Into (step w) xs v → suc (units-in xs) < submitted w .units
   unfolding submitted
-  not-through {xs} i = let less : units-in xs < own .count = course-shorter (i .units (w .state .regs) enabled-before) (i .inside) (own .course) (own .clear) in omega (arith, own .units)
+  not-through {xs} i =
+      let less : units-in xs < own .count = course-shorter (i .units (w .state .regs) enabled-before) (i .inside) (own .course) (own .clear) in
+      omega (arith, own .units)
 
   -- all of it, and what came after
-  through : {xs first night next : List Act} {x y v : World} → xs ≡ first ++ (night ++ next) → Span first → registers-after first (w .state .regs) .enabled ≡ true
-      → Course (units-in first) (registering (registers-after first (w .state .regs)) (step w)) x → Clear x → Served x night y → Next y next v → Stands w (unit ∷ xs) v
+  through : {xs first night next : List Act} {x y v : World} → xs ≡ first ++ (night ++ next) → Span first
+      → registers-after first (w .state .regs) .enabled ≡ true → Course (units-in first) (registering (registers-after first (w .state .regs)) (step w)) x
+      → Clear x → Served x night y → Next y next v → Stands w (unit ∷ xs) v
   through {xs} {first} {night} {next} {x} {y} e span on k c s n =
-      let o : Opens w (opening-of (w .mem) (w .state .regs .ring) (w .state .regs .ringsize)) (registers-after first (w .state .regs)) = opens w rest m (registers-after first (w .state .regs)) on in
-      let same : (units-in first ≡ o .count) × (x ≡ submitted-under (registers-after first (w .state .regs)) w .state) = course-unique k c (o .course) (o .clear) in
+      let q : Registers = registers-after first (w .state .regs) in
+      let o : Opens w q (submitted-under q w) = opens w rest m q on in
+      let same : (units-in first ≡ o .count) × (x ≡ submitted-under q w .state) = course-unique k c (o .course) (o .clear) in
       past-the-first {first = []} {night = (unit ∷ first) ++ night} (ap (λ l. unit ∷ l) (e ∙ sym (append-assoc first night next))) (none-left (ap midst rest))
       (submission rest g (spending span) on (ap suc (same .0) ∙ o .units) (subst (λ (z : World). Served z night y) (same .1) s)) n
 
@@ -94,8 +97,8 @@ module _ (w : World) (rest : w .state .work ≡ resting) (g : go w ≡ true) (m 
 -- in the midst
 module _ (w : World) (m : midst (w .state .work) ≡ true) where
   -- a write
-  write-inside : {xs : List Act} {v : World} (offset n : ℕ) → resets offset n ≡ false → Stands (registering (registers-written offset n (w .state .regs)) w) xs v
-      → Stands w (write offset n ∷ xs) v
+  write-inside : {xs : List Act} {v : World} (offset n : ℕ) → resets offset n ≡ false
+      → Stands (registering (registers-written offset n (w .state .regs)) w) xs v → Stands w (write offset n ∷ xs) v
   unfolding units-in answers-in registers-after
   write-inside offset n h (in-the-first l i) = in-the-first m (record { takes-nothing = i .takes-nothing; inside = i .inside; units = i .units; only = i .only })
   write-inside offset n h (past-the-first e (none-left c) s k) = clash m c
@@ -132,9 +135,11 @@ module _ (w : World) (m : midst (w .state .work) ≡ true) where
     unit-inside (past-the-first e (none-left c) s n) = clash l c
     unit-inside (past-the-first {first = first} e (ends {v = x} h span on k c) s n) =
         let same : step w .state .regs ≡ w .state .regs = ap (λ (z : World). z .state .regs) alone in
-        let on′ : registers-after first (w .state .regs) .enabled ≡ true = subst (λ (r : Registers). registers-after first r .enabled ≡ true) same on in
+        let q : Registers = registers-after first (w .state .regs) in
+        let on′ : q .enabled ≡ true = subst (λ (r : Registers). registers-after first r .enabled ≡ true) same on in
         past-the-first {first = unit ∷ first} (ap (λ l. unit ∷ l) e)
-        (ends m (spending span) on′ (one-further (registers-after first (w .state .regs)) on′ (subst (λ (r : Registers). Course (units-in first) (registering (registers-after first r) (step w)) x) same k)) c) s n
+        (ends m (spending span) on′
+        (one-further q on′ (subst (λ (r : Registers). Course (units-in first) (registering (registers-after first r) (step w)) x) same k)) c) s n
 
 -- ---- any acts
 
@@ -158,7 +163,8 @@ led-stands {w} {v} (spends {xs = xs} g later) = by-tests (midst (w .state .work)
         (subst (λ (x : World). Served x ys y) (sym (ap (λ (o : Out World). o .state) ends)) t)) s
 led-stands {w} {v} (writes-one {xs = xs} offset n h later) = by-test (midst (w .state .work)) refl (led-stands later)
   where
-    by-test : (b : Bool) → midst (w .state .work) ≡ b → Stands (registering (registers-written offset n (w .state .regs)) w) xs v → Stands w (write offset n ∷ xs) v
+    by-test : (b : Bool) → midst (w .state .work) ≡ b → Stands (registering (registers-written offset n (w .state .regs)) w) xs v
+        → Stands w (write offset n ∷ xs) v
     by-test true m s = write-inside w m offset n h s
     by-test false c s = act-between (write offset n) c c (λ ys y t. written offset n c h t) s
 led-stands {w} (takes good h later) =
@@ -216,18 +222,22 @@ unfolding answers-in
 next-takes-nothing none-begun = refl
 next-takes-nothing (opened rest g a i n) = i .takes-nothing
 
-module _ (cs : List Call) (w : World) {x y v : World} {first night next : List Act} (e : acts-of-all cs w ≡ first ++ (night ++ next)) (r : Rest w first x) (s : Served x night y)
+module _ (cs : List Call) (w : World) {x y v : World} {first night next : List Act}
+    (e : acts-of-all cs w ≡ first ++ (night ++ next)) (r : Rest w first x) (s : Served x night y)
     (t : Next y next v) where
   -- the units that calls report are those of the rest of what was in work, the unsliced rules' counts, and those of the next so far
   pub units-add-up : units-of-all cs w ≡ units-in first + (counted s + units-in next)
   units-add-up =
-      sym (acts-units cs w) ∙ (ap units-in e ∙ (units-in-both first (night ++ next) ∙ ap (λ k. units-in first + k) (units-in-both night next ∙ ap (λ k. k + units-in next) (served-units s))))
+      sym (acts-units cs w)
+      ∙ (ap units-in e ∙ (units-in-both first (night ++ next)
+      ∙ ap (λ k. units-in first + k) (units-in-both night next ∙ ap (λ k. k + units-in next) (served-units s))))
 
   -- and the answers that they took are those that were given between the whole submissions
   pub answers-are-those-given : taken-by-all cs w ≡ given s
   answers-are-those-given =
       sym (acts-answers cs w)
-      ∙ (ap answers-in e ∙ (answers-in-both first (night ++ next) ∙ rw (rest-takes-nothing r, answers-in-both night next, next-takes-nothing t, served-answers s, append-nil)))
+      ∙ (ap answers-in e ∙ (answers-in-both first (night ++ next)
+      ∙ rw (rest-takes-nothing r, answers-in-both night next, next-takes-nothing t, served-answers s, append-nil)))
 
 -- ---- two lists of calls
 
@@ -239,5 +249,6 @@ same-acts (takes good g p) (takes same h q) = same-acts p q
 
 -- two lists of calls from one world that spent the same units, wrote the same and took the same answers, in the same order, stand in the
 -- same world, however their runs were cut
-pub same-acts-same-world : (cs ds : List Call) (w : World) → NoReset cs → NoReset ds → acts-of-all cs w ≡ acts-of-all ds w → after-all cs w ≡ after-all ds w
+pub same-acts-same-world : (cs ds : List Call) (w : World) → NoReset cs → NoReset ds → acts-of-all cs w ≡ acts-of-all ds w
+    → after-all cs w ≡ after-all ds w
 same-acts-same-world cs ds w n k e = same-acts (subst (λ l. Led w l (after-all cs w)) e (calls-lead cs w n)) (calls-lead ds w k)

@@ -30,6 +30,7 @@ use Rattle.rules.specs.declared.Opening.the-variants.{BadRing, NoWork, Refused,
 use Rattle.promises.specs.Whole.{midst, Course, course-join}
 use Rattle.promises.specs.Submission.{LiesOn, opening-lies, later-units, table-judged, packets-judged, course-started, submission-units, submits}
 use Rattle.promises.specs.Night.{Clear}
+use Rattle.promises.specs.Chains.{submitted-under}
 
 -- no test comes out both ways
 pub clash : {A : Type 0} {b : Bool} → b ≡ true → b ≡ false → A
@@ -61,6 +62,7 @@ module _ (x : World) (q : Registers) where
       packet-alone j t (next-place at (left (x .mem) t at)) es (take-packet es held (left (x .mem) t at) .held) (take-packet es held (left (x .mem) t at) .verdict) h
   on-alone (waiting j es held) m h = clash m refl
 
+  -- one that stays in the midst
   pub unit-alone : midst (x .state .work) ≡ true → Heedless (step (registering q x)) (step x)
   unfolding step
   unit-alone m h = on-alone (x .state .work) m h
@@ -76,12 +78,17 @@ goes-on e r (waiting j es held) h m = clash m refl
 -- one unit of it
 pub course-one : (w : World) → w .state .regs .enabled ≡ true → midst (w .state .work) ≡ true → Course 1 w (step w)
 unfolding go
-course-one w on m = record { ends = run-go go step 0 w (goes-on (w .state .regs .enabled) (w .state .regs .rung) (w .state .work) on m) ∙ rw (run-none go step (step w)); inside = at }
+course-one w on m =
+    record {
+      ends = run-go go step 0 w (goes-on (w .state .regs .enabled) (w .state .regs .rung) (w .state .work) on m) ∙ rw (run-none go step (step w));
+      inside = at;
+    }
   where
     at : (i : ℕ) → i < 1 → midst (run-for i w .state .state .work) ≡ true
     at zero h = rw (run-none go step w) m
     at (suc i) h = absurd (omega arith)
 
+-- one unit, and then the rest
 pub course-next : (n : ℕ) (w v : World) → w .state .regs .enabled ≡ true → midst (w .state .work) ≡ true → Course n (step w) v → Course (suc n) w v
 course-next n w v on m c = subst (λ k. Course k w v) (one-add n) (course-join 1 n w (step w) v (course-one w on m) c)
 
@@ -115,13 +122,13 @@ course-shorter {a} {b} {w} {x} {y} p m q d = by-test (ltb a b) refl
 
 -- ---- a submission that goes on after its opening
 
--- with registers q, its later units end where the unsliced rules end, after their count of units
-pub record Opens (w : World) (v : Opening) (q : Registers) : Type 0 where
+-- with registers q, its later units end at o's state, which is clear, and with the opening's unit they are o's units
+pub record Opens (w : World) (q : Registers) (o : Out World) : Type 0 where
   pub alone : step w ≡ working (step w .state .work) w
   pub count : ℕ
-  pub units : suc count ≡ submitted-on (registering q w) v .units
-  pub course : Course count (registering q (step w)) (submitted-on (registering q w) v .state)
-  pub clear : Clear (submitted-on (registering q w) v .state)
+  pub units : suc count ≡ o .units
+  pub course : Course count (registering q (step w)) (o .state)
+  pub clear : Clear (o .state)
 
 finished-clear : (w : World) (j : Job) (es : List Entry) (h : Holdings) (v : Verdict) → Clear (finished w j es h v)
 unfolding settled
@@ -129,7 +136,7 @@ finished-clear w j es h Fine = refl
 finished-clear w j es h (Broken r) = refl
 
 module _ (w : World) (rest : w .state .work ≡ resting) (m : midst (step w .state .work) ≡ true) (q : Registers) (on : q .enabled ≡ true) where
-  opens-on : (v : Opening) → LiesOn (w .mem) v → step w ≡ after-opening w v → Opens w v q
+  opens-on : (v : Opening) → LiesOn (w .mem) v → step w ≡ after-opening w v → Opens w q (submitted-on (registering q w) v)
   unfolding settled
   opens-on BadRing lies e = clash m (ap (λ (x : World). midst (x .state .work)) e ∙ ap midst rest)
   opens-on NoWork lies e = clash m (ap (λ (x : World). midst (x .state .work)) e ∙ ap midst rest)
@@ -137,16 +144,20 @@ module _ (w : World) (rest : w .state .work ≡ resting) (m : midst (step w .sta
   opens-on (Started o) lies e =
       record {
         alone = e ∙ ap (λ (x : World). working (x .state .work) w) (sym e);
-        count = later-units (table-judged (registering q w) on o lies .verdict) (table-judged (registering q w) on o lies .count) (packets-judged (registering q w) on o lies .count);
+        count = later-units (table-judged (registering q w) on o lies .verdict)
+            (table-judged (registering q w) on o lies .count) (packets-judged (registering q w) on o lies .count);
         units = sym (submission-units (registering q w) on o lies);
         course = rw e (course-started (registering q w) on o lies);
         clear = finished-clear (registering q w) (o .job) (entries-of (w .mem) (o .table)) (submission (w .mem) o (at-first (w .state .resources)) .held)
             (submission (w .mem) o (at-first (w .state .resources)) .verdict);
       }
 
-  pub opens : Opens w (opening-of (w .mem) (w .state .regs .ring) (w .state .regs .ringsize)) q
+  -- o being what the unsliced rules give
+  pub opens : Opens w q (submitted-under q w)
   unfolding step open-step
-  opens = opens-on (opening-of (w .mem) (w .state .regs .ring) (w .state .regs .ringsize)) (opening-lies (w .mem) (w .state .regs .ring) (w .state .regs .ringsize)) (rw rest)
+  opens =
+      opens-on (opening-of (w .mem) (w .state .regs .ring) (w .state .regs .ringsize))
+      (opening-lies (w .mem) (w .state .regs .ring) (w .state .regs .ringsize)) (rw rest)
 
 -- one that its opening ends
 module _ (w : World) (rest : w .state .work ≡ resting) (g : go w ≡ true) (c : Clear (step w)) where
@@ -161,5 +172,6 @@ module _ (w : World) (rest : w .state .work ≡ resting) (g : go w ≡ true) (c 
           clash (submits w rest g .inside 1 (omega arith) (ltb-true 1 (submitted w .units) h)) (ap (λ (o : Out World). midst (o .state .state .work)) first-unit ∙ c)
       by-test false h = let some : 0 < submitted w .units = submits w rest g .some in omega (arith, ltb-false 1 (submitted w .units) h)
 
+  -- is what the unsliced rules give
   pub opening-ends : submitted w ≡ record { state = step w; units = 1 }
   opening-ends = sym (submits w rest g .ends) ∙ (ap (λ k. run-for k w) opening-is-all ∙ first-unit)

@@ -13,6 +13,6 @@ pub mod Night
 pub mod Called
 pub mod Runs
 pub mod Acts
-pub mod Courses
 pub mod Chains
+pub mod Courses
 pub mod ChainsStand

@@ -22,7 +22,8 @@ resets offset v = eqb offset 0x10c && bit-of 1 v
 
 -- a write that is no reset changes registers alone, and keeps the completed fence and the error; one that is gives what `reset` gives
 pub data Written (s : State) (offset v : ℕ) : State → Type 0 where
-  keeps : (r : Registers) → resets offset v ≡ false → r .completed ≡ s .regs .completed → r .error ≡ s .regs .error → Written s offset v (with-regs r s)
+  keeps : (r : Registers) → resets offset v ≡ false → r .completed ≡ s .regs .completed → r .error ≡ s .regs .error
+      → Written s offset v (with-regs r s)
   drops : resets offset v ≡ true → Written s offset v (reset (bit-of 0 v) s)
 
 control-written : (s : State) (v : ℕ) → Written s 0x10c v (controlled v s)
@@ -109,7 +110,8 @@ Alike (x ∷ xs) [] = ⊥
 Alike (x ∷ xs) (y ∷ ys) = (x .offset ≡ y .offset) × ((x .state .regs ≡ y .state .regs) × Alike xs ys)
 
 module _ (s t : State) (same : s .regs ≡ t .regs) (offset : ℕ) where
-  lookup-alike : (xs ys : List Write) → Alike xs ys → wrote s (lookup write-offset offset xs) .state .regs ≡ wrote t (lookup write-offset offset ys) .state .regs
+  lookup-alike : (xs ys : List Write) → Alike xs ys
+      → wrote s (lookup write-offset offset xs) .state .regs ≡ wrote t (lookup write-offset offset ys) .state .regs
   unfolding lookup Alike
   lookup-alike [] [] h = same
   lookup-alike [] (y ∷ ys) h = absurd h
@@ -139,5 +141,6 @@ same-written s offset v =
     (refl, (refl, (refl, (refl, (refl, (refl, (refl, (control-alike s v, (refl, (refl, (refl, (refl, (refl, (refl, (refl, (refl, (refl, (refl, omega arith))))))))))))))))))
 
 -- a write that is no reset is its registers, in whatever state
-pub write-is-by-registers : (s : State) (offset v : ℕ) → resets offset v ≡ false → call-write s offset v .state ≡ with-regs (registers-written offset v (s .regs)) s
+pub write-is-by-registers : (s : State) (offset v : ℕ) → resets offset v ≡ false
+    → call-write s offset v .state ≡ with-regs (registers-written offset v (s .regs)) s
 write-is-by-registers s offset v n = write-changes-registers-alone s offset v n ∙ ap (λ (r : Registers). with-regs r s) (same-written s offset v)
