@@ -66,6 +66,7 @@ registers-after (unit ∷ xs) r = registers-after xs r
 registers-after (write offset v ∷ xs) r = registers-after xs (registers-written offset v r)
 registers-after (answer good ∷ xs) r = registers-after xs r
 
+-- the units of some acts and then others are the sum
 pub units-in-both : (xs ys : List Act) → units-in (xs ++ ys) ≡ units-in xs + units-in ys
 unfolding units-in
 units-in-both [] ys = sym (zero-add (units-in ys))
@@ -73,6 +74,7 @@ units-in-both (unit ∷ xs) ys = ap suc (units-in-both xs ys) ∙ sym (suc-add (
 units-in-both (write offset v ∷ xs) ys = units-in-both xs ys
 units-in-both (answer good ∷ xs) ys = units-in-both xs ys
 
+-- and the answers are those of the first and then those of the others
 pub answers-in-both : (xs ys : List Act) → answers-in (xs ++ ys) ≡ answers-in xs ++ answers-in ys
 unfolding answers-in
 answers-in-both [] ys = refl

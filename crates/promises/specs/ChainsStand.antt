@@ -189,7 +189,7 @@ clear-served (past-the-first e (ends m span on k l) s n) c d = clash m c
 pub clear-calls-are-unsliced : (cs : List Call) (w : World) → NoReset cs → Clear w → Clear (after-all cs w) → Served w (acts-of-all cs w) (after-all cs w)
 clear-calls-are-unsliced cs w n c d = clear-served (calls-stand cs w n) c d
 
--- ---- what they report
+-- ---- the units and answers that calls report
 
 served-units : {w v : World} {xs : List Act} (s : Served w xs v) → units-in xs ≡ counted s
 unfolding units-in counted
@@ -222,9 +222,9 @@ unfolding answers-in
 next-takes-nothing none-begun = refl
 next-takes-nothing (opened rest g a i n) = i .takes-nothing
 
-module _ (cs : List Call) (w : World) {x y v : World} {first night next : List Act}
-    (e : acts-of-all cs w ≡ first ++ (night ++ next)) (r : Rest w first x) (s : Served x night y)
-    (t : Next y next v) where
+-- however the acts of calls are told as the rest of what was in work, whole submissions, and the next
+module _ (cs : List Call) (w : World) {x y : World} (first next : List Act) {night : List Act}
+    (e : acts-of-all cs w ≡ first ++ (night ++ next)) (s : Served x night y) where
   -- the units that calls report are those of the rest of what was in work, the unsliced rules' counts, and those of the next so far
   pub units-add-up : units-of-all cs w ≡ units-in first + (counted s + units-in next)
   units-add-up =
@@ -233,8 +233,8 @@ module _ (cs : List Call) (w : World) {x y v : World} {first night next : List A
       ∙ ap (λ k. units-in first + k) (units-in-both night next ∙ ap (λ k. k + units-in next) (served-units s))))
 
   -- and the answers that they took are those that were given between the whole submissions
-  pub answers-are-those-given : taken-by-all cs w ≡ given s
-  answers-are-those-given =
+  pub answers-are-those-given : {v : World} → Rest w first x → Next y next v → taken-by-all cs w ≡ given s
+  answers-are-those-given r t =
       sym (acts-answers cs w)
       ∙ (ap answers-in e ∙ (answers-in-both first (night ++ next)
       ∙ rw (rest-takes-nothing r, answers-in-both night next, next-takes-nothing t, served-answers s, append-nil)))

@@ -38,10 +38,11 @@ spends-all (suc n) w g = by-test (go w) refl (spends-all n (step w))
         let off : go w ≡ true = rw (run-stop go step (suc n) w h) at g in
         absurd (let z : _≡_ {A = ℕ} 0 1 = cc in omega arith)
 
--- a run never spends more than it was allowed, and a refused one spends nothing
+-- a run never spends more than it was allowed
 pub never-more-than-allowed : (w : World) (n : ℕ) → call-run w n .units ≤ n
 never-more-than-allowed w n = of-run (λ (r : Ran). r .units ≤ n) w n (λ e. omega arith) (λ e. units-room go step n w)
 
+-- and a refused one spends nothing
 pub refused-run-spends-nothing : (w : World) (n : ℕ) → lent-another w ≡ true → call-run w n .units ≡ 0
 refused-run-spends-nothing w n h = of-run (λ (r : Ran). r .units ≡ 0) w n (λ e. refl) (λ e. absurd (let z : _≡_ {A = ℕ} 0 1 = cc in omega arith))
 

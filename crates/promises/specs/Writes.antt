@@ -54,6 +54,7 @@ all-written : (s : State) (v : ℕ) → Every (WrittenBy s v) (writable s v)
 unfolding Every
 all-written s v = (keeps _ refl refl refl, (keeps _ refl refl refl, (keeps _ refl refl refl, (control-written s v, (keeps _ refl refl refl, (keeps _ refl refl refl, (keeps _ refl refl refl, (keeps _ refl refl refl, (keeps _ refl refl refl, omega arith)))))))))
 
+-- every write, of any number to any offset, is the one or the other
 pub write-keeps-or-drops : (s : State) (offset v : ℕ) → Written s offset v (call-write s offset v .state)
 unfolding call-write write-of lookup
 write-keeps-or-drops s offset v = by-control (eqb offset 0x10c) refl
