@@ -20,6 +20,7 @@ use Rattle.rules.specs.Packets.{Holdings, at-first, take-packet}
 use Rattle.rules.specs.Stream.{left}
 use Rattle.rules.specs.State.{Work, State, World, made}
 use Rattle.rules.specs.State.Work.{resting, entries, packets, waiting}
+use Rattle.rules.specs.Registers.{reset}
 use Rattle.rules.specs.Settle.{settled}
 use Rattle.rules.specs.Steps.{packets-at, entries-at, after-opening, open-step, after-entry, entry-step, after-packet, next-place, packet-step, step-on, step, go, run-for, waits, answer-on, answered}
 use Rattle.rules.specs.Calls.{lent-another, Told, ran, call-run, call-answer, call-write}
@@ -217,8 +218,9 @@ answer-call-lies w good h = by-tests (lent-another w) (waits (w .state))
     by-tests false false = h
 
 written-lies : (s s′ : State) (offset v : ℕ) → Lies s → Written s offset v s′ → Lies s′
-written-lies s s′ offset v h (keeps r) = h
-written-lies s s′ offset v h (drops r e) = omega arith
+unfolding reset
+written-lies s s′ offset v h (keeps r n c e) = h
+written-lies s s′ offset v h (drops e) = omega arith
 
 pub write-call-lies : (s : State) (offset v : ℕ) → Lies s → Lies (call-write s offset v .state)
 write-call-lies s offset v h = written-lies s (call-write s offset v .state) offset v h (write-keeps-or-drops s offset v)

@@ -10,3 +10,9 @@ pub mod Memory
 pub mod InMemory
 pub mod AnyRegisters
 pub mod Night
+pub mod Called
+pub mod Runs
+pub mod Acts
+pub mod Chains
+pub mod Courses
+pub mod ChainsStand

@@ -7,7 +7,7 @@ use Rattle.rules.specs.Numbers.{done, other-memory, nothing-waits}
 use Rattle.rules.specs.Lists.{Found}
 use Rattle.rules.specs.Lists.Found.{none, found}
 use Rattle.rules.specs.State.{State, World}
-use Rattle.rules.specs.Registers.{Write, write-of}
+use Rattle.rules.specs.Registers.{Write, reset, write-of}
 use Rattle.rules.specs.Steps.{run-for, waits, answered}
 use Rattle.rules.specs.Calls.{lent-another, wrote, call-write, ran, call-run, Told, call-answer}
 use Rattle.rules.specs.declared.Ended.the-variants.{Idle}
@@ -69,8 +69,9 @@ answer-call-keeps-sound w good s = by-tests (lent-another w) (waits (w .state))
 
 -- a write keeps it: it changes registers alone, or drops everything
 written-sound : (s s′ : State) (offset v : ℕ) → SoundState s → Written s offset v s′ → SoundState s′
-written-sound s s′ offset v k (keeps r) = record { resources = k .resources; work = k .work }
-written-sound s s′ offset v k (drops r h) = record { resources = made-sound 0 .resources; work = made-sound 0 .work }
+unfolding reset
+written-sound s s′ offset v k (keeps r n c e) = record { resources = k .resources; work = k .work }
+written-sound s s′ offset v k (drops h) = record { resources = made-sound 0 .resources; work = made-sound 0 .work }
 
 pub write-call-keeps-sound : (s : State) (offset v : ℕ) → SoundState s → SoundState (call-write s offset v .state)
 write-call-keeps-sound s offset v k = written-sound s (call-write s offset v .state) offset v k (write-keeps-or-drops s offset v)
