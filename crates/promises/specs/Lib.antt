@@ -11,3 +11,4 @@ pub mod InMemory
 pub mod AnyRegisters
 pub mod Night
 pub mod Called
+pub mod Units
