@@ -12,3 +12,5 @@ pub mod AnyRegisters
 pub mod Night
 pub mod Called
 pub mod Units
+pub mod Events
+pub mod Changes

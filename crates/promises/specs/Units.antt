@@ -61,16 +61,16 @@ pub data Unit (w : World) : World → Type 0 where
   -- only the work is another: registers, resources and every byte are as they were
   works-on : (next : Work) → Next w (w .state .work) next → Unit w (working next w)
   -- nothing in work, and a ring that breaks its rules: the error is told, the doorbell flag cleared
-  bad-ring : w .state .work ≡ resting → opening-here w ≡ BadRing → Unit w (ring-refused w)
+  finds-bad-ring : w .state .work ≡ resting → opening-here w ≡ BadRing → Unit w (ring-refused w)
   -- nothing in work and nothing to open: the doorbell flag is cleared
-  no-work : w .state .work ≡ resting → opening-here w ≡ NoWork → Unit w (found-no-work w)
+  finds-no-work : w .state .work ≡ resting → opening-here w ≡ NoWork → Unit w (found-no-work w)
   -- a rule is broken: the submission is settled with it, and the device keeps its resources
   settles : (j : Job) (r : Refusal) → Breaks w (w .state .work) j r → Unit w (settled-keeping j (Broken r) w)
 
 module _ (w : World) where
   by-opening : w .state .work ≡ resting → (v : Opening) → opening-here w ≡ v → Unit w (after-opening w v)
-  by-opening e BadRing h = bad-ring e h
-  by-opening e NoWork h = no-work e h
+  by-opening e BadRing h = finds-bad-ring e h
+  by-opening e NoWork h = finds-no-work e h
   by-opening e (Refused j r) h = settles j r (subst (λ k. Breaks w k j r) (sym e) h)
   by-opening e (Started o) h = works-on _ (subst (λ k. Next w k (entries-at o [] (w .state .resources))) (sym e) (record { what = o; here = h; first = refl }))
 
@@ -112,8 +112,8 @@ broken-is-in-work w (waiting k es held) j r h = absurd h
 resources-of-unit : (w w′ : World) → Unit w w′ → w′ .state .resources ≡ w .state .resources
 unfolding settled
 resources-of-unit w w′ (works-on next h) = refl
-resources-of-unit w w′ (bad-ring e h) = refl
-resources-of-unit w w′ (no-work e h) = refl
+resources-of-unit w w′ (finds-bad-ring e h) = refl
+resources-of-unit w w′ (finds-no-work e h) = refl
 resources-of-unit w w′ (settles j r h) = refl
 
 pub unit-keeps-resources : (w : World) → step w .state .resources ≡ w .state .resources
