@@ -14,3 +14,4 @@ pub mod Called
 pub mod Units
 pub mod Events
 pub mod Changes
+pub mod Ranges
