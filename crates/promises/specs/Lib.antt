@@ -15,3 +15,4 @@ pub mod Units
 pub mod Events
 pub mod Changes
 pub mod Ranges
+pub mod Bytes
