@@ -49,8 +49,8 @@ memory-changed =
       refuses-ring = λ w. refl;
       settles-good = λ j rs w. refl;
       settles-broken = λ j r w. refl;
-      registers = λ r w d e. refl;
-      resetted = λ enabled w. refl;
+      writes = λ r w d e. refl;
+      resets = λ enabled w. refl;
     }
 
 -- ---- what each event keeps, any number of them keep

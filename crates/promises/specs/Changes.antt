@@ -48,8 +48,8 @@ pub record ChangedBy {A : Type 0} (by : Event → A → A) (part : World → A) 
   pub refuses-ring : (w : World) → part (ring-refused w) ≡ by ring-refusal (part w)
   pub settles-good : (j : Job) (rs : List Resource) (w : World) → part (settled j Fine rs w) ≡ by (settling j Fine (settled j Fine rs w .state)) (part w)
   pub settles-broken : (j : Job) (r : Refusal) (w : World) → part (settled-keeping j (Broken r) w) ≡ by (settling j (Broken r) (settled-keeping j (Broken r) w .state)) (part w)
-  pub registers : (r : Registers) (w : World) → r .completed ≡ w .state .regs .completed → r .error ≡ w .state .regs .error → part (registering r w) ≡ part w
-  pub resetted : (enabled : Bool) (w : World) → part (with-state (reset enabled (w .state)) w) ≡ by resetting (part w)
+  pub writes : (r : Registers) (w : World) → r .completed ≡ w .state .regs .completed → r .error ≡ w .state .regs .error → part (registering r w) ≡ part w
+  pub resets : (enabled : Bool) (w : World) → part (with-state (reset enabled (w .state)) w) ≡ by resetting (part w)
 
 module _ {A : Type 0} {by : Event → A → A} {part : World → A} (c : ChangedBy by part) where
   unit-through : (w w′ : World) (u : Unit w w′) → part w′ ≡ through by (events-of-unit u) (part w)
@@ -77,8 +77,8 @@ module _ {A : Type 0} {by : Event → A → A} {part : World → A} (c : Changed
   call-through w k es w′ (refused-answer good h) = refl
   call-through w k es w′ (asks-register offset) = refl
   call-through w k es w′ (asks-record i) = refl
-  call-through w k es w′ (changes-registers offset v r n d e) = c .registers r w d e
-  call-through w k es w′ (resets-all offset v h) = c .resetted (bit-of 0 v) w
+  call-through w k es w′ (changes-registers offset v r n d e) = c .writes r w d e
+  call-through w k es w′ (resets-all offset v h) = c .resets (bit-of 0 v) w
   call-through w k es w′ (spends n d u) = units-through w es w′ u
   call-through w k es w′ (settles-answered good j table h e) = answer-through good w j table h e
 
@@ -117,8 +117,8 @@ completed-changed =
       refuses-ring = λ w. refl;
       settles-good = λ j rs w. refl;
       settles-broken = λ j r w. refl;
-      registers = λ r w d e. d;
-      resetted = λ enabled w. refl;
+      writes = λ r w d e. d;
+      resets = λ enabled w. refl;
     }
 
 error-changed : ChangedBy error-by (λ w. w .state .regs .error)
@@ -130,8 +130,8 @@ error-changed =
       refuses-ring = λ w. refl;
       settles-good = λ j rs w. refl;
       settles-broken = λ j r w. refl;
-      registers = λ r w d e. e;
-      resetted = λ enabled w. refl;
+      writes = λ r w d e. e;
+      resets = λ enabled w. refl;
     }
 
 resources-changed : ChangedBy resources-by (λ w. w .state .resources)
@@ -143,8 +143,8 @@ resources-changed =
       refuses-ring = λ w. refl;
       settles-good = λ j rs w. refl;
       settles-broken = λ j r w. refl;
-      registers = λ r w d e. refl;
-      resetted = λ enabled w. refl;
+      writes = λ r w d e. refl;
+      resets = λ enabled w. refl;
     }
 
 -- what stands after some events, by what stood before them
