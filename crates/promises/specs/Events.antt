@@ -69,8 +69,8 @@ pub data Happens (w : World) : Call → List Event → World → Type 0 where
       → r .completed ≡ w .state .regs .completed → r .error ≡ w .state .regs .error → Happens w (writes offset v) [] (registering r w)
   -- a reset
   resets-all : (offset v : ℕ) → resets offset v ≡ true → Happens w (writes offset v) (resetting ∷ []) (with-state (reset (bit-of 0 v) (w .state)) w)
-  -- units are spent
-  spends : (n : ℕ) {es : List Event} → call-run w n .answer ≡ done → Units w es (run-for n w .state) → Happens w (runs n) es (run-for n w .state)
+  -- memory of the right length is lent, and units are spent
+  spends : (n : ℕ) {es : List Event} → lent-another w ≡ false → Units w es (run-for n w .state) → Happens w (runs n) es (run-for n w .state)
   -- the submission that waits is answered, and settled with the host's verdict
   settles-answered : (good : Bool) (j : Job) (es : List Entry) (h : Holdings) → w .state .work ≡ waiting j es h
       → Happens w (answers good) (settling j (verdict-of good) (answered good w .state) ∷ []) (answered good w)
@@ -144,7 +144,7 @@ run-call-has-events n w = by-test (lent-another w) refl (run-has-events n w)
     by-test : (b : Bool) → lent-another w ≡ b → ((es : List Event) × Units w es (run-for n w .state))
         → (es : List Event) × Happens w (runs n) es (pick b (record { answer = other-memory; units = 0; ended = Idle; world = w }) (ran (run-for n w)) .world)
     by-test true e q = ([], refused-run n (λ d. absurd (let z : _≡_ {A = ℕ} 0 1 = cc in omega arith)))
-    by-test false e q = (q .0, spends n (rw e) (q .1))
+    by-test false e q = (q .0, spends n e (q .1))
 
 -- a device that waits has a submission that waits
 waits-for : (k : Work) → waits-on k ≡ true → (j : Job) × (es : List Entry) × (h : Holdings) × (k ≡ waiting j es h)

@@ -14,5 +14,6 @@ pub mod Called
 pub mod Units
 pub mod Events
 pub mod Changes
+pub mod Tables
 pub mod Ranges
 pub mod Bytes

@@ -9,12 +9,11 @@ use borrow.Author.Tests.{eqb-true}
 use lib.Dec.{eqb}
 use lib.ListN.{length, getD}
 use Rattle.machine.specs.Machine.{pick}
-use Rattle.rules.specs.Numbers.{done, bad-entry}
-use Rattle.rules.specs.Lists.{Found, nth, lookup, pushed}
+use Rattle.rules.specs.Numbers.{done}
+use Rattle.rules.specs.Lists.{Found, nth, lookup}
 use Rattle.rules.specs.Lists.Found.{none, found}
-use Rattle.rules.specs.Judging.{refusal}
 use Rattle.rules.specs.Layouts.{entry}
-use Rattle.rules.specs.Table.{Taken, entry-id, matching, entry-place, entry-rules, keep, in-reach, take-entry}
+use Rattle.rules.specs.Table.{entry-id, matching}
 use Rattle.rules.specs.Packets.{Holdings}
 use Rattle.rules.specs.State.{Work, State, World}
 use Rattle.rules.specs.State.Work.{resting, entries, packets, waiting}
@@ -22,9 +21,6 @@ use Rattle.rules.specs.Calls.{handed-out, handed, call-record}
 use Rattle.rules.specs.declared.Entry.{Entry}
 use Rattle.rules.specs.declared.Record.{Record}
 use Rattle.rules.specs.declared.Job.{Job}
-use Rattle.rules.specs.declared.Table.{Table}
-use Rattle.rules.specs.declared.Verdict.{Verdict}
-use Rattle.rules.specs.declared.Verdict.the-variants.{Fine, Broken}
 use Rattle.rows.specs.Keys.{Once}
 use Rattle.packet_apply.specs.Held.{Every, Within, Inside}
 use Rattle.promises.specs.Sound.{SoundState, made-sound, waiting-ranges-inside}
@@ -33,6 +29,7 @@ use Rattle.promises.specs.InMemory.{Lies, made-lies, run-call-lies, answ
 use Rattle.promises.specs.Called.{Call, after, Called}
 use Rattle.promises.specs.Called.Call.{writes, reads, runs, records, answers}
 use Rattle.promises.specs.Called.Called.{makes, calls}
+use Rattle.promises.specs.Tables.{WholeTable, OwnTable, called-has-its-own-table}
 
 -- ---- any device that was made and called is sound, and its entries end within its memory
 
@@ -120,6 +117,8 @@ pub record InOneEntry (s : State) (i : ℕ) (c : Record) : Type 0 where
   pub table : List Entry
   pub held : Holdings
   pub waits : s .work ≡ waiting job table held
+  -- the table is this submission's own: what its opening read, all of it, each entry found good
+  pub its-table : WholeTable (s .memory) job table
   pub its-record : nth (held .records) i ≡ found c
   pub entry : Entry
   pub only-one : OnlyOne (c .id) table entry
@@ -141,6 +140,7 @@ module _ (s : State) (k : Called s) (i : ℕ) where
             table = es;
             held = h;
             waits = w;
+            its-table = subst (OwnTable (s .memory)) w (called-has-its-own-table s k);
             its-record = e;
             entry = d;
             only-one = the-only-one (c .id) es d (waiting-ranges-inside s j es h (called-sound s k) w .1) q;
@@ -164,23 +164,3 @@ module _ (s : State) (k : Called s) (i : ℕ) where
 pub ranges-at-the-record-call : (s : State) → Called s → (i : ℕ) → call-record s i .answer ≡ done → InOneEntry s i (call-record s i .range)
 unfolding call-record
 ranges-at-the-record-call s k i d = by-work s k i (s .work) refl d
-
--- ---- where a table's entries come from
-
--- an entry that is found good is kept as it stands in the memory lent at its unit, after those kept before it, and breaks no rule
-pub good-entry-is-kept : (m : List ℕ) (t : Table) (kept : List Entry) → take-entry m t kept .verdict ≡ Fine
-    → (take-entry m t kept .kept ≡ pushed kept (entry m (entry-place t (length kept)))) × (entry-rules (length m) kept (entry m (entry-place t (length kept))) ≡ Fine)
-unfolding take-entry
-good-entry-is-kept m t kept = by-test (in-reach m t (length kept))
-  where
-    next : Entry
-    next = entry m (entry-place t (length kept))
-
-    by-verdict : (v : Verdict) → entry-rules (length m) kept next ≡ v → keep v kept next .verdict ≡ Fine → (keep v kept next .kept ≡ pushed kept next) × (entry-rules (length m) kept next ≡ Fine)
-    by-verdict Fine e d = (refl, e)
-    by-verdict (Broken r) e d = absurd (let z : _≡_ {A = ℕ} 0 1 = cc in omega arith)
-
-    by-test : (b : Bool) → pick {A = Taken} b (keep (entry-rules (length m) kept next) kept next) (record { verdict = Broken (refusal bad-entry); kept = kept }) .verdict ≡ Fine
-        → (pick {A = Taken} b (keep (entry-rules (length m) kept next) kept next) (record { verdict = Broken (refusal bad-entry); kept = kept }) .kept ≡ pushed kept next) × (entry-rules (length m) kept next ≡ Fine)
-    by-test true d = by-verdict (entry-rules (length m) kept next) refl d
-    by-test false d = absurd (let z : _≡_ {A = ℕ} 0 1 = cc in omega arith)
