@@ -8,7 +8,7 @@ use Rattle.rules.specs.Numbers.{bad-ring, host-failed}
 use Rattle.rules.specs.Judging.{refusal}
 use Rattle.rules.specs.Shapes.{larger}
 use Rattle.rules.specs.Packets.{Holdings}
-use Rattle.rules.specs.State.{Work, World, with-state, working, registering}
+use Rattle.rules.specs.State.{Work, State, World, with-state, working, registering}
 use Rattle.rules.specs.State.Work.{waiting}
 use Rattle.rules.specs.Registers.{bit-of, reset-registers, reset}
 use Rattle.rules.specs.Settle.{one-more, faulted, signalled, doorbell-cleared, ended-by, settled, settled-keeping, ring-refused, found-no-work}
@@ -24,11 +24,12 @@ use Rattle.promises.specs.Fences.{good-settles, failed-settles}
 use Rattle.promises.specs.Called.{Call}
 use Rattle.promises.specs.Units.{Unit}
 use Rattle.promises.specs.Units.Unit.{works-on, finds-bad-ring, finds-no-work, settles}
-use Rattle.promises.specs.Events.{Event, verdict-of, events-of-unit, Units, Happens, History}
+use Rattle.promises.specs.Events.{Event, verdict-of, events-of-unit, Units, Happens, History, Life}
 use Rattle.promises.specs.Events.Event.{settling, ring-refusal, resetting}
 use Rattle.promises.specs.Events.Units.{stop, one}
 use Rattle.promises.specs.Events.Happens.{refused-write, refused-run, refused-answer, asks-register, asks-record, changes-registers, resets-all, spends, settles-answered}
 use Rattle.promises.specs.Events.History.{no-call, next-call}
+use Rattle.promises.specs.Events.Life.{begins, lives}
 
 -- what events make of something, one after the other
 module _ {A : Type 0} (by : Event → A → A) where
@@ -87,6 +88,15 @@ module _ {A : Type 0} {by : Event → A → A} {part : World → A} (c : Changed
   calls-through w cs es w′ no-call = refl
   calls-through w cs es w′ (next-call {w′ = v} {c = k} {cs = ks} {es = here} {fs = later} d q) =
       calls-through v ks later w′ q ∙ (ap (through by later) (call-through w k here v d) ∙ sym (through-both by here later (part w)))
+
+-- where each call may be lent another memory, of parts that are none of it
+module _ {A : Type 0} (by : Event → A → A) (part : State → A) (c : ChangedBy by (λ w. part (w .state))) where
+  life-through : (s : State) (cs : List Call) (es : List Event) (s′ : State) → Life s cs es s′ → part s′ ≡ through by es (part s)
+  unfolding through
+  life-through s cs es s′ begins = refl
+  life-through s cs es s′ (lives {t = t} {w′ = w′} {c = k} {cs = ks} {es = before} {fs = here} q m d) =
+      call-through c (record { state = t; mem = m }) k here w′ d
+      ∙ (ap (through by here) (life-through s ks before t q) ∙ sym (through-both by before here (part s)))
 
 -- "Completed = larger of completed and signal fence"; a reset makes it zero; nothing else changes it
 abbrev pub completed-by : Event → ℕ → ℕ
@@ -148,25 +158,28 @@ resources-changed =
     }
 
 -- what stands after some events, by what stood before them
-pub record Says (w : World) (es : List Event) (w′ : World) : Type 0 where
-  pub completed : w′ .state .regs .completed ≡ through completed-by es (w .state .regs .completed)
-  pub error : w′ .state .regs .error ≡ through error-by es (w .state .regs .error)
-  pub resources : w′ .state .resources ≡ through resources-by es (w .state .resources)
+pub record Says (s : State) (es : List Event) (s′ : State) : Type 0 where
+  pub completed : s′ .regs .completed ≡ through completed-by es (s .regs .completed)
+  pub error : s′ .regs .error ≡ through error-by es (s .regs .error)
+  pub resources : s′ .resources ≡ through resources-by es (s .resources)
+
+module _ (s : State) (es : List Event) (s′ : State) where
+  say : ((A : Type 0) (by : Event → A → A) (part : State → A) → ChangedBy by (λ w. part (w .state)) → part s′ ≡ through by es (part s)) → Says s es s′
+  say follows =
+      record {
+        completed = follows ℕ completed-by (λ t. t .regs .completed) completed-changed;
+        error = follows LastError error-by (λ t. t .regs .error) error-changed;
+        resources = follows (List Resource) resources-by (λ t. t .resources) resources-changed;
+      }
 
 -- of the units of a run
-pub units-say : (w : World) (es : List Event) (w′ : World) → Units w es w′ → Says w es w′
-units-say w es w′ u =
-    record {
-      completed = units-through completed-changed w es w′ u;
-      error = units-through error-changed w es w′ u;
-      resources = units-through resources-changed w es w′ u;
-    }
+pub units-say : (w : World) (es : List Event) (w′ : World) → Units w es w′ → Says (w .state) es (w′ .state)
+units-say w es w′ u = say (w .state) es (w′ .state) (λ A by part c. units-through c w es w′ u)
 
--- and of any calls
-pub calls-say : (w : World) (cs : List Call) (es : List Event) (w′ : World) → History w cs es w′ → Says w es w′
-calls-say w cs es w′ h =
-    record {
-      completed = calls-through completed-changed w cs es w′ h;
-      error = calls-through error-changed w cs es w′ h;
-      resources = calls-through resources-changed w cs es w′ h;
-    }
+-- of any calls over still memory
+pub calls-say : (w : World) (cs : List Call) (es : List Event) (w′ : World) → History w cs es w′ → Says (w .state) es (w′ .state)
+calls-say w cs es w′ h = say (w .state) es (w′ .state) (λ A by part c. calls-through c w cs es w′ h)
+
+-- and of any calls, each lent any memory at all
+pub life-says : (s : State) (cs : List Call) (es : List Event) (s′ : State) → Life s cs es s′ → Says s es s′
+life-says s cs es s′ h = say s es s′ (λ A by part c. life-through by part c s cs es s′ h)

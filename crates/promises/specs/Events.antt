@@ -9,11 +9,11 @@ use borrow.Author.Tests.{eqb-true}
 use lib.Dec.{eqb}
 use Rattle.machine.specs.Machine.{pick, run-none, run-stop, run-go}
 use Rattle.rules.specs.Numbers.{done, other-memory, nothing-waits, host-failed}
-use Rattle.rules.specs.Lists.{Found, lookup}
+use Rattle.rules.specs.Lists.{Found, pushed, lookup}
 use Rattle.rules.specs.Lists.Found.{none, found}
 use Rattle.rules.specs.Judging.{refusal}
 use Rattle.rules.specs.Packets.{Holdings}
-use Rattle.rules.specs.State.{Work, State, World, with-regs, with-state, registering}
+use Rattle.rules.specs.State.{Work, State, World, made, with-regs, with-state, registering}
 use Rattle.rules.specs.State.Work.{resting, entries, packets, waiting}
 use Rattle.rules.specs.Registers.{Write, with-enabled, bit-of, reset, controlled, writable, write-offset, write-of}
 use Rattle.rules.specs.Steps.{step, go, run-for, waits-on, waits, answered}
@@ -26,7 +26,8 @@ use Rattle.rules.specs.declared.Verdict.{Verdict}
 use Rattle.rules.specs.declared.Verdict.the-variants.{Fine, Broken}
 use Rattle.packet_apply.specs.Held.{Every}
 use Rattle.promises.specs.Writes.{resets}
-use Rattle.promises.specs.Called.{Call, after, after-all}
+use Rattle.promises.specs.Called.{Call, after, after-all, Called}
+use Rattle.promises.specs.Called.Called.{makes, calls}
 use Rattle.promises.specs.Called.Call.{writes, reads, runs, records, answers}
 use Rattle.promises.specs.Units.{Unit, unit}
 use Rattle.promises.specs.Units.Unit.{works-on, finds-bad-ring, finds-no-work, settles}
@@ -79,6 +80,12 @@ pub data Happens (w : World) : Call → List Event → World → Type 0 where
 pub data History : World → List Call → List Event → World → Type 0 where
   no-call : {w : World} → History w [] [] w
   next-call : {w w′ w″ : World} {c : Call} {cs : List Call} {es fs : List Event} → Happens w c es w′ → History w′ cs fs w″ → History w (c ∷ cs) (es ++ fs) w″
+
+-- calls one after the other, each lent any memory at all, and their events
+pub data Life (s : State) : List Call → List Event → State → Type 0 where
+  begins : Life s [] [] s
+  lives : {t : State} {w′ : World} {c : Call} {cs : List Call} {es fs : List Event}
+      → Life s cs es t → (m : List ℕ) → Happens (record { state = t; mem = m }) c fs w′ → Life s (pushed cs c) (es ++ fs) (w′ .state)
 
 -- ---- there are such events, of each run and of any calls
 
@@ -180,3 +187,10 @@ calls-have-events (c ∷ cs) w =
     let here : (es : List Event) × Happens w c es (after c w) = call-has-events c w in
     let later : (es : List Event) × History (after c w) cs es (after-all cs (after c w)) = calls-have-events cs (after c w) in
     (here .0 ++ later .0, next-call (here .1) (later .1))
+
+pub called-has-life : (s : State) → Called s → (memory : ℕ) × (cs : List Call) × (es : List Event) × Life (made memory) cs es s
+called-has-life s (makes memory) = (memory, [], [], begins)
+called-has-life s (calls {s = t} c m k) =
+    let before : (memory : ℕ) × (cs : List Call) × (es : List Event) × Life (made memory) cs es t = called-has-life t k in
+    let here : (es : List Event) × Happens (record { state = t; mem = m }) c es (after c (record { state = t; mem = m })) = call-has-events c (record { state = t; mem = m }) in
+    (before .0, pushed (before .1) c, before .2 ++ here .0, lives (before .3) m (here .1))
