@@ -1,6 +1,6 @@
 -- What one unit does, over any world at all: any state, any bytes in memory. It works on, finds a bad ring or no work, or settles a
 -- submission whose rule is broken; and there is no other way. Assumes nothing.
-use mathlib.Core.Path.{_≡_, refl, sym, subst, _∙_}
+use mathlib.Core.Path.{_≡_, refl, sym, ap, subst, _∙_}
 use mathlib.Core.Bool.{Bool, true, false}
 use mathlib.Core.List.{List, []}
 use Prim.Native.Nat.{ℕ, zero, suc}
@@ -99,6 +99,32 @@ module _ (w : World) where
 pub unit : (w : World) → Unit w (step w)
 unfolding step
 unit w = by-work w (w .state .work) refl
+
+-- and what a case asks for decides it: a world that one of them gives is the unit's
+module _ (w : World) where
+  next-is-step : (k next : Work) → w .state .work ≡ k → Next w k next → step-on w k ≡ working next w
+  unfolding open-step entry-step packet-step
+  next-is-step resting next e h = ap (after-opening w) (h .here) ∙ ap (λ k. working k w) (sym (h .first))
+  next-is-step (entries o kept) next e h = ap (after-entry w o (take-entry (w .mem) (o .table) kept .kept)) (h .0) ∙ ap (λ k. working k w) (sym (h .1))
+  next-is-step (packets j s at es held) next e h =
+      ap (after-packet w j s (next-place at (left (w .mem) s at)) es (take-packet es held (left (w .mem) s at) .held)) (h .0) ∙ ap (λ k. working k w) (sym (h .1))
+  next-is-step (waiting j es held) next e h = ap (λ k. working k w) (e ∙ sym h)
+
+  broken-is-step : (k : Work) (j : Job) (r : Refusal) → Breaks w k j r → step-on w k ≡ settled-keeping j (Broken r) w
+  unfolding open-step entry-step packet-step
+  broken-is-step resting j r h = ap (after-opening w) h
+  broken-is-step (entries o kept) j r h =
+      ap (after-entry w o (take-entry (w .mem) (o .table) kept .kept)) (h .1) ∙ ap (λ x. settled-keeping x (Broken r) w) (sym (h .0))
+  broken-is-step (packets k s at es held) j r h =
+      ap (after-packet w k s (next-place at (left (w .mem) s at)) es (take-packet es held (left (w .mem) s at) .held)) (h .1) ∙ ap (λ x. settled-keeping x (Broken r) w) (sym (h .0))
+  broken-is-step (waiting k es held) j r h = absurd h
+
+pub unit-is-step : (w w′ : World) → Unit w w′ → step w ≡ w′
+unfolding step open-step
+unit-is-step w w′ (works-on next h) = next-is-step w (w .state .work) next refl h
+unit-is-step w w′ (finds-bad-ring e h) = ap (step-on w) e ∙ ap (after-opening w) h
+unit-is-step w w′ (finds-no-work e h) = ap (step-on w) e ∙ ap (after-opening w) h
+unit-is-step w w′ (settles j r h) = broken-is-step w (w .state .work) j r h
 
 -- a unit settles the submission in work, or the one that its opening refuses
 pub broken-is-in-work : (w : World) (k : Work) (j : Job) (r : Refusal) → Breaks w k j r → JobOf w k j
