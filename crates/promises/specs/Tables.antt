@@ -40,23 +40,27 @@ use Rattle.promises.specs.Events.{Event, Units, Happens, call-has-events
 use Rattle.promises.specs.Events.Units.{stop, one}
 use Rattle.promises.specs.Events.Happens.{refused-write, refused-run, refused-answer, asks-register, asks-record, changes-registers, resets-all, spends, settles-answered}
 
--- an entry that is found good is kept as it stands in the memory lent at its unit, after those kept before it, and breaks no rule
-good-entry-is-kept : (m : List ℕ) (t : Table) (kept : List Entry) → take-entry m t kept .verdict ≡ Fine
-    → (take-entry m t kept .kept ≡ pushed kept (entry m (entry-place t (length kept)))) × (entry-rules (length m) kept (entry m (entry-place t (length kept))) ≡ Fine)
-unfolding take-entry
-good-entry-is-kept m t kept = by-test (in-reach m t (length kept))
-  where
-    next : Entry
-    next = entry m (entry-place t (length kept))
+-- the table's entry after those that were kept, as it stands in some memory
+abbrev pub next-entry : List ℕ → Table → List Entry → Entry
+next-entry m t kept = entry m (entry-place t (length kept))
 
-    by-verdict : (v : Verdict) → entry-rules (length m) kept next ≡ v → keep v kept next .verdict ≡ Fine → (keep v kept next .kept ≡ pushed kept next) × (entry-rules (length m) kept next ≡ Fine)
-    by-verdict Fine e d = (refl, e)
-    by-verdict (Broken r) e d = absurd (let z : _≡_ {A = ℕ} 0 1 = cc in omega arith)
+-- an entry that is found good is kept after those before it, and breaks no rule
+module _ (m : List ℕ) (t : Table) (kept : List Entry) where
+  -- what is kept is right, where the verdict is good
+  abbrev Right : Taken → Type 0
+  Right x = x .verdict ≡ Fine → (x .kept ≡ pushed kept (next-entry m t kept)) × (entry-rules (length m) kept (next-entry m t kept) ≡ Fine)
 
-    by-test : (b : Bool) → pick {A = Taken} b (keep (entry-rules (length m) kept next) kept next) (record { verdict = Broken (refusal bad-entry); kept = kept }) .verdict ≡ Fine
-        → (pick {A = Taken} b (keep (entry-rules (length m) kept next) kept next) (record { verdict = Broken (refusal bad-entry); kept = kept }) .kept ≡ pushed kept next) × (entry-rules (length m) kept next ≡ Fine)
-    by-test true d = by-verdict (entry-rules (length m) kept next) refl d
-    by-test false d = absurd (let z : _≡_ {A = ℕ} 0 1 = cc in omega arith)
+  by-verdict : (v : Verdict) → entry-rules (length m) kept (next-entry m t kept) ≡ v → Right (keep v kept (next-entry m t kept))
+  by-verdict Fine e d = (refl, e)
+  by-verdict (Broken r) e d = absurd (let z : _≡_ {A = ℕ} 0 1 = cc in omega arith)
+
+  good-entry-is-kept : Right (take-entry m t kept)
+  unfolding take-entry
+  good-entry-is-kept = by-test (in-reach m t (length kept))
+    where
+      by-test : (b : Bool) → Right (pick b (keep (entry-rules (length m) kept (next-entry m t kept)) kept (next-entry m t kept)) (record { verdict = Broken (refusal bad-entry); kept = kept }))
+      by-test true d = by-verdict (entry-rules (length m) kept (next-entry m t kept)) refl d
+      by-test false d = absurd (let z : _≡_ {A = ℕ} 0 1 = cc in omega arith)
 
 -- ---- whose table it is, over memories of n bytes
 
@@ -64,8 +68,7 @@ good-entry-is-kept m t kept = by-test (in-reach m t (length kept))
 pub data TakenFrom (n : ℕ) (t : Table) : List Entry → Type 0 where
   none-kept : TakenFrom n t []
   kept-one : {kept : List Entry} → TakenFrom n t kept → (m : List ℕ) → length m ≡ n
-      → entry-rules (length m) kept (entry m (entry-place t (length kept))) ≡ Fine
-      → TakenFrom n t (pushed kept (entry m (entry-place t (length kept))))
+      → entry-rules n kept (next-entry m t kept) ≡ Fine → TakenFrom n t (pushed kept (next-entry m t kept))
 
 -- an opening over some memory, with some ring, started this
 pub record StartedOnce (n : ℕ) (o : Opened) : Type 0 where
@@ -114,40 +117,48 @@ module _ (w : World) (n : ℕ) (lent : length (w .mem) ≡ n) where
       subst (OwnTable n) (sym (h .first))
       (entries-own n (h .what) [] (w .state .resources) (record { mem = w .mem; long = lent; ring = w .state .regs .ring; size = w .state .regs .ringsize; started = h .here }) none-kept (omega arith))
   next-own (entries o kept) next h own =
-      let good : (take-entry (w .mem) (o .table) kept .kept ≡ pushed kept (entry (w .mem) (entry-place (o .table) (length kept)))) × (entry-rules (length (w .mem)) kept (entry (w .mem) (entry-place (o .table) (length kept))) ≡ Fine) =
-      good-entry-is-kept (w .mem) (o .table) kept (h .0) in
+      let x : Entry = next-entry (w .mem) (o .table) kept in
+      let good : (take-entry (w .mem) (o .table) kept .kept ≡ pushed kept x) × (entry-rules (length (w .mem)) kept x ≡ Fine) = good-entry-is-kept (w .mem) (o .table) kept (h .0) in
+      let more : TakenFrom n (o .table) (pushed kept x) = kept-one (own .1) (w .mem) lent (subst (λ i. entry-rules i kept x ≡ Fine) lent (good .1)) in
       subst (OwnTable n) (sym (h .1))
       (subst (λ es. OwnTable n (entries-at o es (w .state .resources))) (sym (good .0))
-      (entries-own n o (pushed kept (entry (w .mem) (entry-place (o .table) (length kept)))) (w .state .resources) (own .0) (kept-one (own .1) (w .mem) lent (good .1)) (simp length-append (omega (arith, own .2)))))
+      (entries-own n o (pushed kept x) (w .state .resources) (own .0) more (simp length-append (omega (arith, own .2)))))
   next-own (packets j s at es held) next h own = subst (OwnTable n) (sym (h .1)) (packets-own n j s _ es _ own)
   next-own (waiting j es held) next h own = subst (OwnTable n) (sym h) own
 
-unit-lent : (w w′ : World) → Unit w w′ → length (w .mem) ≡ w .state .memory → length (w′ .mem) ≡ w′ .state .memory
+-- memory of the device's own length is lent
+abbrev Lent : World → Type 0
+Lent w = length (w .mem) ≡ w .state .memory
+
+abbrev Owns : State → Type 0
+Owns s = OwnTable (s .memory) (s .work)
+
+unit-lent : (w w′ : World) → Unit w w′ → Lent w → Lent w′
 unfolding settled
 unit-lent w w′ (works-on next h) l = l
 unit-lent w w′ (finds-bad-ring e h) l = l
 unit-lent w w′ (finds-no-work e h) l = l
 unit-lent w w′ (settles j r h) l = marked-length j (ended-by j (Broken r) (w .state .regs)) (w .mem) ∙ l
 
-unit-own : (w w′ : World) → Unit w w′ → length (w .mem) ≡ w .state .memory → OwnTable (w .state .memory) (w .state .work) → OwnTable (w′ .state .memory) (w′ .state .work)
+unit-own : (w w′ : World) → Unit w w′ → Lent w → Owns (w .state) → Owns (w′ .state)
 unfolding settled
 unit-own w w′ (works-on next h) l own = next-own w (w .state .memory) l (w .state .work) next h own
 unit-own w w′ (finds-bad-ring e h) l own = own
 unit-own w w′ (finds-no-work e h) l own = own
 unit-own w w′ (settles j r h) l own = omega arith
 
-units-own : (w : World) (es : List Event) (w′ : World) → Units w es w′ → length (w .mem) ≡ w .state .memory → OwnTable (w .state .memory) (w .state .work) → OwnTable (w′ .state .memory) (w′ .state .work)
+units-own : (w : World) (es : List Event) (w′ : World) → Units w es w′ → Lent w → Owns (w .state) → Owns (w′ .state)
 units-own w es w′ stop l own = own
 units-own w es w′ (one {w′ = v} {es = fs} g u q) l own = units-own v fs w′ q (unit-lent w v u l) (unit-own w v u l own)
 
 -- ---- and by every call
 
-answer-own : (good : Bool) (w : World) (j : Job) (es : List Entry) (h : Holdings) → w .state .work ≡ waiting j es h → OwnTable (answered good w .state .memory) (answered good w .state .work)
+answer-own : (good : Bool) (w : World) (j : Job) (es : List Entry) (h : Holdings) → w .state .work ≡ waiting j es h → Owns (answered good w .state)
 unfolding settled
 answer-own true w j es h e = rw (good-settles w j es h e) (omega arith)
 answer-own false w j es h e = rw (failed-settles w j es h e) (omega arith)
 
-call-own : (w : World) (c : Call) (es : List Event) (w′ : World) → Happens w c es w′ → OwnTable (w .state .memory) (w .state .work) → OwnTable (w′ .state .memory) (w′ .state .work)
+call-own : (w : World) (c : Call) (es : List Event) (w′ : World) → Happens w c es w′ → Owns (w .state) → Owns (w′ .state)
 unfolding reset
 call-own w c es w′ (refused-write offset v h) own = own
 call-own w c es w′ (refused-run n h) own = own
