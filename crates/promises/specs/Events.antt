@@ -1,6 +1,6 @@
 -- What happens to a device, in order: submissions settle, a ring is refused, the guest resets. The units of any run and any list of calls
 -- come to such a list of events, each with what it needs to happen. Assumes nothing.
-use mathlib.Core.Path.{_≡_, refl, subst}
+use mathlib.Core.Path.{_≡_, refl, ap, subst, _∙_}
 use mathlib.Core.Bool.{Bool, true, false}
 use mathlib.Core.List.{List, [], _∷_, _++_}
 use Prim.Native.Nat.{ℕ, zero, suc, _≤_}
@@ -26,6 +26,7 @@ use Rattle.rules.specs.declared.Verdict.{Verdict}
 use Rattle.rules.specs.declared.Verdict.the-variants.{Fine, Broken}
 use Rattle.packet_apply.specs.Held.{Every}
 use Rattle.promises.specs.Writes.{resets}
+use Rattle.promises.specs.Refused.{refused-run-changes-nothing, refused-answer-changes-nothing, refused-write-changes-nothing}
 use Rattle.promises.specs.Called.{Call, after, after-all, Called}
 use Rattle.promises.specs.Called.Called.{makes, calls}
 use Rattle.promises.specs.Called.Call.{writes, reads, runs, records, answers}
@@ -66,14 +67,15 @@ pub data Happens (w : World) : Call → List Event → World → Type 0 where
   asks-register : (offset : ℕ) → Happens w (reads offset) [] w
   asks-record : (i : ℕ) → Happens w (records i) [] w
   -- registers are written, but not those that the device tells its fence and its error by
-  changes-registers : (offset v : ℕ) (r : Registers) → resets offset v ≡ false
+  changes-registers : (offset v : ℕ) (r : Registers) → resets offset v ≡ false → call-write (w .state) offset v .state ≡ with-regs r (w .state)
       → r .completed ≡ w .state .regs .completed → r .error ≡ w .state .regs .error → Happens w (writes offset v) [] (registering r w)
   -- a reset
-  resets-all : (offset v : ℕ) → resets offset v ≡ true → Happens w (writes offset v) (resetting ∷ []) (with-state (reset (bit-of 0 v) (w .state)) w)
+  resets-all : (offset v : ℕ) → resets offset v ≡ true → call-write (w .state) offset v .state ≡ reset (bit-of 0 v) (w .state)
+      → Happens w (writes offset v) (resetting ∷ []) (with-state (reset (bit-of 0 v) (w .state)) w)
   -- memory of the right length is lent, and units are spent
   spends : (n : ℕ) {es : List Event} → lent-another w ≡ false → Units w es (run-for n w .state) → Happens w (runs n) es (run-for n w .state)
   -- the submission that waits is answered, and settled with the host's verdict
-  settles-answered : (good : Bool) (j : Job) (es : List Entry) (h : Holdings) → w .state .work ≡ waiting j es h
+  settles-answered : (good : Bool) (j : Job) (es : List Entry) (h : Holdings) → lent-another w ≡ false → w .state .work ≡ waiting j es h
       → Happens w (answers good) (settling j (verdict-of good) (answered good w .state) ∷ []) (answered good w)
 
 -- calls one after the other over still memory, and their events
@@ -136,13 +138,13 @@ write-has-events : (offset v : ℕ) (w : World) → (es : List Event) × Happens
 unfolding call-write write-of
 write-has-events offset v w = by-found (write-of (w .state) offset v) refl (found-gives (w .state) offset v (writable (w .state) v) (each-gives (w .state) v))
   where
-    by-state : (s : State) → Gives (w .state) offset v s → (es : List Event) × Happens w (writes offset v) es (with-state s w)
-    by-state s (other-registers r n c e) = ([], changes-registers offset v r n c e)
-    by-state s (reset-state h) = (resetting ∷ [], resets-all offset v h)
+    by-state : (s : State) → wrote (w .state) (write-of (w .state) offset v) .state ≡ s → Gives (w .state) offset v s → (es : List Event) × Happens w (writes offset v) es (with-state s w)
+    by-state s q (other-registers r n c e) = ([], changes-registers offset v r n q c e)
+    by-state s q (reset-state h) = (resetting ∷ [], resets-all offset v h q)
 
     by-found : (f : Found Write) → write-of (w .state) offset v ≡ f → GivesFound (w .state) offset v f → (es : List Event) × Happens w (writes offset v) es (with-state (wrote (w .state) f .state) w)
     by-found none e k = ([], refused-write offset v (λ d. absurd (let z : _≡_ {A = ℕ} 0 1 = cc in omega arith)))
-    by-found (found x) e k = by-state (x .state) k
+    by-found (found x) e k = by-state (x .state) (ap (λ f. wrote (w .state) f .state) e) k
 
 run-call-has-events : (n : ℕ) (w : World) → (es : List Event) × Happens w (runs n) es (call-run w n .world)
 unfolding call-run
@@ -169,7 +171,7 @@ answer-call-has-events good w = by-tests (lent-another w) (waits (w .state)) ref
     by-tests true b e f = ([], refused-answer good (λ d. absurd (let z : _≡_ {A = ℕ} 0 1 = cc in omega arith)))
     by-tests false true e f =
         let its : (j : Job) × (es : List Entry) × (h : Holdings) × (w .state .work ≡ waiting j es h) = waits-for (w .state .work) f in
-        (_, settles-answered good (its .0) (its .1) (its .2) (its .3))
+        (_, settles-answered good (its .0) (its .1) (its .2) e (its .3))
     by-tests false false e f = ([], refused-answer good (λ d. absurd (let z : _≡_ {A = ℕ} 0 3 = cc in omega arith)))
 
 pub call-has-events : (c : Call) (w : World) → (es : List Event) × Happens w c es (after c w)
@@ -194,3 +196,26 @@ called-has-life s (calls {s = t} c m k) =
     let before : (memory : ℕ) × (cs : List Call) × (es : List Event) × Life (made memory) cs es t = called-has-life t k in
     let here : (es : List Event) × Happens (record { state = t; mem = m }) c es (after c (record { state = t; mem = m })) = call-has-events c (record { state = t; mem = m }) in
     (before .0, pushed (before .1) c, before .2 ++ here .0, lives (before .3) m (here .1))
+
+-- ---- and they are the events of these calls alone
+
+pub happens-is-after : (w : World) (c : Call) (es : List Event) (w′ : World) → Happens w c es w′ → after c w ≡ w′
+unfolding after call-run call-answer
+happens-is-after w c es w′ (refused-write offset v h) = ap (λ s. with-state s w) (refused-write-changes-nothing (w .state) offset v h)
+happens-is-after w c es w′ (refused-run n h) = refused-run-changes-nothing w n h
+happens-is-after w c es w′ (refused-answer good h) = refused-answer-changes-nothing w good h
+happens-is-after w c es w′ (asks-register offset) = refl
+happens-is-after w c es w′ (asks-record i) = refl
+happens-is-after w c es w′ (changes-registers offset v r n q d e) = ap (λ s. with-state s w) q
+happens-is-after w c es w′ (resets-all offset v h q) = ap (λ s. with-state s w) q
+happens-is-after w c es w′ (spends n e u) =
+    ap (λ b. pick b (record { answer = other-memory; units = 0; ended = Idle; world = w }) (ran (run-for n w)) .world) e
+happens-is-after w c es w′ (settles-answered good j table h e f) =
+    ap (λ b. pick {A = Told} b (record { answer = other-memory; world = w }) (pick {A = Told} (waits (w .state)) (record { answer = done; world = answered good w }) (record { answer = nothing-waits; world = w })) .world) e
+    ∙ ap (λ k. pick {A = Told} (waits-on k) (record { answer = done; world = answered good w }) (record { answer = nothing-waits; world = w }) .world) f
+
+pub history-is-after-all : (w : World) (cs : List Call) (es : List Event) (w′ : World) → History w cs es w′ → after-all cs w ≡ w′
+unfolding after-all
+history-is-after-all w cs es w′ no-call = refl
+history-is-after-all w cs es w′ (next-call {w′ = v} {c = c} {cs = ks} {es = here} {fs = later} d q) =
+    ap (after-all ks) (happens-is-after w c here v d) ∙ history-is-after-all v ks later w′ q

@@ -165,11 +165,11 @@ call-own w c es w′ (refused-run n h) own = own
 call-own w c es w′ (refused-answer good h) own = own
 call-own w c es w′ (asks-register offset) own = own
 call-own w c es w′ (asks-record i) own = own
-call-own w c es w′ (changes-registers offset v r n d e) own = own
-call-own w c es w′ (resets-all offset v h) own = omega arith
+call-own w c es w′ (changes-registers offset v r n q d e) own = own
+call-own w c es w′ (resets-all offset v h q) own = omega arith
 call-own w c es w′ (spends n e u) own =
     units-own w es w′ u (eqb-true (length (w .mem)) (w .state .memory) (not-false (eqb (length (w .mem)) (w .state .memory)) e)) own
-call-own w c es w′ (settles-answered good j table h e) own = answer-own good w j table h e
+call-own w c es w′ (settles-answered good j table h l e) own = answer-own good w j table h e
 
 -- of any device that was made and called
 pub called-has-its-own-table : (s : State) → Called s → OwnTable (s .memory) (s .work)
