@@ -16,3 +16,9 @@ pub mod Acts
 pub mod Chains
 pub mod Courses
 pub mod ChainsStand
+pub mod Units
+pub mod Events
+pub mod Changes
+pub mod Tables
+pub mod Ranges
+pub mod Bytes
