@@ -11,3 +11,7 @@ pub mod InMemory
 pub mod AnyRegisters
 pub mod Night
 pub mod Called
+pub mod LocalBytes
+pub mod LocalPackets
+pub mod LocalOpening
+pub mod Locality
