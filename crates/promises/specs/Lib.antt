@@ -15,3 +15,4 @@ pub mod LocalBytes
 pub mod LocalPackets
 pub mod LocalOpening
 pub mod Locality
+pub mod Witness
