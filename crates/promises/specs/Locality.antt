@@ -1,18 +1,22 @@
 -- A unit reads where it stands and nothing else: over two memories that hold the same bytes there, whatever stands elsewhere, it comes
 -- to the same state and writes the same. So a front that has read ahead, or reads what it has kept once more, is shut out. Assumes nothing.
-use mathlib.Core.Path.{_≡_, refl}
-use mathlib.Core.List.{List}
+use mathlib.Core.Path.{_≡_, refl, ap, _∙_}
+use mathlib.Core.Bool.{Bool, true, false}
+use mathlib.Core.List.{List, [], _∷_}
 use Prim.Native.Nat.{ℕ, _≤_}
 use lib.ListN.{length}
+use Rattle.machine.specs.Machine.{pick, halt, spent, runFor}
+use Rattle.rules.specs.Numbers.{other-memory}
 use Rattle.rules.specs.Layouts.{entry-size}
 use Rattle.rules.specs.Table.{entry-place, take-entry}
 use Rattle.rules.specs.Stream.{left}
 use Rattle.rules.specs.Ring.{opening-of}
 use Rattle.rules.specs.Packets.{Holdings, take-packet}
-use Rattle.rules.specs.State.{Work, World}
+use Rattle.rules.specs.State.{Work, State, World}
 use Rattle.rules.specs.State.Work.{resting, entries, packets, waiting}
 use Rattle.rules.specs.Settle.{marked, settled}
-use Rattle.rules.specs.Steps.{after-opening, open-step, after-entry, entry-step, after-packet, next-place, packet-step, step-on, step}
+use Rattle.rules.specs.Steps.{after-opening, open-step, after-entry, entry-step, after-packet, next-place, packet-step, step-on, step, go}
+use Rattle.rules.specs.Calls.{lent-another, ending, Ran, ran, call-run}
 use Rattle.rules.specs.declared.Entry.{Entry}
 use Rattle.rules.specs.declared.Job.{Job}
 use Rattle.rules.specs.declared.Registers.{Registers}
@@ -21,6 +25,7 @@ use Rattle.rules.specs.declared.Stream.{Stream}
 use Rattle.rules.specs.declared.Opened.{Opened}
 use Rattle.rules.specs.declared.Verdict.{Verdict}
 use Rattle.rules.specs.declared.Verdict.the-variants.{Fine, Broken}
+use Rattle.rules.specs.declared.Ended.the-variants.{Idle}
 use Rattle.rules.specs.declared.Opening.{Opening}
 use Rattle.rules.specs.declared.Opening.the-variants.{BadRing, NoWork, Refused, Started}
 use Rattle.promises.specs.LocalBytes.{Agree, same-entry}
@@ -99,3 +104,57 @@ pub unit-reads-only : (w : World) (m′ : List ℕ) → length (w .mem) ≡ leng
     → SameEnd (w .mem) m′ (step w) (step (lending m′ w))
 unfolding step
 unit-reads-only w m′ len same = on-reads-only w m′ len (w .state .work) same
+
+-- ---- by calls
+
+-- two runs that answer and report the same, and have come to the same end
+pub record SameRun (m m′ : List ℕ) (x x′ : Ran) : Type 0 where
+  pub answer : x .answer ≡ x′ .answer
+  pub units : x .units ≡ x′ .units
+  pub ended : x .ended ≡ x′ .ended
+  pub end : SameEnd m m′ (x .world) (x′ .world)
+
+-- a run of one unit; of a device that does not go it reads nothing
+pub run-of-one-reads-only : (w : World) (m′ : List ℕ) → length (w .mem) ≡ length m′ → (go w ≡ true → SameWhereRead w m′)
+    → SameRun (w .mem) m′ (call-run w 1) (call-run (lending m′ w) 1)
+unfolding call-run runFor go
+run-of-one-reads-only w m′ len same = rw (← len) (by-tests (lent-another w) (go w) refl)
+  where
+    refused : World → Ran
+    refused x = record { answer = other-memory; units = 0; ended = Idle; world = x }
+
+    one : Bool → World → Ran
+    one b x = ran (pick b (spent 1 (halt (step x))) (halt x))
+
+    by-tests : (a b : Bool) → go w ≡ b → SameRun (w .mem) m′ (pick a (refused w) (one b w)) (pick a (refused (lending m′ w)) (one b (lending m′ w)))
+    by-tests true b g = record { answer = refl; units = refl; ended = refl; end = record { state = refl; writes = unwritten } }
+    by-tests false true g =
+        let unit : SameEnd (w .mem) m′ (step w) (step (lending m′ w)) = unit-reads-only w m′ len (same g) in
+        record { answer = refl; units = refl; ended = ap ending (unit .state); end = unit }
+    by-tests false false g = record { answer = refl; units = refl; ended = refl; end = record { state = refl; writes = unwritten } }
+
+-- ---- memory may move: runs of one unit each, each lent a memory of its own
+
+abbrev pub with-memory : State → List ℕ → World
+with-memory s m = record { state = s; mem = m }
+
+abbrev pub after-one : State → List ℕ → State
+after-one s m = call-run (with-memory s m) 1 .world .state
+
+unfoldable pub over-moving : List (List ℕ) → State → State
+over-moving [] s = s
+over-moving (m ∷ ms) s = over-moving ms (after-one s m)
+
+-- other memories, each of the same length and with the same bytes where its unit reads
+pub data SameWhenRead : State → List (List ℕ) → List (List ℕ) → Type 0 where
+  ends : {s : State} → SameWhenRead s [] []
+  unit : {s : State} {ms ms′ : List (List ℕ)} (m m′ : List ℕ) → length m ≡ length m′ → (go (with-memory s m) ≡ true → SameWhereRead (with-memory s m) m′)
+      → SameWhenRead (after-one s m) ms ms′ → SameWhenRead s (m ∷ ms) (m′ ∷ ms′)
+
+-- so what a device comes to is fixed by the bytes that each unit reads, as they stand at that unit
+pub moving-memory-reads-only : (s : State) (ms ms′ : List (List ℕ)) → SameWhenRead s ms ms′ → over-moving ms s ≡ over-moving ms′ s
+unfolding over-moving
+moving-memory-reads-only s ms ms′ ends = refl
+moving-memory-reads-only s ms ms′ (unit {ms = ns} {ms′ = ns′} m m′ len same later) =
+    moving-memory-reads-only (after-one s m) ns ns′ later
+    ∙ ap (over-moving ns′) (run-of-one-reads-only (with-memory s m) m′ len same .end .state)
