@@ -32,19 +32,19 @@ use Rattle.promises.specs.LocalBytes.{Agree, same-entry}
 use Rattle.promises.specs.LocalPackets.{SamePacket, same-next-frame, same-taken-packet}
 use Rattle.promises.specs.LocalOpening.{SameOpening, same-opening}
 
--- the same device, lent another memory
-abbrev pub lending : List ℕ → World → World
-lending m w = record { state = w .state; mem = m }
+-- a device that is lent a memory
+abbrev pub lent : State → List ℕ → World
+lent s m = record { state = s; mem = m }
 
--- m′ holds the same bytes as m where a unit reads that stands at some work: what an opening reads, the next entry, or the next packet
+-- two memories hold the same bytes where a unit reads that stands at some work: what an opening reads, the next entry, or the next packet
 abbrev pub SameFor : Registers → Work → List ℕ → List ℕ → Type 0
 SameFor r resting m m′ = SameOpening m m′ (r .ring) (r .ringsize)
 SameFor r (entries o kept) m m′ = Agree m m′ (entry-place (o .table) (length kept)) entry-size
 SameFor r (packets j s at es h) m m′ = SamePacket m m′ s at
 SameFor r (waiting j es h) m m′ = 0 ≤ 0
 
-abbrev pub SameWhereRead : World → List ℕ → Type 0
-SameWhereRead w m′ = SameFor (w .state .regs) (w .state .work) (w .mem) m′
+abbrev pub SameWhereRead : State → List ℕ → List ℕ → Type 0
+SameWhereRead s = SameFor (s .regs) (s .work)
 
 -- what is written over two memories: nothing, or over each the same head and, by the same registers, the same page
 pub data SameWrites (r : Registers) (m m′ : List ℕ) : List ℕ → List ℕ → Type 0 where
@@ -62,48 +62,42 @@ pub same-taken-entry : (m m′ : List ℕ) → length m ≡ length m′ → (t :
 unfolding take-entry
 same-taken-entry m m′ len t kept same = rw (len, same-entry m m′ (entry-place t (length kept)) same)
 
--- what a unit comes to, once it has been judged, looks at no byte
-module _ (w : World) (m′ : List ℕ) where
-  abbrev Same : World → World → Type 0
-  Same = SameEnd (w .mem) m′
-
-  opening-blind : (v : Opening) → Same (after-opening w v) (after-opening (lending m′ w) v)
+module _ (s : State) (m m′ : List ℕ) where
+  -- what a unit comes to, once it has been judged, looks at no byte
+  opening-blind : (v : Opening) → SameEnd m m′ (after-opening (lent s m) v) (after-opening (lent s m′) v)
   unfolding settled
   opening-blind BadRing = record { state = refl; writes = unwritten }
   opening-blind NoWork = record { state = refl; writes = unwritten }
   opening-blind (Refused j r) = record { state = refl; writes = settles j }
   opening-blind (Started o) = record { state = refl; writes = unwritten }
 
-  entry-blind : (o : Opened) (kept : List Entry) (v : Verdict) → Same (after-entry w o kept v) (after-entry (lending m′ w) o kept v)
+  entry-blind : (o : Opened) (kept : List Entry) (v : Verdict) → SameEnd m m′ (after-entry (lent s m) o kept v) (after-entry (lent s m′) o kept v)
   unfolding settled
   entry-blind o kept Fine = record { state = refl; writes = unwritten }
   entry-blind o kept (Broken r) = record { state = refl; writes = settles (o .job) }
 
-  packet-blind : (j : Job) (s : Stream) (next : ℕ) (es : List Entry) (h : Holdings) (v : Verdict)
-      → Same (after-packet w j s next es h v) (after-packet (lending m′ w) j s next es h v)
+  packet-blind : (j : Job) (t : Stream) (next : ℕ) (es : List Entry) (h : Holdings) (v : Verdict)
+      → SameEnd m m′ (after-packet (lent s m) j t next es h v) (after-packet (lent s m′) j t next es h v)
   unfolding settled
-  packet-blind j s next es h Fine = record { state = refl; writes = unwritten }
-  packet-blind j s next es h (Broken r) = record { state = refl; writes = settles j }
+  packet-blind j t next es h Fine = record { state = refl; writes = unwritten }
+  packet-blind j t next es h (Broken r) = record { state = refl; writes = settles j }
 
-  module _ (len : length (w .mem) ≡ length m′) where
-    on-reads-only : (k : Work) → SameFor (w .state .regs) k (w .mem) m′ → Same (step-on w k) (step-on (lending m′ w) k)
+  module _ (len : length m ≡ length m′) where
+    on-reads-only : (k : Work) → SameFor (s .regs) k m m′ → SameEnd m m′ (step-on (lent s m) k) (step-on (lent s m′) k)
     unfolding open-step entry-step packet-step
     on-reads-only resting same =
-        rw (← same-opening (w .mem) m′ len (w .state .regs .ring) (w .state .regs .ringsize) same)
-        (opening-blind (opening-of (w .mem) (w .state .regs .ring) (w .state .regs .ringsize)))
+        rw (← same-opening m m′ len (s .regs .ring) (s .regs .ringsize) same) (opening-blind (opening-of m (s .regs .ring) (s .regs .ringsize)))
     on-reads-only (entries o kept) same =
-        rw (← same-taken-entry (w .mem) m′ len (o .table) kept same)
-        (entry-blind o (take-entry (w .mem) (o .table) kept .kept) (take-entry (w .mem) (o .table) kept .verdict))
-    on-reads-only (packets j s at es h) same =
-        rw (← same-next-frame s at (w .mem) m′ len same, ← same-taken-packet s at (w .mem) m′ len same es h)
-        (packet-blind j s (next-place at (left (w .mem) s at)) es (take-packet es h (left (w .mem) s at) .held) (take-packet es h (left (w .mem) s at) .verdict))
+        rw (← same-taken-entry m m′ len (o .table) kept same) (entry-blind o (take-entry m (o .table) kept .kept) (take-entry m (o .table) kept .verdict))
+    on-reads-only (packets j t at es h) same =
+        rw (← same-next-frame t at m m′ len same, ← same-taken-packet t at m m′ len same es h)
+        (packet-blind j t (next-place at (left m t at)) es (take-packet es h (left m t at) .held) (take-packet es h (left m t at) .verdict))
     on-reads-only (waiting j es h) same = record { state = refl; writes = unwritten }
 
--- one unit, of one device over two memories of one length
-pub unit-reads-only : (w : World) (m′ : List ℕ) → length (w .mem) ≡ length m′ → SameWhereRead w m′
-    → SameEnd (w .mem) m′ (step w) (step (lending m′ w))
-unfolding step
-unit-reads-only w m′ len same = on-reads-only w m′ len (w .state .work) same
+    -- one unit, of one device over two memories of one length
+    pub unit-reads-only : SameWhereRead s m m′ → SameEnd m m′ (step (lent s m)) (step (lent s m′))
+    unfolding step
+    unit-reads-only same = on-reads-only (s .work) same
 
 -- ---- by calls
 
@@ -115,31 +109,28 @@ pub record SameRun (m m′ : List ℕ) (x x′ : Ran) : Type 0 where
   pub end : SameEnd m m′ (x .world) (x′ .world)
 
 -- a run of one unit; of a device that does not go it reads nothing
-pub run-of-one-reads-only : (w : World) (m′ : List ℕ) → length (w .mem) ≡ length m′ → (go w ≡ true → SameWhereRead w m′)
-    → SameRun (w .mem) m′ (call-run w 1) (call-run (lending m′ w) 1)
+pub run-of-one-reads-only : (s : State) (m m′ : List ℕ) → length m ≡ length m′ → (go (lent s m) ≡ true → SameWhereRead s m m′)
+    → SameRun m m′ (call-run (lent s m) 1) (call-run (lent s m′) 1)
 unfolding call-run runFor go
-run-of-one-reads-only w m′ len same = rw (← len) (by-tests (lent-another w) (go w) refl)
+run-of-one-reads-only s m m′ len same = rw (← len) (by-tests (lent-another (lent s m)) (go (lent s m)) refl)
   where
     refused : World → Ran
-    refused x = record { answer = other-memory; units = 0; ended = Idle; world = x }
+    refused w = record { answer = other-memory; units = 0; ended = Idle; world = w }
 
     one : Bool → World → Ran
-    one b x = ran (pick b (spent 1 (halt (step x))) (halt x))
+    one b w = ran (pick b (spent 1 (halt (step w))) (halt w))
 
-    by-tests : (a b : Bool) → go w ≡ b → SameRun (w .mem) m′ (pick a (refused w) (one b w)) (pick a (refused (lending m′ w)) (one b (lending m′ w)))
+    by-tests : (a b : Bool) → go (lent s m) ≡ b → SameRun m m′ (pick a (refused (lent s m)) (one b (lent s m))) (pick a (refused (lent s m′)) (one b (lent s m′)))
     by-tests true b g = record { answer = refl; units = refl; ended = refl; end = record { state = refl; writes = unwritten } }
     by-tests false true g =
-        let unit : SameEnd (w .mem) m′ (step w) (step (lending m′ w)) = unit-reads-only w m′ len (same g) in
+        let unit : SameEnd m m′ (step (lent s m)) (step (lent s m′)) = unit-reads-only s m m′ len (same g) in
         record { answer = refl; units = refl; ended = ap ending (unit .state); end = unit }
     by-tests false false g = record { answer = refl; units = refl; ended = refl; end = record { state = refl; writes = unwritten } }
 
 -- ---- memory may move: runs of one unit each, each lent a memory of its own
 
-abbrev pub with-memory : State → List ℕ → World
-with-memory s m = record { state = s; mem = m }
-
 abbrev pub after-one : State → List ℕ → State
-after-one s m = call-run (with-memory s m) 1 .world .state
+after-one s m = call-run (lent s m) 1 .world .state
 
 unfoldable pub over-moving : List (List ℕ) → State → State
 over-moving [] s = s
@@ -148,7 +139,7 @@ over-moving (m ∷ ms) s = over-moving ms (after-one s m)
 -- other memories, each of the same length and with the same bytes where its unit reads
 pub data SameWhenRead : State → List (List ℕ) → List (List ℕ) → Type 0 where
   ends : {s : State} → SameWhenRead s [] []
-  unit : {s : State} {ms ms′ : List (List ℕ)} (m m′ : List ℕ) → length m ≡ length m′ → (go (with-memory s m) ≡ true → SameWhereRead (with-memory s m) m′)
+  unit : {s : State} {ms ms′ : List (List ℕ)} (m m′ : List ℕ) → length m ≡ length m′ → (go (lent s m) ≡ true → SameWhereRead s m m′)
       → SameWhenRead (after-one s m) ms ms′ → SameWhenRead s (m ∷ ms) (m′ ∷ ms′)
 
 -- so what a device comes to is fixed by the bytes that each unit reads, as they stand at that unit
@@ -156,5 +147,4 @@ pub moving-memory-reads-only : (s : State) (ms ms′ : List (List ℕ)) → Same
 unfolding over-moving
 moving-memory-reads-only s ms ms′ ends = refl
 moving-memory-reads-only s ms ms′ (unit {ms = ns} {ms′ = ns′} m m′ len same later) =
-    moving-memory-reads-only (after-one s m) ns ns′ later
-    ∙ ap (over-moving ns′) (run-of-one-reads-only (with-memory s m) m′ len same .end .state)
+    moving-memory-reads-only (after-one s m) ns ns′ later ∙ ap (over-moving ns′) (run-of-one-reads-only s m m′ len same .end .state)
