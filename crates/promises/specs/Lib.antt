@@ -12,6 +12,7 @@ pub mod AnyRegisters
 pub mod Night
 pub mod Called
 pub mod LocalBytes
+pub mod LocalWrites
 pub mod LocalPackets
 pub mod LocalOpening
 pub mod Locality

@@ -14,7 +14,7 @@ use Rattle.rules.specs.Ring.{opening-of}
 use Rattle.rules.specs.Packets.{Holdings, take-packet}
 use Rattle.rules.specs.State.{Work, State, World}
 use Rattle.rules.specs.State.Work.{resting, entries, packets, waiting}
-use Rattle.rules.specs.Settle.{marked, settled}
+use Rattle.rules.specs.Settle.{settled}
 use Rattle.rules.specs.Steps.{after-opening, open-step, after-entry, entry-step, after-packet, next-place, packet-step, step-on, step, go}
 use Rattle.rules.specs.Calls.{lent-another, ending, Ran, ran, call-run}
 use Rattle.rules.specs.declared.Entry.{Entry}
@@ -29,6 +29,8 @@ use Rattle.rules.specs.declared.Ended.the-variants.{Idle}
 use Rattle.rules.specs.declared.Opening.{Opening}
 use Rattle.rules.specs.declared.Opening.the-variants.{BadRing, NoWork, Refused, Started}
 use Rattle.promises.specs.LocalBytes.{Agree, same-entry}
+use Rattle.promises.specs.LocalWrites.{SameWrites, AgreeAt, same-writes-agree}
+use Rattle.promises.specs.LocalWrites.SameWrites.{unwritten, settles}
 use Rattle.promises.specs.LocalPackets.{SamePacket, same-next-frame, same-taken-packet}
 use Rattle.promises.specs.LocalOpening.{SameOpening, same-opening}
 
@@ -45,11 +47,6 @@ SameFor r (waiting j es h) m m′ = 0 ≤ 0
 
 abbrev pub SameWhereRead : State → List ℕ → List ℕ → Type 0
 SameWhereRead s = SameFor (s .regs) (s .work)
-
--- what is written over two memories: nothing, or over each the same head and, by the same registers, the same page
-pub data SameWrites (r : Registers) (m m′ : List ℕ) : List ℕ → List ℕ → Type 0 where
-  unwritten : SameWrites r m m′ m m′
-  settles : (j : Job) → SameWrites r m m′ (marked j r m) (marked j r m′)
 
 -- two worlds that were lent m and m′ have come to the same registers, resources and work, and to the same writes
 pub record SameEnd (m m′ : List ℕ) (x x′ : World) : Type 0 where
@@ -98,6 +95,12 @@ module _ (s : State) (m m′ : List ℕ) where
     pub unit-reads-only : SameWhereRead s m m′ → SameEnd m m′ (step (lent s m)) (step (lent s m′))
     unfolding step
     unit-reads-only same = on-reads-only (s .work) same
+
+    -- and a byte that differs after it differed before
+    pub unit-spreads-no-difference : SameWhereRead s m m′ → (i : ℕ) → AgreeAt i m m′ → AgreeAt i (step (lent s m) .mem) (step (lent s m′) .mem)
+    unit-spreads-no-difference same i at =
+        let end : SameEnd m m′ (step (lent s m)) (step (lent s m′)) = unit-reads-only same in
+        same-writes-agree i (step (lent s m) .state .regs) m m′ (step (lent s m) .mem) (step (lent s m′) .mem) len at (end .writes)
 
 -- ---- by calls
 
