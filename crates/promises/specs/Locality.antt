@@ -15,7 +15,7 @@ use Rattle.rules.specs.Packets.{Holdings, take-packet}
 use Rattle.rules.specs.State.{Work, State, World}
 use Rattle.rules.specs.State.Work.{resting, entries, packets, waiting}
 use Rattle.rules.specs.Settle.{settled}
-use Rattle.rules.specs.Steps.{after-opening, open-step, after-entry, entry-step, after-packet, next-place, packet-step, step-on, step, go}
+use Rattle.rules.specs.Steps.{after-opening, open-step, after-entry, entry-step, after-packet, next-place, packet-step, step-on, step, go, answer-on, answered}
 use Rattle.rules.specs.Calls.{lent-another, ending, Ran, ran, call-run}
 use Rattle.rules.specs.declared.Entry.{Entry}
 use Rattle.rules.specs.declared.Job.{Job}
@@ -101,6 +101,20 @@ module _ (s : State) (m m′ : List ℕ) where
     unit-spreads-no-difference same i at =
         let end : SameEnd m m′ (step (lent s m)) (step (lent s m′)) = unit-reads-only same in
         same-writes-agree i (step (lent s m) .state .regs) m m′ (step (lent s m) .mem) (step (lent s m′) .mem) len at (end .writes)
+
+  -- what the host's answer comes to looks at none either
+  answer-blind : (good : Bool) (k : Work) → SameEnd m m′ (answer-on good (lent s m) k) (answer-on good (lent s m′) k)
+  unfolding settled
+  answer-blind good resting = record { state = refl; writes = unwritten }
+  answer-blind good (entries o kept) = record { state = refl; writes = unwritten }
+  answer-blind good (packets j t at es h) = record { state = refl; writes = unwritten }
+  answer-blind true (waiting j es h) = record { state = refl; writes = settles j }
+  answer-blind false (waiting j es h) = record { state = refl; writes = settles j }
+
+  -- an answer reads no byte
+  pub answer-reads-nothing : (good : Bool) → SameEnd m m′ (answered good (lent s m)) (answered good (lent s m′))
+  unfolding answered
+  answer-reads-nothing good = answer-blind good (s .work)
 
 -- ---- by calls
 

@@ -3,14 +3,14 @@
 use mathlib.Core.Path.{_≡_, refl, sym, ap, subst, _∙_}
 use mathlib.Core.Bool.{true, false}
 use mathlib.Core.List.{List, [], _∷_, _++_}
-use Prim.Native.Nat.{ℕ, zero, suc, _+_, _*_}
+use Prim.Native.Nat.{ℕ, zero, suc, _+_, _*_, _≤_}
 use lib.ListN.{take, drop}
 use Rattle.machine.specs.Machine.{runFor}
 use Rattle.rules.specs.Numbers.{ring-magic, table-magic, stream-magic, version, create-buffer}
 use Rattle.rules.specs.Bytes.{le, bytesOf}
 use Rattle.rules.specs.Lists.{over, nth, lookup}
 use Rattle.rules.specs.Judging.{refusal}
-use Rattle.rules.specs.Layouts.{word, ring-header, descriptor, table-header, entry, stream-header, buffer-fields, page-bytes}
+use Rattle.rules.specs.Layouts.{word, long, ring-header, descriptor, table-header, entry, stream-header, buffer-fields, page-bytes}
 use Rattle.rules.specs.Table.{header-rules, entry-id, entry-rules, take-entry, entries-from, entries-of, judge-entries}
 use Rattle.rules.specs.Stream.{stream-rules, known-size, wrong-size, frame-rules, frame-of, packet-of, cut}
 use Rattle.rules.specs.Ring.{descriptor-rules, range-rules, submission-rules, submission-opening, power-of-two, good-header, good-ring, ring-opening, opening-of}
@@ -24,6 +24,7 @@ use Rattle.rules.specs.Unsliced.{Submission, judge-packets, submission, finishe
 use Rattle.rules.specs.Calls.{call-write, call-run, call-record}
 use Rattle.rules.specs.declared.Entry.{Entry}
 use Rattle.rules.specs.declared.Kind.the-variants.{Buffer}
+use Rattle.rules.specs.declared.Record.{Record}
 use Rattle.rules.specs.declared.Registers.{Registers}
 use Rattle.rules.specs.declared.Opened.{Opened}
 use Rattle.rules.specs.declared.Verdict.the-variants.{Fine, Broken}
@@ -36,6 +37,7 @@ use Rattle.promises.specs.LocalBytes.{Agree}
 use Rattle.promises.specs.Locality.{after-one, over-moving, SameWhenRead, moving-memory-reads-only}
 use Rattle.promises.specs.Locality.SameWhenRead.{ends, unit}
 use Rattle.promises.specs.Sound.{SoundState, made-sound, waiting-ranges-inside}
+use Rattle.promises.specs.InMemory.{Lies, made-lies, run-call-lies, waiting-ranges-in-memory}
 use Rattle.promises.specs.Refused.{run-call-keeps-sound}
 use Rattle.promises.specs.AnyRegisters.{under, writes-between-units}
 use Rattle.promises.specs.Called.{Call, Called, after, after-all, units-of, units-of-all}
@@ -107,6 +109,14 @@ awaiting = working (waiting (begun 1 .job) (the-entry ∷ []) held) (asking 1)
 unfoldable pub ringing : List Call
 ringing = runs 1 ∷ writes 0x200 0 ∷ runs 1 ∷ writes 0x200 1 ∷ runs 1 ∷ []
 
+-- the same, with another ring address written after the opening, and a fence page at 32 before the last unit
+unfoldable pub rewriting : List Call
+rewriting = runs 1 ∷ writes 0x100 4096 ∷ runs 1 ∷ writes 0x120 32 ∷ runs 1 ∷ []
+
+-- what the registers then are before the last unit
+unfoldable pub rewritten : Registers
+rewritten = registers-of 4096 128 true 32 0 false false 0 no-error true
+
 -- ---- what the rules give of the two guests
 
 pub record TwoGuests : Type 0 where
@@ -125,12 +135,16 @@ pub record TwoGuests : Type 0 where
   pub ringing-accepted : after-all ringing (asking 1) ≡ awaiting
   pub ringing-refused : after-all ringing (asking 2) ≡ submitted (asking 2) .state
   pub ringing-units : (units-of-all ringing (asking 1) ≡ 3) × (units-of-all ringing (asking 2) ≡ 3)
+  -- and with registers that matter written: the head goes to the ring that was opened, the fence to the page as it stands at the end
+  pub rewriting-refused : after-all rewriting (asking 2) ≡ settled-keeping (begun 2 .job) (Broken (refusal 15)) (registering rewritten (asking 2))
+  pub rewriting-head : word (after-all rewriting (asking 2) .mem) 24 ≡ 1
+  pub rewriting-page : long (after-all rewriting (asking 2) .mem) 40 ≡ 7
   -- and by one run
   pub run-accepted : after (runs 65535) (asking 1) ≡ awaiting
   pub by-units : over-moving (guest 1 ∷ guest 1 ∷ guest 1 ∷ []) (asking 1 .state) ≡ awaiting .state
 
 pub two-guests : TwoGuests
-unfolding zeros in-bytes ring-words slot-words table-words entry-words stream-words guest asking begun held the-entry awaiting ringing le bytesOf over lookup nth ring-header descriptor table-header entry stream-header buffer-fields page-bytes power-of-two good-header good-ring ring-opening opening-of descriptor-rules range-rules submission-rules submission-opening header-rules stream-rules entry-rules take-entry entries-from judge-entries known-size wrong-size frame-rules frame-of packet-of cut apply take-packet on-buffer-packet create create-backed judge-packets submission submitted faulted signalled ended-by written head-written page-written marked settled write-of open-step entry-step packet-step step go runFor call-write call-run call-record after after-all units-of units-of-all over-moving
+unfolding zeros in-bytes ring-words slot-words table-words entry-words stream-words guest asking begun held the-entry awaiting ringing rewriting rewritten le bytesOf over lookup nth ring-header descriptor table-header entry stream-header buffer-fields page-bytes power-of-two good-header good-ring ring-opening opening-of descriptor-rules range-rules submission-rules submission-opening header-rules stream-rules entry-rules take-entry entries-from judge-entries known-size wrong-size frame-rules frame-of packet-of cut apply take-packet on-buffer-packet create create-backed judge-packets submission submitted faulted signalled ended-by written head-written page-written marked settled write-of open-step entry-step packet-step step go runFor call-write call-run call-record after after-all units-of units-of-all over-moving
 two-guests =
     record {
       one-starts = refl;
@@ -145,6 +159,9 @@ two-guests =
       ringing-accepted = refl;
       ringing-refused = refl;
       ringing-units = (refl, refl);
+      rewriting-refused = refl;
+      rewriting-head = refl;
+      rewriting-page = refl;
       run-accepted = refl;
       by-units = refl;
     }
@@ -167,9 +184,17 @@ awaiting-is-sound =
     subst (λ (w : World). SoundState (w .state)) (two-guests .run-accepted)
     (run-call-keeps-sound (asking 1) 65535 (record { resources = made-sound 248 .resources; work = made-sound 248 .work }))
 
+awaiting-lies : Lies (awaiting .state)
+unfolding after asking
+awaiting-lies = subst (λ (w : World). Lies (w .state)) (two-guests .run-accepted) (run-call-lies (asking 1) 65535 (made-lies 248))
+
 pub its-record-lies-inside : Every (Inside (the-entry ∷ [])) (held .records) × Once entry-id (the-entry ∷ [])
 unfolding awaiting
 its-record-lies-inside = waiting-ranges-inside (awaiting .state) (begun 1 .job) (the-entry ∷ []) held awaiting-is-sound refl
+
+pub its-record-lies-in-memory : Every (λ (c : Record). c .gpa + c .length ≤ 248) (held .records)
+unfolding awaiting asking
+its-record-lies-in-memory = waiting-ranges-in-memory (awaiting .state) (begun 1 .job) (the-entry ∷ []) held awaiting-is-sound awaiting-lies refl
 
 -- the two units after the opening, each under any registers: what the unsliced rules say, by the registers of the last
 module _ (r q : Registers) (on : q .enabled ≡ true) where
@@ -186,7 +211,8 @@ module _ (r q : Registers) (on : q .enabled ≡ true) where
   unfolding awaiting the-entry begun guest in-bytes ring-words slot-words table-words entry-words stream-words zeros le bytesOf entry entries-from
   any-registers-accepted = under-registers 1 _ (two-guests .one-starts) (two-guests .one-is-fine) refl
 
-  pub any-registers-refused : under (r ∷ []) q (working (entries-at (begun 2) [] []) (asking 2)) ≡ settled-keeping (begun 2 .job) (Broken (refusal 15)) (registering q (asking 2))
+  pub any-registers-refused : under (r ∷ []) q (working (entries-at (begun 2) [] []) (asking 2))
+      ≡ settled-keeping (begun 2 .job) (Broken (refusal 15)) (registering q (asking 2))
   any-registers-refused = under-registers 2 _ (two-guests .two-start) (two-guests .two-are-refused) refl
 
 -- ---- each unit of the accepted one, lent a memory that holds no byte but those that it reads
