@@ -22,3 +22,9 @@ pub mod Changes
 pub mod Tables
 pub mod Ranges
 pub mod Bytes
+pub mod LocalBytes
+pub mod LocalWrites
+pub mod LocalPackets
+pub mod LocalOpening
+pub mod Locality
+pub mod Witness
