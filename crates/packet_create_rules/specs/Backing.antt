@@ -2,11 +2,11 @@
 use mathlib.Core.Path.{_≡_, sym, ap, subst, _∙_}
 use mathlib.Core.Bool.{Bool, true, false, not}
 use mathlib.Core.List.{List}
-use Prim.Native.Nat.{ℕ, _+_, _-_, _≤_, _<_}
+use Prim.Native.Nat.{ℕ, _+_, _^_, _≤_, _<_}
 use native.Mathlib.Nat.{add-zero}
 use native.Mathlib.Omega.{arith}
 use borrow.Author.Needs.{needs}
-use borrow.Author.Tests.{lt-ltb, le-ltb, le-leb, lt-leb, eq-eqb, ne-eqb}
+use borrow.Author.Tests.{ltb-false, le-leb, lt-leb, eq-eqb, ne-eqb}
 use lib.Dec.{ltb}
 use Rattle.rules.specs.Numbers.{bad-handle, too-many, bad-shape, not-in-table, past-entry, most, backs}
 use Rattle.rules.specs.Lists.{pushed, indexOf}
@@ -104,28 +104,23 @@ module _ (n live made : ℕ) (es resources records : List ℕ) (r : Resource) (r
     unfolding create-backed store-backed
     in-entry = rw matched
 
-    past : (a : Applied) → e .size < r .offset + r .bytes → a ≡ refusedWith past-entry live made
-        → Applies (create-backed (entriesOf n es) (holdingsOf live resources made records) r) a resources records
-    past a p told =
-        stays live made past-entry resources records _ a (room .live) (room .made) told (rw (in-entry, lt-ltb _ _ p))
-
-    pub backed-long : (a : Applied) → e .size < r .bytes → a ≡ refusedWith past-entry live made
-        → Applies (create-backed (entriesOf n es) (holdingsOf live resources made records) r) a resources records
-    backed-long a p told = past a (omega arith) told
-
-    module _ (p : r .bytes ≤ e .size) where
-      pub backed-past : (a : Applied) → e .size - r .bytes < r .offset → a ≡ refusedWith past-entry live made
+    module _ (b : Bool) (is : b ≡ ltb (e .size) (r .offset + r .bytes)) where
+      pub backed-past : (a : Applied) → b ≡ true → a ≡ refusedWith past-entry live made
           → Applies (create-backed (entriesOf n es) (holdingsOf live resources made records) r) a resources records
-      backed-past a q told = past a (omega arith) told
+      backed-past a t told =
+          stays live made past-entry resources records _ a (room .live) (room .made) told (rw (in-entry, ← is, t))
 
-      pub backed-inside : (a : Applied) (resources′ records′ : List ℕ) → r .offset ≤ e .size - r .bytes
-          → Applies (store-backed (holdingsOf live resources made records) r (record { kind = backs; handle = r .handle; id = r .backing; gpa = e .gpa + r .offset; length = r .bytes })) a resources′ records′
-          → Applies (create-backed (entriesOf n es) (holdingsOf live resources made records) r) a resources′ records′
-      backed-inside a resources′ records′ q s =
-          let fits : r .offset + r .bytes ≤ e .size = omega arith in
-          rw (in-entry, le-ltb _ _ fits, add-zero) s
+      module _ (t : b ≡ false) where
+        -- a resource inside its entry begins at a number of eight bytes
+        pub backed-fits : e .gpa + r .offset < 2 ^ 64
+        backed-fits = omega (arith, read .ends, ltb-false (e .size) (r .offset + r .bytes) (sym is ∙ t))
 
-pub ruleset backing = (backed-nowhere, backed-long, backed-past, backed-inside, needs)
+        pub backed-inside : (a : Applied) (resources′ records′ : List ℕ)
+            → Applies (store-backed (holdingsOf live resources made records) r (record { kind = backs; handle = r .handle; id = r .backing; gpa = e .gpa + r .offset; length = r .bytes })) a resources′ records′
+            → Applies (create-backed (entriesOf n es) (holdingsOf live resources made records) r) a resources′ records′
+        backed-inside a resources′ records′ s = rw (in-entry, ← is, t, add-zero) s
+
+pub ruleset backing = (backed-nowhere, backed-past, backed-fits, backed-inside, needs)
 
 -- ---- create
 

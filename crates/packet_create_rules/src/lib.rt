@@ -19,6 +19,7 @@ use rules::numbers::MOST_ROWS;
 use rules::numbers::NOT_IN_TABLE;
 use rules::numbers::PAST_ENTRY;
 use rules::numbers::TOO_MANY;
+use widths::beyond;
 ghost use mathlib.Core.List.{List};
 ghost use Prim.Native.Nat.{ℕ, _≤_};
 ghost use Rattle.rules.specs.Numbers.{most};
@@ -71,8 +72,7 @@ fn store_backed(
     }
 }
 
-// A backed resource lies inside the entry with its id, and is handed out whole. The sum of its offset and bytes may be
-// above 2^64, so the two are held against the entry's size one after the other.
+// A backed resource lies inside the entry with its id, and is handed out whole.
 fn create_backed(
     entries: &Entries,
     kept: usize,
@@ -93,10 +93,7 @@ fn create_backed(
     }
     let e = entry_row(entries, place);
     let offset = r.offset as u64;
-    if r.bytes > e.size {
-        return refuse(PAST_ENTRY, live, made);
-    }
-    if offset > e.size - r.bytes {
+    if beyond(offset, r.bytes, e.size) {
         return refuse(PAST_ENTRY, live, made);
     }
     let c = Record {

@@ -3,9 +3,10 @@ use mathlib.Core.Path.{_≡_, refl, sym, ap, _∙_}
 use mathlib.Core.Bool.{Bool, true, false}
 use mathlib.Core.List.{List}
 use Prim.Native.Nat.{ℕ, _+_, _-_, _^_, _≤_, _<_}
+use native.Mathlib.Nat.{add-assoc}
 use native.Mathlib.Omega.{arith}
 use borrow.Author.Needs.{needs}
-use borrow.Author.Tests.{ltb-true, ltb-false, eq-eqb, ne-eqb, lt-ltb, le-ltb, le-leb, lt-leb}
+use borrow.Author.Tests.{ltb-false, eq-eqb, ne-eqb, le-leb, lt-leb}
 use lib.Dec.{ltb}
 use Rattle.machine.specs.Machine.{pick}
 use Rattle.rules.specs.Numbers.{too-many, not-in-table, past-entry, most}
@@ -18,6 +19,7 @@ use Rattle.rules.specs.declared.Resource.{Resource}
 use Rattle.rules.specs.declared.Record.{Record}
 use Rattle.rules.specs.declared.Verdict.the-variants.{Fine}
 use Rattle.rows.specs.Rows.{rowAt, length-table}
+use Rattle.widths.specs.Beyond.{long, short}
 use Rattle.kept_entries.specs.Views.{RowRead, entriesOf}
 use Rattle.kept_entries.specs.Rows.{entry-found, entry-missing}
 use Rattle.kept_resources.specs.Views.{recordOf, recordsOf, holdingsOf}
@@ -26,42 +28,16 @@ use Rattle.packet_ranges.specs.declared.applied.Applied.{Applied}
 use Rattle.packet_ranges.specs.declared.handout.Resolved.{Resolved}
 use Rattle.packet_ranges.specs.declared.handout.Resolved.the-variants.{Missing, Past, Inside}
 
--- ---- beyond, beyond_entry
+-- ---- beyond_entry
 
-module _ (offset size bytes : ℕ) where
-  pub long : bytes < size → true ≡ ltb bytes (offset + size)
-  long h = let w : bytes < offset + size = omega arith in sym (lt-ltb _ _ w)
+module _ (offset from size bytes : ℕ) where
+  pub moved-long : bytes < size → true ≡ ltb bytes (offset + (from + size))
+  moved-long h = rw (← add-assoc) (long (offset + from) size bytes h)
 
-  pub short : size ≤ bytes → ltb (bytes - size) offset ≡ ltb bytes (offset + size)
-  short h = by-test (ltb (bytes - size) offset) refl
-    where
-      by-test : (t : Bool) → ltb (bytes - size) offset ≡ t → t ≡ ltb bytes (offset + size)
-      by-test true e =
-          let w : bytes < offset + size = omega (arith, ltb-true (bytes - size) offset e) in
-          sym (lt-ltb _ _ w)
-      by-test false e =
-          let w : offset + size ≤ bytes = omega (arith, ltb-false (bytes - size) offset e) in
-          sym (le-ltb _ _ w)
+  pub moved-short : (b : Bool) → size ≤ bytes → b ≡ ltb (bytes - size) (offset + from) → b ≡ ltb bytes (offset + (from + size))
+  moved-short b h is = is ∙ rw (← add-assoc) (short (offset + from) size bytes h)
 
-pub ruleset reaching = (long, short, needs)
-
-module _ (from size bytes : ℕ) (b : Bool) (is : b ≡ ltb bytes (from + size)) where
-  pub moved-long : (offset : ℕ) → b ≡ true → true ≡ ltb bytes (offset + (from + size))
-  moved-long offset t =
-      let w : bytes < offset + (from + size) = omega (arith, ltb-true bytes (from + size) (sym is ∙ t)) in
-      sym (lt-ltb _ _ w)
-
-  module _ (t : b ≡ false) where
-    pub end-within : from + size ≤ bytes
-    end-within = ltb-false bytes (from + size) (sym is ∙ t)
-
-    pub end-fits : bytes < 2 ^ 64 → from + size < 2 ^ 64
-    end-fits h = omega (arith, end-within)
-
-    pub moved-short : (offset : ℕ) → ltb (bytes - (from + size)) offset ≡ ltb bytes (offset + (from + size))
-    moved-short offset = short offset (from + size) bytes end-within
-
-pub ruleset moving-range = (moved-long, end-within, end-fits, moved-short, needs)
+pub ruleset moving-range = (moved-long, moved-short, needs)
 
 -- ---- resolve
 

@@ -12,6 +12,7 @@ use rules::Resource;
 use rules::Verdict;
 use rules::numbers::MOST_ROWS;
 use rules::numbers::TOO_MANY;
+use widths::beyond;
 ghost use mathlib.Core.Path.{_≡_};
 ghost use Prim.Native.Nat.{_+_, _≤_};
 ghost use lib.Dec.{ltb};
@@ -31,24 +32,14 @@ pub enum Resolved {
     Inside(u32, Record),
 }
 
-// Whether a range ends beyond so many bytes.
-pub fn beyond(offset: u64, size: u64, bytes: u64) -> bool
-    ensures { λ r. ⌜ r ≡ ltb bytes (offset + size) ⌝ }
-{
-    if size > bytes {
-        return true;
-    }
-    offset > bytes - size
-}
-
 // Whether a range of a resource ends beyond so many bytes of an entry, where the resource starts at an offset.
 fn beyond_entry(offset: u64, from: u64, size: u64, bytes: u64) -> bool
     ensures { λ r. ⌜ r ≡ ltb bytes (offset + (from + size)) ⌝ }
 {
-    if beyond(from, size, bytes) {
+    if size > bytes {
         return true;
     }
-    offset > bytes - (from + size)
+    beyond(offset, from, bytes - size)
 }
 
 // Holds a range of a backed resource against the entry that this table has for it: the backing offset is added.

@@ -3,7 +3,6 @@ use mathlib.Core.Path.{_≡_, refl, sym, ap, _∙_}
 use mathlib.Core.Bool.{Bool, true, false, _||_}
 use mathlib.Core.List.{List}
 use Prim.Native.Nat.{ℕ, _+_, _-_, _^_, _≤_, _<_}
-use native.Mathlib.Omega.{arith}
 use borrow.Author.Needs.{needs}
 use borrow.Author.Tests.{eq-eqb, ne-eqb, lt-ltb, le-ltb}
 use lib.Dec.{ltb}
@@ -43,16 +42,11 @@ module _ (gpa size : ℕ) where
   unfolding bad-range
   gpa-alone g e = rw (ne-eqb _ _ g, eq-eqb _ _ e)
 
-  module _ (g : gpa ≡ 0 → ⊥) (e : size ≡ 0 → ⊥) (s : ℕ) (same : (s ≡ size) × (s < 4294967296)) where
-    pub ends-high : 18446744073709551615 - s < gpa → true ≡ bad-range gpa size
-    unfolding bad-range
-    ends-high h = rw (ne-eqb _ _ g, ne-eqb _ _ e, lt-ltb (2 ^ 64 - 1) (gpa + size) (omega arith))
+  pub both-there : (s : ℕ) (b : Bool) → (gpa ≡ 0 → ⊥) → (size ≡ 0 → ⊥) → (s ≡ size) × (s < 4294967296) → b ≡ ltb 18446744073709551615 (gpa + s) → b ≡ bad-range gpa size
+  unfolding bad-range
+  both-there s b g e same is = is ∙ rw (ne-eqb _ _ g, ne-eqb _ _ e, same .0)
 
-    pub ends-low : gpa ≤ 18446744073709551615 - s → false ≡ bad-range gpa size
-    unfolding bad-range
-    ends-low h = rw (ne-eqb _ _ g, ne-eqb _ _ e, le-ltb (2 ^ 64 - 1) (gpa + size) (omega arith))
-
-pub ruleset ranging = (neither-there, size-alone, gpa-alone, ends-high, ends-low, needs)
+pub ruleset ranging = (neither-there, size-alone, gpa-alone, both-there, needs)
 
 -- two rules with one number are one rule
 joined : (n : ℕ) (a b : Bool) (later : Verdict) → rule n a ▹ rule n b ▹ later ≡ rule n (a || b) ▹ later
@@ -102,23 +96,11 @@ module _ (memory gpa size s : ℕ) (same : (s ≡ size) × (s < 4294967296)) whe
   unfolding past
   not-present e = rw (eq-eqb size 0 (sym (same .0) ∙ e))
 
-  module _ (e : s ≡ 0 → ⊥) where
-    there : size ≡ 0 → ⊥
-    there z = e (same .0 ∙ z)
+  pub there : (b : Bool) → (s ≡ 0 → ⊥) → b ≡ ltb memory (gpa + s) → b ≡ past memory gpa size
+  unfolding past
+  there b e is = is ∙ rw (ne-eqb size 0 (λ z. e (same .0 ∙ z)), same .0)
 
-    pub too-long : memory < s → true ≡ past memory gpa size
-    unfolding past
-    too-long h = rw (ne-eqb size 0 there, lt-ltb memory (gpa + size) (omega arith))
-
-    pub too-far : s ≤ memory → memory - s < gpa → true ≡ past memory gpa size
-    unfolding past
-    too-far h k = rw (ne-eqb size 0 there, lt-ltb memory (gpa + size) (omega arith))
-
-    pub fits-in : s ≤ memory → gpa ≤ memory - s → false ≡ past memory gpa size
-    unfolding past
-    fits-in h k = rw (ne-eqb size 0 there, le-ltb memory (gpa + size) (omega arith))
-
-pub ruleset reaching = (not-present, too-long, too-far, fits-in, needs)
+pub ruleset reaching = (not-present, there, needs)
 
 only-rule : (n : ℕ) (a b : Bool) → only a (rule n b) ≡ rule n (pick a b false)
 only-rule n true b = refl

@@ -6,6 +6,7 @@ use rules::Verdict;
 use rules::numbers::BAD_DESCRIPTOR;
 use rules::numbers::DESCRIPTOR_SIZE;
 use rules::numbers::OUTSIDE_MEMORY;
+use widths::beyond;
 use widths::u32_to_word;
 ghost use mathlib.Core.Path.{_≡_};
 ghost use Prim.Native.Nat.{_+_, _≤_, _<_};
@@ -43,10 +44,7 @@ fn bad(gpa: u64, size: u32) -> bool
     if gpa == 0 {
         return true;
     }
-    if gpa > u64::MAX - u32_to_word(size) {
-        return true;
-    }
-    false
+    beyond(gpa, u32_to_word(size), u64::MAX)
 }
 
 // 11.
@@ -84,13 +82,7 @@ fn outside(memory: u64, gpa: u64, size: u32) -> bool
     if long == 0 {
         return false;
     }
-    if long > memory {
-        return true;
-    }
-    if gpa > memory - long {
-        return true;
-    }
-    false
+    beyond(gpa, long, memory)
 }
 
 // 12.

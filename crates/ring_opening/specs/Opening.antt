@@ -12,6 +12,7 @@ use lib.ListN.{length}
 use mir.Syntax.{w64}
 use mir.Val.{Fits}
 use Rattle.machine.specs.Machine.{pick}
+use Rattle.widths.specs.Beyond.{leb-ltb}
 use Rattle.rules.specs.Numbers.{outside-memory, slot-doublings, ring-magic}
 use Rattle.rules.specs.Judging.{rule, only, _▹_}
 use Rattle.rules.specs.Layouts.{good-version, ring-header, ring-header-size, descriptor, descriptor-size, table-header, stream-header}
@@ -230,23 +231,21 @@ module _ (m : List ℕ) (ring size : ℕ) where
   unfolding opening-of good-ring
   ring-short p = rw (lt-leb _ _ p)
 
-  module _ (p : ring-header-size ≤ size) (n b : ℕ) (long : (n ≡ length m) × (n < 18446744073709551616)) (wide : (b ≡ size) × (b < 4294967296)) where
-    outside : length m < ring + size → BadRing ≡ opening-of m ring size
+  module _ (p : ring-header-size ≤ size) (n b : ℕ) (long : (n ≡ length m) × (n < 18446744073709551616)) (wide : (b ≡ size) × (b < 4294967296))
+      (t : Bool) (is : t ≡ ltb n (ring + b)) where
+    ends : leb (ring + size) (length m) ≡ not t
+    ends = leb-ltb (ring + size) (length m) ∙ rw (is, long .0, wide .0)
+
+    pub ring-past : t ≡ true → BadRing ≡ opening-of m ring size
     unfolding opening-of good-ring
-    outside q = rw (le-leb _ _ p, lt-leb _ _ q)
+    ring-past q = rw (le-leb _ _ p, ends, q)
 
-    pub ring-long : n < b → BadRing ≡ opening-of m ring size
-    ring-long q = outside (omega arith)
-
-    pub ring-far : b ≤ n → n - b < ring → BadRing ≡ opening-of m ring size
-    ring-far q r = outside (omega arith)
-
-    module _ (q : b ≤ n) (r : ring ≤ n - b) (k : ℕ) (at : k ≡ ring) where
+    module _ (q : t ≡ false) (k : ℕ) (at : k ≡ ring) where
       within : ring + size ≤ length m
-      within = omega arith
+      within = leb-true _ _ (ends ∙ ap not q)
 
       pub header-lies : k + ring-header-size ≤ length m
-      header-lies = omega arith
+      header-lies = omega (arith, within)
 
       module _ (h : RingHeader) (read : h ≡ ring-header m k) (g : Bool) (judged : g ≡ good-header size h) where
         there : good-ring m ring size ≡ g
@@ -268,4 +267,4 @@ module _ (m : List ℕ) (ring size : ℕ) where
           unfolding opening-of
           ring-opened x y = y ∙ rw (there, not-false g e, ← at, ← read, at)
 
-pub ruleset opening-ring = (ring-short, ring-long, ring-far, header-lies, header-bad, slot-given, ring-opened, needs)
+pub ruleset opening-ring = (ring-short, ring-past, header-lies, header-bad, slot-given, ring-opened, needs)

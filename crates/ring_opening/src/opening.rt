@@ -17,6 +17,7 @@ use rules::Verdict;
 use rules::numbers::RING_HEADER_SIZE;
 use stream_header::header::CheckedStream;
 use table_header::header::CheckedTable;
+use widths::beyond;
 use widths::u32_to_word;
 use widths::usize_to_word;
 use widths::word_to_usize;
@@ -107,10 +108,7 @@ pub fn open(mem: &[u8], ring: u64, size: u32) -> Opening
     if size < RING_HEADER_SIZE {
         return Opening::BadRing;
     }
-    if bytes > memory {
-        return Opening::BadRing;
-    }
-    if ring > memory - bytes {
+    if beyond(ring, bytes, memory) {
         return Opening::BadRing;
     }
     let h = header_at(mem, word_to_usize(ring));

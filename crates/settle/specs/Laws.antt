@@ -1,12 +1,16 @@
 -- What the functions of this crate ask for: a law for each way to a return, with the tests on the way as its premises.
 -- Assumes nothing.
 use mathlib.Core.Path.{_≡_, refl, sym, ap, _∙_}
+use mathlib.Core.Bool.{Bool, true, false}
 use mathlib.Core.List.{List, _++_, append-assoc}
 use Prim.Native.Nat.{ℕ, _+_, _-_, _≤_, _<_}
 use native.Mathlib.Omega.{arith}
 use borrow.Author.Needs.{needs}
-use borrow.Author.Tests.{le-leb, lt-leb, eq-eqb, ne-eqb}
+use borrow.Author.Tests.{ltb-true, ltb-false, le-leb, lt-leb, eq-eqb, ne-eqb}
+use lib.Dec.{ltb}
 use lib.ListN.{length, take, drop, length-append}
+use mir.Syntax.{w64}
+use mir.Val.{Fits}
 use Rattle.words.specs.Over.{part-over, over-over}
 use Rattle.words.specs.Fields.{length-bytesOf, put-part, length-put}
 use Rattle.rules.specs.Numbers.{page-magic, version}
@@ -63,44 +67,51 @@ module _ (at : ℕ) (b m : List ℕ) where
   unfolding written
   written-past h = rw (lt-leb _ _ h)
 
-module _ (j : Job) (m : List ℕ) (ring : ℕ) (same : ring ≡ j .ring) where
-  pub head-short : length m < head-end → m ≡ head-written j m
-  unfolding head-written
-  head-short h = sym (written-past (j .ring + head-offset) (bytesOf head-size (next-head (j .head))) m (rw length-bytesOf (omega arith)))
+-- a place up to the end of bytes that lie within memory is a number of eight bytes
+pub place-fits : (n at p k d : ℕ) (b : Bool) → p ≡ at → b ≡ ltb n (at + k) → b ≡ false → n < 18446744073709551616 → d ≤ k → Fits w64 (p + d)
+place-fits n at p k d b same is t memory h = record { fits = omega (arith, ltb-false n (at + k) (sym is ∙ t)) }
 
-  pub head-far : head-end ≤ length m → length m - head-end < ring → m ≡ head-written j m
+module _ (j : Job) (m : List ℕ) (n ring : ℕ) (memory : (n ≡ length m) × (n < 18446744073709551616)) (same : ring ≡ j .ring)
+    (b : Bool) (is : b ≡ ltb n (j .ring + head-end)) where
+  pub head-past : b ≡ true → m ≡ head-written j m
   unfolding head-written
-  head-far k h = sym (written-past (j .ring + head-offset) (bytesOf head-size (next-head (j .head))) m (rw length-bytesOf (omega arith)))
+  head-past t =
+      sym (written-past (j .ring + head-offset) (bytesOf head-size (next-head (j .head))) m (rw length-bytesOf (omega (arith, ltb-true n (j .ring + head-end) (sym is ∙ t)))))
 
-  pub head-in : (next at end : ℕ) (last : List ℕ) → head-end ≤ length m → ring ≤ length m - head-end → next ≡ next-head (j .head) → at ≡ ring + head-offset → end ≡ ring + head-end
-      → last ≡ over 0 (bytesOf head-size next) (take (end - at) (drop at m)) → take at m ++ (last ++ drop (end - at) (drop at m)) ≡ head-written j m
-  unfolding head-written
-  head-in next at end last k h n a e l =
-      let there : at ≡ j .ring + head-offset = omega arith in
-      put-part head-size at end next m last (omega arith) (omega arith) l
-      ∙ rw (n, there) (sym (written-within (j .ring + head-offset) (bytesOf head-size (next-head (j .head))) m (rw length-bytesOf (omega arith))))
+  module _ (t : b ≡ false) where
+    pub head-within : ring + head-end ≤ length m
+    head-within = omega (arith, ltb-false n (j .ring + head-end) (sym is ∙ t))
+
+    pub head-in : (next at end : ℕ) (last : List ℕ) → next ≡ next-head (j .head) → at ≡ ring + head-offset → end ≡ ring + head-end
+        → last ≡ over 0 (bytesOf head-size next) (take (end - at) (drop at m)) → take at m ++ (last ++ drop (end - at) (drop at m)) ≡ head-written j m
+    unfolding head-written
+    head-in next at end last n a e l =
+        let there : at ≡ j .ring + head-offset = omega arith in
+        put-part head-size at end next m last (omega arith) (omega (arith, head-within)) l
+        ∙ rw (n, there) (sym (written-within (j .ring + head-offset) (bytesOf head-size (next-head (j .head))) m (rw length-bytesOf (omega (arith, head-within)))))
 
 module _ (gpa completed : ℕ) (m : List ℕ) (page : ℕ) (same : page ≡ gpa) where
   pub page-none : page ≡ 0 → m ≡ page-put gpa completed m
   page-none z = rw (eq-eqb gpa 0 (omega arith))
 
-  module _ (some : page ≡ 0 → ⊥) where
-    there : page-put gpa completed m ≡ written gpa (page-bytes completed) m
-    there = rw (ne-eqb gpa 0 (λ z. some (same ∙ z)))
+  module _ (n : ℕ) (memory : (n ≡ length m) × (n < 18446744073709551616)) (b : Bool) (is : b ≡ ltb n (gpa + page-size)) where
+    pub page-past : (page ≡ 0 → ⊥) → b ≡ true → m ≡ page-put gpa completed m
+    page-past some t =
+        rw (ne-eqb gpa 0 (λ z. some (same ∙ z)))
+        (sym (written-past gpa (page-bytes completed) m (rw length-page-bytes (omega (arith, ltb-true n (gpa + page-size) (sym is ∙ t))))))
 
-    pub page-short : length m < page-size → m ≡ page-put gpa completed m
-    page-short h = sym (there ∙ written-past gpa (page-bytes completed) m (rw length-page-bytes (omega arith)))
+    module _ (t : b ≡ false) where
+      pub page-within : page + page-size ≤ length m
+      page-within = omega (arith, ltb-false n (gpa + page-size) (sym is ∙ t))
 
-    pub page-far : page-size ≤ length m → length m - page-size < page → m ≡ page-put gpa completed m
-    page-far k h = sym (there ∙ written-past gpa (page-bytes completed) m (rw length-page-bytes (omega arith)))
+      pub page-in : (end : ℕ) (last : List ℕ) → (page ≡ 0 → ⊥) → end ≡ page + page-size
+          → last ≡ over 0 (page-bytes completed) (take (end - page) (drop page m)) → take page m ++ (last ++ drop (end - page) (drop page m)) ≡ page-put gpa completed m
+      page-in end last some e l =
+          part-over page end m last (page-bytes completed) (rw length-page-bytes e) (omega (arith, page-within)) l
+          ∙ rw (ne-eqb gpa 0 (λ z. some (same ∙ z)), same) (sym (written-within gpa (page-bytes completed) m (rw length-page-bytes (omega (arith, page-within)))))
 
-    pub page-in : (end : ℕ) (last : List ℕ) → page-size ≤ length m → page ≤ length m - page-size → end ≡ page + page-size
-        → last ≡ over 0 (page-bytes completed) (take (end - page) (drop page m)) → take page m ++ (last ++ drop (end - page) (drop page m)) ≡ page-put gpa completed m
-    page-in end last k h e l =
-        part-over page end m last (page-bytes completed) (rw length-page-bytes e) (omega arith) l
-        ∙ rw same (sym (there ∙ written-within gpa (page-bytes completed) m (rw length-page-bytes (omega arith))))
-
-pub ruleset writing = (page-puts, head-short, head-far, head-in, page-none, page-short, page-far, page-in, needs)
+pub ruleset writing =
+    (page-puts, place-fits, head-past, head-within, head-in, page-none, page-past, page-within, page-in, needs)
 
 -- ---- mark
 

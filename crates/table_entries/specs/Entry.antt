@@ -7,7 +7,7 @@ use native.Mathlib.Nat.{mod-eq-of-lt}
 use native.Mathlib.Numerals.{towards-suc}
 use native.Mathlib.Omega.{arith}
 use borrow.Author.Needs.{needs}
-use borrow.Author.Tests.{lt-ltb, le-ltb, le-leb, lt-leb, leb-true, leb-false, eq-eqb, ne-eqb, not-true, not-false}
+use borrow.Author.Tests.{lt-ltb, le-ltb, ltb-false, leb-true, eq-eqb, ne-eqb, not-true, not-false}
 use lib.Dec.{ltb, leb, eqb}
 use lib.ListN.{length, set}
 use Rattle.rules.specs.Numbers.{bad-entry, twice-in-table, most}
@@ -21,6 +21,7 @@ use Rattle.rules.specs.declared.Table.{Table}
 use Rattle.rules.specs.declared.Verdict.{Verdict}
 use Rattle.rules.specs.declared.Verdict.the-variants.{Fine, Broken}
 use Rattle.rows.specs.Rows.{length-table, table-push-sets}
+use Rattle.widths.specs.Beyond.{leb-ltb}
 use Rattle.kept_entries.specs.Views.{entryOf, entriesOf, takenOf}
 use Rattle.kept_entries.specs.Rows.{entry-found, entry-missing}
 
@@ -40,59 +41,38 @@ module _ (memory : ℕ) (e : Entry) where
     unfolding sound
     sound-no-size q = rw (ne-eqb _ _ p, eq-eqb _ _ q)
 
-    module _ (q : e .size ≡ 0 → ⊥) where
-      past : memory < e .gpa + e .size → false ≡ sound memory e
-      unfolding sound
-      past r = rw (ne-eqb _ _ p, ne-eqb _ _ q, lt-leb _ _ r)
+    pub sound-ends : (b : Bool) → (e .size ≡ 0 → ⊥) → b ≡ ltb memory (e .gpa + e .size) → not b ≡ sound memory e
+    unfolding sound
+    sound-ends b q is = rw (ne-eqb _ _ p, ne-eqb _ _ q, leb-ltb (e .gpa + e .size) memory, is)
 
-      pub sound-long : memory < e .size → false ≡ sound memory e
-      sound-long r = past (omega arith)
-
-      pub sound-high : e .size ≤ memory → memory - e .size < e .gpa → false ≡ sound memory e
-      sound-high r s = past (omega arith)
-
-      pub sound-whole : e .size ≤ memory → e .gpa ≤ memory - e .size → true ≡ sound memory e
-      unfolding sound
-      sound-whole r s =
-          let w : e .gpa + e .size ≤ memory = omega arith in
-          rw (ne-eqb _ _ p, ne-eqb _ _ q, le-leb _ _ w)
-
-pub ruleset sounding = (sound-no-id, sound-no-size, sound-long, sound-high, sound-whole, needs)
+pub ruleset sounding = (sound-no-id, sound-no-size, sound-ends, needs)
 
 -- ---- judge_entry
 
 -- the rules that look at an entry alone: one is broken, or the next rule decides
-alone : (a b c : Bool) (later : Verdict) → not a && (not b && c) ≡ false
-    → rule bad-entry a ▹ rule bad-entry b ▹ rule bad-entry (not c) ▹ later ≡ Broken (refusal bad-entry)
+alone : (a b c : Bool) (later : Verdict) → not a && (not b && not c) ≡ false
+    → rule bad-entry a ▹ rule bad-entry b ▹ rule bad-entry c ▹ later ≡ Broken (refusal bad-entry)
 alone true b c later h = refl
 alone false true c later h = refl
-alone false false false later h = refl
-alone false false true later h = let z : _≡_ {A = ℕ} 0 1 = cc in absurd (omega arith)
+alone false false true later h = refl
+alone false false false later h = let z : _≡_ {A = ℕ} 0 1 = cc in absurd (omega arith)
 
-past-all : (a b c : Bool) (later : Verdict) → not a && (not b && c) ≡ true
-    → rule bad-entry a ▹ rule bad-entry b ▹ rule bad-entry (not c) ▹ later ≡ later
-past-all false false true later h = refl
+past-all : (a b c : Bool) (later : Verdict) → not a && (not b && not c) ≡ true
+    → rule bad-entry a ▹ rule bad-entry b ▹ rule bad-entry c ▹ later ≡ later
+past-all false false false later h = refl
 past-all true b c later h = let z : _≡_ {A = ℕ} 0 1 = cc in absurd (omega arith)
 past-all false true c later h = let z : _≡_ {A = ℕ} 0 1 = cc in absurd (omega arith)
-past-all false false false later h = let z : _≡_ {A = ℕ} 0 1 = cc in absurd (omega arith)
-
--- above is not within
-ltb-leb : (a b : ℕ) → ltb a b ≡ not (leb b a)
-ltb-leb a b = by-test (leb b a) refl
-  where
-    by-test : (t : Bool) → leb b a ≡ t → ltb a b ≡ not t
-    by-test true h = le-ltb a b (leb-true b a h)
-    by-test false h = lt-ltb a b (leb-false b a h)
+past-all false false true later h = let z : _≡_ {A = ℕ} 0 1 = cc in absurd (omega arith)
 
 -- over any earlier entries: what the sound ones and the others come to
 module _ (memory : ℕ) (earlier : List Entry) (e : Entry) where
   pub unsound : sound memory e ≡ false → entry-rules memory earlier e ≡ Broken (refusal bad-entry)
   unfolding sound entry-rules
-  unsound h = rw ltb-leb (alone (eqb (e .id) 0) (eqb (e .size) 0) (leb (e .gpa + e .size) memory) _ h)
+  unsound h = alone (eqb (e .id) 0) (eqb (e .size) 0) (ltb memory (e .gpa + e .size)) _ (rw (← leb-ltb (e .gpa + e .size) memory) h)
 
   pub sound-once : sound memory e ≡ true → entry-rules memory earlier e ≡ rule twice-in-table (is-found (matching (e .id) earlier))
   unfolding sound entry-rules
-  sound-once h = rw ltb-leb (past-all (eqb (e .id) 0) (eqb (e .size) 0) (leb (e .gpa + e .size) memory) _ h)
+  sound-once h = past-all (eqb (e .id) 0) (eqb (e .size) 0) (ltb memory (e .gpa + e .size)) _ (rw (← leb-ltb (e .gpa + e .size) memory) h)
 
 module _ (memory n : ℕ) (l : List ℕ) (e : Entry) (good : Bool) (is : good ≡ sound memory e) where
   pub judged-unsound : not good ≡ true → Broken (refusal bad-entry) ≡ entry-rules memory (entriesOf n l) e
@@ -138,23 +118,26 @@ module _ (m : List ℕ) (t : Table) (n : ℕ) (l : List ℕ) where
   pub take-full : most ≤ n → takenOf (Broken (refusal bad-entry)) n l ≡ take-entry m t (entriesOf n l)
   take-full h = missed (rw (le-ltb _ _ h))
 
-  module _ (h : n < most) (o : ℕ) (offset : (o ≡ table-header-size + n * t .stride) × (o + 2 ^ 32 ≤ 2 ^ 64)) where
-    outside : length m < entry-place t n + entry-size → takenOf (Broken (refusal bad-entry)) n l ≡ take-entry m t (entriesOf n l)
-    outside q = missed (rw (lt-ltb _ _ h, lt-leb _ _ q))
+  module _ (h : n < most) (o : ℕ) (offset : (o ≡ table-header-size + n * t .stride) × (o + 2 ^ 32 ≤ 2 ^ 64))
+      (b : Bool) (is : b ≡ ltb (length m) (t .gpa + (o + entry-size))) where
+    ends : leb (entry-place t n + entry-size) (length m) ≡ not b
+    ends =
+        let same : entry-place t n + entry-size ≡ t .gpa + (o + entry-size) = omega arith in
+        leb-ltb (entry-place t n + entry-size) (length m) ∙ rw (same, is)
 
-    pub take-past : length m < o + entry-size → takenOf (Broken (refusal bad-entry)) n l ≡ take-entry m t (entriesOf n l)
-    take-past q = outside (omega arith)
+    pub take-past : b ≡ true → takenOf (Broken (refusal bad-entry)) n l ≡ take-entry m t (entriesOf n l)
+    take-past q = missed (rw (lt-ltb _ _ h, ends, q))
 
-    pub take-high : o + entry-size ≤ length m → length m - (o + entry-size) < t .gpa → takenOf (Broken (refusal bad-entry)) n l ≡ take-entry m t (entriesOf n l)
-    take-high q r = outside (omega arith)
-
-    module _ (q : o + entry-size ≤ length m) (r : t .gpa ≤ length m - (o + entry-size)) where
+    module _ (q : b ≡ false) where
       pub take-sum : t .gpa + o + entry-size ≤ length m
-      take-sum = omega arith
+      take-sum = omega (arith, ltb-false (length m) (t .gpa + (o + entry-size)) (sym is ∙ q))
+
+      pub take-start : length m < 2 ^ 64 → t .gpa + o < 2 ^ 64
+      take-start fits = omega (arith, take-sum)
 
       module _ (e : Entry) (read : e ≡ entry m (t .gpa + o)) (v : Verdict) (judged : v ≡ entry-rules (length m) (entriesOf n l) e) where
         reached : in-reach m t n ≡ true
-        reached = let w : entry-place t n + entry-size ≤ length m = omega arith in rw (lt-ltb _ _ h, le-leb _ _ w)
+        reached = rw (lt-ltb _ _ h, ends, q)
 
         place : entry m (entry-place t n) ≡ e
         place = sym (read ∙ ap (λ k. entry m (t .gpa + k)) (offset .0))
@@ -184,4 +167,4 @@ module _ (n : ℕ) (l : List ℕ) (m : List ℕ) (e : Entry) (v : Verdict) (judg
   pub fine-kept : length m < 2 ^ 64 → e .gpa + e .size < 18446744073709551616
   fine-kept fits = omega (arith, fine-ends (sound (length m) e) refl)
 
-pub ruleset taking = (fine-kept, take-full, take-past, take-high, take-sum, take-fine, take-broken, needs)
+pub ruleset taking = (fine-kept, take-full, take-past, take-sum, take-start, take-fine, take-broken, needs)

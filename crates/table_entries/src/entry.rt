@@ -13,6 +13,7 @@ use rules::numbers::MOST_ROWS;
 use rules::numbers::TWICE_IN_TABLE;
 use table_header::header::ENTRY_SIZE;
 use table_header::header::entry_offset;
+use widths::beyond;
 use widths::u32_to_word;
 ghost use mathlib.Core.Path.{_≡_};
 ghost use Prim.Native.Nat.{_+_, _-_, _≤_, _<_};
@@ -33,13 +34,7 @@ pub fn sound(memory: u64, e: Entry) -> bool
     if e.size == 0 {
         return false;
     }
-    if e.size > memory {
-        return false;
-    }
-    if e.gpa > memory - e.size {
-        return false;
-    }
-    true
+    !beyond(e.gpa, e.size, memory)
 }
 
 // Judges an entry that was read, after `kept` that were kept.
@@ -83,10 +78,7 @@ pub fn take_entry(mem: &[u8], t: Table, entries: &mut Entries, kept: usize) -> V
         return Verdict::Broken(Refusal { code: BAD_ENTRY });
     }
     let offset = entry_offset(t.stride, kept as u32);
-    if memory < offset + ENTRY_SIZE {
-        return Verdict::Broken(Refusal { code: BAD_ENTRY });
-    }
-    if t.gpa > memory - (offset + ENTRY_SIZE) {
+    if beyond(t.gpa, offset + ENTRY_SIZE, memory) {
         return Verdict::Broken(Refusal { code: BAD_ENTRY });
     }
     let e = entry_at(mem, (t.gpa + offset) as usize);

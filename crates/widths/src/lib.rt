@@ -1,6 +1,7 @@
-// The same number in another width. None of these changes it.
+// Numbers alone: the same number in another width, which changes none, and a sum held against a bound without being made.
 ghost use mathlib.Core.Path.{_≡_};
-ghost use Prim.Native.Nat.{_<_};
+ghost use Prim.Native.Nat.{_+_, _<_};
+ghost use lib.Dec.{ltb};
 
 // A small number in a word, known to be one of four bytes.
 pub fn u32_to_word(small: u32) -> u64
@@ -35,4 +36,14 @@ pub fn u16_to_word(units: u16) -> u64
     ensures { λ r. ⌜ r ≡ units ⌝ }
 {
     units as u64
+}
+
+// Whether the `n` bytes from a place on end beyond so many bytes. The sum is that of plain numbers: nothing wraps.
+pub fn beyond(at: u64, n: u64, bytes: u64) -> bool
+    ensures { λ r. ⌜ r ≡ ltb bytes (at + n) ⌝ }
+{
+    if n > bytes {
+        return true;
+    }
+    at > bytes - n
 }

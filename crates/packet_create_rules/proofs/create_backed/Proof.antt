@@ -19,26 +19,23 @@ entry-row-requires c κs = search needs
 cast-offset : tie.Need-cast-offset
 cast-offset c = search needs
 
+beyond-requires : tie.Need-beyond-requires
+beyond-requires c κs = search needs
+
 refuse-requires-2 : tie.Need-refuse-requires-2
 refuse-requires-2 c κs = search needs
 
 returns-2 : tie.Need-returns-2
 returns-2 c = search backing
 
-refuse-requires-3 : tie.Need-refuse-requires-3
-refuse-requires-3 c κs = search needs
-
-returns-3 : tie.Need-returns-3
-returns-3 c = search backing
-
-add-t13 : tie.Need-add-t13
-add-t13 c = search needs
+add-t14 : tie.Need-add-t14
+add-t14 c = search backing
 
 store-backed-requires : tie.Need-store-backed-requires
 store-backed-requires c κs = search needs
 
-returns-4 : tie.Need-returns-4
-returns-4 c = search backing
+returns-3 : tie.Need-returns-3
+returns-3 c = search backing
 
 pub create-backed-spec : {M : Type 1} → statement M
 create-backed-spec =
@@ -49,10 +46,9 @@ create-backed-spec =
     returns
     entry-row-requires
     cast-offset
+    beyond-requires
     refuse-requires-2
     returns-2
-    refuse-requires-3
-    returns-3
-    add-t13
+    add-t14
     store-backed-requires
-    returns-4)
+    returns-3)

@@ -4,20 +4,14 @@ use borrow.Author.Needs.{needs}
 use Rattle.packet_ranges.proofs.handout.beyond_entry.Statement.{statement}
 use Rattle.packet_ranges.proofs.handout.beyond_entry.Tie as tie
 
-beyond-requires : tie.Need-beyond-requires
-beyond-requires c κs = search needs
-
 returns : tie.Need-returns
 returns c = search moving-range
 
-add-result : tie.Need-add-result
-add-result c = search moving-range
-
-sub-result : tie.Need-sub-result
-sub-result c = search moving-range
+beyond-requires : tie.Need-beyond-requires
+beyond-requires c κs = search needs
 
 returns-2 : tie.Need-returns-2
 returns-2 c = search moving-range
 
 pub beyond-entry-spec : {M : Type 1} → statement M
-beyond-entry-spec = tie.close (tie.spec beyond-requires returns add-result sub-result returns-2)
+beyond-entry-spec = tie.close (tie.spec returns beyond-requires returns-2)

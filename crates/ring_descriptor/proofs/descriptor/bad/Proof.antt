@@ -15,15 +15,12 @@ returns-3 c = search ranging
 u32-to-word-requires : tie.Need-u32-to-word-requires
 u32-to-word-requires c κs = search needs
 
-sub-if4 : tie.Need-sub-if4
-sub-if4 c = search needs
+beyond-requires : tie.Need-beyond-requires
+beyond-requires c κs = search needs
 
 returns-4 : tie.Need-returns-4
 returns-4 c = search ranging
 
-returns-5 : tie.Need-returns-5
-returns-5 c = search ranging
-
 pub bad-spec : {M : Type 1} → statement M
 bad-spec =
-    tie.close (tie.spec returns returns-2 returns-3 u32-to-word-requires sub-if4 returns-4 returns-5)
+    tie.close (tie.spec returns returns-2 returns-3 u32-to-word-requires beyond-requires returns-4)

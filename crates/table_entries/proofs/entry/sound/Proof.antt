@@ -9,14 +9,11 @@ returns c = search sounding
 returns-2 : tie.Need-returns-2
 returns-2 c = search sounding
 
+beyond-requires : tie.Need-beyond-requires
+beyond-requires c κs = search sounding
+
 returns-3 : tie.Need-returns-3
 returns-3 c = search sounding
 
-returns-4 : tie.Need-returns-4
-returns-4 c = search sounding
-
-returns-5 : tie.Need-returns-5
-returns-5 c = search sounding
-
 pub sound-spec : {M : Type 1} → statement M
-sound-spec = tie.close (tie.spec returns returns-2 returns-3 returns-4 returns-5)
+sound-spec = tie.close (tie.spec returns returns-2 beyond-requires returns-3)

@@ -13,26 +13,20 @@ cast-entry-offset c = search needs
 entry-offset-requires : tie.Need-entry-offset-requires
 entry-offset-requires c κs = search needs
 
-add-if2 : tie.Need-add-if2
-add-if2 c = search needs
+add-beyond : tie.Need-add-beyond
+add-beyond c = search needs
+
+beyond-requires : tie.Need-beyond-requires
+beyond-requires c κs = search needs
 
 returns-2 : tie.Need-returns-2
 returns-2 c = search taking
 
-add-if3 : tie.Need-add-if3
-add-if3 c = search needs
-
-sub-if3 : tie.Need-sub-if3
-sub-if3 c = search needs
-
-returns-3 : tie.Need-returns-3
-returns-3 c = search taking
-
 add-entry-at : tie.Need-add-entry-at
-add-entry-at c = search needs
+add-entry-at c = search taking
 
 entry-at-requires : tie.Need-entry-at-requires
-entry-at-requires c κs = search needs
+entry-at-requires c κs = search taking
 
 judge-entry-requires : tie.Need-judge-entry-requires
 judge-entry-requires c κs = search needs
@@ -46,11 +40,11 @@ push-entry-requires c κs = search taking
 enum-known-verdict : tie.Need-enum-known-verdict
 enum-known-verdict c = search needs
 
+returns-3 : tie.Need-returns-3
+returns-3 c = search taking
+
 returns-4 : tie.Need-returns-4
 returns-4 c = search taking
-
-returns-5 : tie.Need-returns-5
-returns-5 c = search taking
 
 pub take-entry-spec : {M : Type 1} → statement M
 take-entry-spec =
@@ -59,16 +53,14 @@ take-entry-spec =
     returns
     cast-entry-offset
     entry-offset-requires
-    add-if2
+    add-beyond
+    beyond-requires
     returns-2
-    add-if3
-    sub-if3
-    returns-3
     add-entry-at
     entry-at-requires
     judge-entry-requires
     enum-told
     push-entry-requires
     enum-known-verdict
-    returns-4
-    returns-5)
+    returns-3
+    returns-4)
