@@ -7,13 +7,13 @@ use borrow.Author.Needs.{needs}
 use Rattle.rules.specs.State.{made}
 use Rattle.rules.specs.Calls.{call-write, call-read, call-run, call-record, call-answer}
 use Rattle.registers.specs.Views.{Writes}
-use Rattle.device_calls.specs.Views.{valueOf, handedOf, Makes, Reads, GivesRecord}
+use Rattle.device_calls.specs.Views.{valueOf, recordReadOf, Makes, Reads, GivesRecord}
 use Rattle.device_calls.specs.declared.ValueRead.{ValueRead}
-use Rattle.device_calls.specs.declared.Handed.{Handed}
+use Rattle.device_calls.specs.declared.RecordRead.{RecordRead}
 use Rattle.run_state.specs.Views.{lent}
 use Rattle.device_memory_calls.specs.Views.{Runs, Answers}
 use Rattle.device_memory_calls.specs.declared.Spent.{Spent}
-use Rattle.device.specs.Views.{stateOf, worldOf, wroteOf, ranOf, toldOf}
+use Rattle.device.specs.Views.{stateOf, worldOf, wroteOf, ranOf, answeredOf}
 use Rattle.device.specs.declared.Device.{Device}
 
 pub is-made : (memory : ℕ) (s e a b c : List ℕ) → Makes memory s → stateOf (record { words = s; entries = e; first = a; second = b; records = c }) ≡ made memory
@@ -27,15 +27,15 @@ module _ (d : Device) where
   pub read : (offset : ℕ) (x : ValueRead) → Reads (d .words) offset x → valueOf x ≡ call-read (stateOf d) offset
   read offset x k = k .value (d .entries) (d .first) (d .second) (d .records)
 
-  pub handed : (i : ℕ) (x : Handed) → GivesRecord (d .words) (d .records) i x → handedOf x ≡ call-record (stateOf d) i
-  handed i x k = k .hands (d .entries) (d .first) (d .second)
+  pub record-read : (i : ℕ) (x : RecordRead) → GivesRecord (d .words) (d .records) i x → recordReadOf x ≡ call-record (stateOf d) i
+  record-read i x k = k .hands (d .entries) (d .first) (d .second)
 
   pub ran : (m : List ℕ) (allowance : ℕ) (x : Spent) (s′ e′ a′ b′ c′ m′ : List ℕ) → Runs allowance (lent (d .words) (d .entries) (d .first) (d .second) (d .records) m) x (lent s′ e′ a′ b′ c′ m′)
       → ranOf (record { answer = x .answer; units = x .units; ended = x .ended; device = record { words = s′; entries = e′; first = a′; second = b′; records = c′ } }) m′ ≡ call-run (worldOf d m) allowance
   ran m allowance x s′ e′ a′ b′ c′ m′ k = k .ran
 
-  pub told : (m : List ℕ) (good : Bool) (answer : ℕ) (s′ m′ : List ℕ) → Answers (d .words) m good answer s′ m′
-      → toldOf (record { answer = answer; device = record { words = s′; entries = d .entries; first = d .first; second = d .second; records = d .records } }) m′ ≡ call-answer (worldOf d m) good
-  told m good answer s′ m′ k = k .told (d .entries) (d .first) (d .second) (d .records)
+  pub answered : (m : List ℕ) (good : Bool) (answer : ℕ) (s′ m′ : List ℕ) → Answers (d .words) m good answer s′ m′
+      → answeredOf (record { answer = answer; device = record { words = s′; entries = d .entries; first = d .first; second = d .second; records = d .records } }) m′ ≡ call-answer (worldOf d m) good
+  answered m good answer s′ m′ k = k .answered (d .entries) (d .first) (d .second) (d .records)
 
-pub ruleset calling = (is-made, wrote, read, handed, ran, told, needs)
+pub ruleset calling = (is-made, wrote, read, record-read, ran, answered, needs)

@@ -1,14 +1,14 @@
 // The device as a value: every call takes it and hands it back, with the call's answer and its values. It is a struct of the words and
 // tables that the calls work on, and lends them. No call asks anything of its caller: whatever stands in the device or in memory, it ends
 // and says what it gives.
-use device_calls::Handed;
+use device_calls::RecordRead;
 use device_calls::ValueRead;
 use rules::Ended;
 ghost use mathlib.Core.Path.{_≡_};
 ghost use Rattle.rules.specs.State.{made};
 ghost use Rattle.rules.specs.Calls.{call-write, call-read, call-run, call-record, call-answer};
-ghost use Rattle.device_calls.specs.Views.{valueOf, handedOf};
-ghost use Rattle.device.specs.Views.{stateOf, worldOf, wroteOf, ranOf, toldOf};
+ghost use Rattle.device_calls.specs.Views.{valueOf, recordReadOf};
+ghost use Rattle.device.specs.Views.{stateOf, worldOf, wroteOf, ranOf, answeredOf};
 
 pub struct Device {
     pub words: [u64; 32],
@@ -30,7 +30,7 @@ pub struct Ran {
     pub device: Device,
 }
 
-pub struct Told {
+pub struct Answered {
     pub answer: u32,
     pub device: Device,
 }
@@ -80,8 +80,8 @@ impl Device {
     }
 
     // Record i of the submission that waits.
-    pub fn record(self, i: u32) -> Handed
-        ensures { λ r. ⌜ handedOf r ≡ call-record (stateOf self) i ⌝ }
+    pub fn record(self, i: u32) -> RecordRead
+        ensures { λ r. ⌜ recordReadOf r ≡ call-record (stateOf self) i ⌝ }
     {
         let words = self.words;
         let records = self.records;
@@ -123,8 +123,8 @@ impl Device {
     }
 
     // The host's answer to what waits.
-    pub fn answer(self, mem: &mut [u8], good: bool) -> Told
-        ensures { λ r. ⌜ toldOf r (now (mem .exit)) ≡ call-answer (worldOf self (now (mem .entry))) good ⌝ }
+    pub fn answer(self, mem: &mut [u8], good: bool) -> Answered
+        ensures { λ r. ⌜ answeredOf r (now (mem .exit)) ≡ call-answer (worldOf self (now (mem .entry))) good ⌝ }
     {
         let mut words = self.words;
         let entries = self.entries;
@@ -139,6 +139,6 @@ impl Device {
             second,
             records,
         };
-        Told { answer, device }
+        Answered { answer, device }
     }
 }

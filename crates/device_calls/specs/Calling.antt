@@ -23,8 +23,8 @@ use Rattle.run_state.specs.Views.{countIn, registersIn, tagIn, worldIn, stateIn
 use Rattle.run_state.specs.Reading.{none-live}
 use Rattle.run_state.specs.Stages.{waits-in, outs-in}
 use Rattle.run_state.specs.Spelled.{spell}
-use Rattle.device_calls.specs.Views.{noneHanded, Makes, Reads, GivesRecord}
-use Rattle.device_calls.specs.declared.Handed.{Handed}
+use Rattle.device_calls.specs.Views.{noRecord, Makes, Reads, GivesRecord}
+use Rattle.device_calls.specs.declared.RecordRead.{RecordRead}
 
 -- ---- make
 
@@ -75,7 +75,7 @@ nth-past f i (suc n) zero h = absurd (omega arith)
 nth-past f i (suc n) (suc k) h = nth-past f (suc i) n k (omega arith)
 
 module _ (s c : List ℕ) (i k : ℕ) (at : k ≡ i) where
-  pub hands-unasked : (x : Handed) → tagIn s < 3 → x ≡ noneHanded → GivesRecord s c i x
+  pub hands-unasked : (x : RecordRead) → tagIn s < 3 → x ≡ noRecord → GivesRecord s c i x
   unfolding call-record nth
   hands-unasked x low p = record { hands = λ e a b. rw (p, outs-in s e (pick (sideIn s) b a) (pick (sideIn s) a b) c [] low) }
 
@@ -83,7 +83,7 @@ module _ (s c : List ℕ) (i k : ℕ) (at : k ≡ i) where
     there : (e a b : List ℕ) → handed-out (stateIn s e a b c .work) ≡ recordsOf n c
     there e a b = rw (waits-in s e (pick (sideIn s) b a) (pick (sideIn s) a b) c [] waiting, is .0)
 
-    pub hands-past : (x : Handed) → n ≤ k → x ≡ noneHanded → GivesRecord s c i x
+    pub hands-past : (x : RecordRead) → n ≤ k → x ≡ noRecord → GivesRecord s c i x
     unfolding call-record table
     hands-past x p q =
         let out : nth (recordsOf n c) i ≡ none = nth-past (λ j. recordOf (rowAt 5 c j)) 0 n i (omega arith) in

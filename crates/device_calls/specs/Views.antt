@@ -5,19 +5,19 @@ use mathlib.Core.List.{List}
 use Prim.Native.Nat.{ℕ}
 use Rattle.rules.specs.Numbers.{no-record}
 use Rattle.rules.specs.State.{made}
-use Rattle.rules.specs.Calls.{Value, no-range, Handed as HandedBy, call-read, call-record}
+use Rattle.rules.specs.Calls.{Value, no-range, RecordRead as RecordReadBy, call-read, call-record}
 use Rattle.run_state.specs.Views.{stateIn}
 use Rattle.device_calls.specs.declared.ValueRead.{ValueRead}
-use Rattle.device_calls.specs.declared.Handed.{Handed}
+use Rattle.device_calls.specs.declared.RecordRead.{RecordRead}
 
 abbrev pub valueOf : ValueRead → Value
 valueOf x = record { answer = x .answer; value = x .value }
 
-abbrev pub handedOf : Handed → HandedBy
-handedOf x = record { answer = x .answer; range = x .range }
+abbrev pub recordReadOf : RecordRead → RecordReadBy
+recordReadOf x = record { answer = x .answer; range = x .range }
 
-abbrev pub noneHanded : Handed
-noneHanded = record { answer = no-record; range = no-range }
+abbrev pub noRecord : RecordRead
+noRecord = record { answer = no-record; range = no-range }
 
 pub record Makes (memory : ℕ) (s′ : List ℕ) : Type 0 where
   pub new : (e a b c : List ℕ) → stateIn s′ e a b c ≡ made memory
@@ -25,5 +25,5 @@ pub record Makes (memory : ℕ) (s′ : List ℕ) : Type 0 where
 pub record Reads (s : List ℕ) (offset : ℕ) (x : ValueRead) : Type 0 where
   pub value : (e a b c : List ℕ) → valueOf x ≡ call-read (stateIn s e a b c) offset
 
-pub record GivesRecord (s c : List ℕ) (i : ℕ) (x : Handed) : Type 0 where
-  pub hands : (e a b : List ℕ) → handedOf x ≡ call-record (stateIn s e a b c) i
+pub record GivesRecord (s c : List ℕ) (i : ℕ) (x : RecordRead) : Type 0 where
+  pub hands : (e a b : List ℕ) → recordReadOf x ≡ call-record (stateIn s e a b c) i

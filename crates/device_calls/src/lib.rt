@@ -30,7 +30,7 @@ use run_state::rows_in;
 use widths::u32_to_usize;
 use widths::usize_to_word;
 ghost use mathlib.Core.Path.{_≡_};
-ghost use Rattle.device_calls.specs.Views.{noneHanded, Makes, Reads, GivesRecord};
+ghost use Rattle.device_calls.specs.Views.{noRecord, Makes, Reads, GivesRecord};
 
 // What a read answers, and the register's value.
 pub struct ValueRead {
@@ -39,7 +39,7 @@ pub struct ValueRead {
 }
 
 // What a record call answers, and the record.
-pub struct Handed {
+pub struct RecordRead {
     pub answer: u32,
     pub range: Record,
 }
@@ -84,8 +84,8 @@ pub fn read(words: &Words, offset: u32) -> ValueRead
 }
 
 // No record: every value beside the refusal is zero.
-fn none_handed() -> Handed
-    ensures { λ r. ⌜ r ≡ noneHanded ⌝ }
+fn no_record() -> RecordRead
+    ensures { λ r. ⌜ r ≡ noRecord ⌝ }
 {
     let range = Record {
         kind: 0,
@@ -94,25 +94,25 @@ fn none_handed() -> Handed
         gpa: 0,
         length: 0,
     };
-    Handed {
+    RecordRead {
         answer: NO_RECORD,
         range,
     }
 }
 
 // Record i of the submission that waits.
-pub fn record(words: &Words, records: &Records, i: u32) -> Handed
+pub fn record(words: &Words, records: &Records, i: u32) -> RecordRead
     ensures { λ r. ⌜ GivesRecord (now (words .entry)) (now (records .entry)) i r ⌝ }
 {
     let at = u32_to_usize(i);
     if words[TAG] < WAITING {
-        return none_handed();
+        return no_record();
     }
     if at >= rows_in(words[MADE]) {
-        return none_handed();
+        return no_record();
     }
     let range = record_row(records, at);
-    Handed {
+    RecordRead {
         answer: DONE,
         range,
     }

@@ -126,14 +126,14 @@ module _ (s e r h c m : List ℕ) (asked : 3 ≤ tagIn s) where
 module _ (s m : List ℕ) (good : Bool) (memory : ℕ) (is : memory ≡ getD s 0 0) where
   pub answers-other : (length m ≡ memory → ⊥) → Answers s m good other-memory s m
   unfolding call-answer
-  answers-other n = record { told = λ e a b c. rw (memory-in s e a b c m, lent-in s e a b c m, ← is, ne-eqb _ _ n); still = λ q. (refl, refl) }
+  answers-other n = record { answered = λ e a b c. rw (memory-in s e a b c m, lent-in s e a b c m, ← is, ne-eqb _ _ n); still = λ q. (refl, refl) }
 
   module _ (n : length m ≡ memory) where
     pub answers-unasked : tagIn s < 3 → Answers s m good nothing-waits s m
     unfolding call-answer
     answers-unasked low =
         record {
-          told = λ e a b c. rw (memory-in s e a b c m, lent-in s e a b c m, ← is, eq-eqb _ _ n, works-on s e (pick (sideIn s) b a) (pick (sideIn s) a b) c m low);
+          answered = λ e a b c. rw (memory-in s e a b c m, lent-in s e a b c m, ← is, eq-eqb _ _ n, works-on s e (pick (sideIn s) b a) (pick (sideIn s) a b) c m low);
           still = λ q. (refl, refl);
         }
 
@@ -146,7 +146,7 @@ module _ (s m : List ℕ) (good : Bool) (memory : ℕ) (is : memory ≡ getD s 0
       pub answers-good : good ≡ true → Accepts s m s′ m′ → Answers s m good done s′ m′
       answers-good g x =
           record {
-            told = λ e a b c.
+            answered = λ e a b c.
                 ap (λ (w : World). record { answer = done; world = w }) (x .world e a b c ∙ (sym (good-answer s e (pick (sideIn s) b a) (pick (sideIn s) a b) c m asked) ∙ rw g))
                 ∙ sym (answered-as e a b c);
             still = λ q. absurd (q refl);
@@ -155,7 +155,7 @@ module _ (s m : List ℕ) (good : Bool) (memory : ℕ) (is : memory ≡ getD s 0
       pub answers-failed : good ≡ false → Refuses s m (refusal host-failed) s′ m′ → Answers s m good done s′ m′
       answers-failed g x =
           record {
-            told = λ e a b c.
+            answered = λ e a b c.
                 ap (λ (w : World). record { answer = done; world = w })
                 (ap (λ k. worldIn s′ e (pick (setIn k) b a) (pick (setIn k) a b) c m′) (x .side)
                 ∙ (x .world e (pick (sideIn s) b a) (pick (sideIn s) a b) c ∙ (sym (failed-answer s e (pick (sideIn s) b a) (pick (sideIn s) a b) c m asked) ∙ rw g)))

@@ -5,7 +5,7 @@ use mathlib.Core.Bool.{Bool}
 use mathlib.Core.List.{List}
 use Prim.Native.Nat.{ℕ}
 use Rattle.rules.specs.Steps.{run-for}
-use Rattle.rules.specs.Calls.{ending, Ran, Told, call-run, call-answer}
+use Rattle.rules.specs.Calls.{ending, Ran, Answered, call-run, call-answer}
 use Rattle.rules.specs.declared.Ended.{Ended}
 use Rattle.run_state.specs.Views.{worldIn, deskIn, Lent, deskOf, Refused}
 use Rattle.device_memory_calls.specs.declared.Spent.{Spent}
@@ -24,5 +24,5 @@ pub record Runs (allowance : ℕ) (l : Lent) (x : Spent) (l′ : Lent) : Type 0 
 
 -- whatever stands in the tables
 pub record Answers (s m : List ℕ) (good : Bool) (answer : ℕ) (s′ m′ : List ℕ) : Type 0 where
-  pub told : (e a b c : List ℕ) → _≡_ {A = Told} (record { answer = answer; world = deskIn s′ e a b c m′ }) (call-answer (deskIn s e a b c m) good)
+  pub answered : (e a b c : List ℕ) → _≡_ {A = Answered} (record { answer = answer; world = deskIn s′ e a b c m′ }) (call-answer (deskIn s e a b c m) good)
   pub still : Refused answer → (s′ ≡ s) × (m′ ≡ m)

@@ -11,7 +11,7 @@ use Rattle.machine.specs.Machine.{pick, run-none, run-stop, run-go}
 use Rattle.rules.specs.Numbers.{done, other-memory, nothing-waits}
 use Rattle.rules.specs.State.{State, World, with-state, registering}
 use Rattle.rules.specs.Steps.{step, go, run-for, waits, answered}
-use Rattle.rules.specs.Calls.{lent-another, Ran, call-run, Told, call-answer}
+use Rattle.rules.specs.Calls.{lent-another, Ran, call-run, Answered, call-answer}
 use Rattle.rules.specs.declared.Registers.{Registers}
 use Rattle.packet_apply.specs.Held.{Every}
 use Rattle.promises.specs.Writes.{resets, registers-written, write-is-by-registers}
@@ -165,12 +165,12 @@ call-leads (runs k) w n = of-run (λ (r : Ran). Led w (in-a-row (r .units)) (r .
 call-leads (records i) w n = stays
 call-leads (answers good) w n = by-tests (lent-another w) (waits (w .state)) refl
   where
-    told : Bool → Bool → Told
-    told a b =
+    reply : Bool → Bool → Answered
+    reply a b =
         pick a (record { answer = other-memory; world = w })
         (pick b (record { answer = done; world = answered good w }) (record { answer = nothing-waits; world = w }))
 
-    by-tests : (a b : Bool) → waits (w .state) ≡ b → Led w (pick (eqb (told a b .answer) done) (answer good ∷ []) []) (told a b .world)
+    by-tests : (a b : Bool) → waits (w .state) ≡ b → Led w (pick (eqb (reply a b .answer) done) (answer good ∷ []) []) (reply a b .world)
     by-tests true b e = stays
     by-tests false true e = takes good e stays
     by-tests false false e = stays

@@ -1,5 +1,5 @@
 -- Where a device can stand after calls, in terms of the unsliced rules: the words of the theorems in ChainsStand.antt. Acts are given in
--- their order, so each write is told to come before, during or after a submission. Assumes nothing.
+-- their order, so each write is known to come before, during or after a submission. Assumes nothing.
 use mathlib.Core.Path.{_≡_}
 use mathlib.Core.Bool.{Bool, true, false}
 use mathlib.Core.List.{List, [], _∷_, _++_}
@@ -57,7 +57,7 @@ pub data Served : World → List Act → World → Type 0 where
   written : {w v : World} {xs : List Act} (offset n : ℕ) → Clear w → resets offset n ≡ false
       → Served (registering (registers-written offset n (w .state .regs)) w) xs v → Served w (write offset n ∷ xs) v
   -- an answer to a submission that waits
-  told : {w v : World} {xs : List Act} (good : Bool) → waits (w .state) ≡ true → Served (answered good w) xs v → Served w (answer good ∷ xs) v
+  answers : {w v : World} {xs : List Act} (good : Bool) → waits (w .state) ≡ true → Served (answered good w) xs v → Served w (answer good ∷ xs) v
 
 -- from w, these acts lead to v, some units into the next submission
 pub data Next (w : World) : List Act → World → Type 0 where
@@ -79,11 +79,11 @@ unfoldable pub counted : {w v : World} {xs : List Act} → Served w xs v → ℕ
 counted begun = 0
 counted (submission {w = w} {during = during} rest g s on n later) = submitted-under (registers-after during (w .state .regs)) w .units + counted later
 counted (written offset n c h later) = counted later
-counted (told good h later) = counted later
+counted (answers good h later) = counted later
 
 -- the answers that were given
 unfoldable pub given : {w v : World} {xs : List Act} → Served w xs v → List Bool
 given begun = []
 given (submission rest g s on n later) = given later
 given (written offset n c h later) = given later
-given (told good h later) = good ∷ given later
+given (answers good h later) = good ∷ given later

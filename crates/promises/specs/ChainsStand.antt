@@ -25,7 +25,7 @@ use Rattle.promises.specs.Courses.{clash, unit-alone, course-one, course
 use Rattle.promises.specs.Chains.{submitted-under, Span, Into, Rest, Served, Next, Stands, counted, given}
 use Rattle.promises.specs.Chains.Span.{last, spending, writing}
 use Rattle.promises.specs.Chains.Rest.{none-left, ends}
-use Rattle.promises.specs.Chains.Served.{begun, submission, written, told}
+use Rattle.promises.specs.Chains.Served.{begun, submission, written, answers}
 use Rattle.promises.specs.Chains.Next.{none-begun, opened}
 use Rattle.promises.specs.Chains.Stands.{in-the-first, past-the-first}
 
@@ -169,7 +169,7 @@ led-stands {w} {v} (writes-one {xs = xs} offset n h later) = by-test (midst (w .
     by-test false c s = act-between (write offset n) c c (λ ys y t. written offset n c h t) s
 led-stands {w} (takes good h later) =
     let clear : (midst (w .state .work) ≡ false) × Clear (answer-on good w (w .state .work)) = answer-clear good w (w .state .work) h in
-    act-between (answer good) (clear .0) (clear .1) (λ ys y t. told good h t) (led-stands later)
+    act-between (answer good) (clear .0) (clear .1) (λ ys y t. answers good h t) (led-stands later)
 
 -- from any world, whatever is in work there, calls of which none is a reset stand in the midst of what was in work at the start; or at its
 -- end, and whole submissions of the unsliced rules after it, and some units into the next one
@@ -196,7 +196,7 @@ unfolding units-in counted
 served-units begun = refl
 served-units (submission {during = during} {xs = xs} rest g span on n later) = units-in-both (unit ∷ during) xs ∙ rw (served-units later, n)
 served-units (written offset n c h later) = served-units later
-served-units (told good h later) = served-units later
+served-units (answers good h later) = served-units later
 
 span-takes-nothing : {xs : List Act} → Span xs → answers-in xs ≡ []
 unfolding answers-in
@@ -210,7 +210,7 @@ served-answers begun = refl
 served-answers (submission {during = during} {xs = xs} rest g span on n later) =
     answers-in-both (unit ∷ during) xs ∙ rw (span-takes-nothing span, served-answers later)
 served-answers (written offset n c h later) = served-answers later
-served-answers (told good h later) = ap (λ l. good ∷ l) (served-answers later)
+served-answers (answers good h later) = ap (λ l. good ∷ l) (served-answers later)
 
 rest-takes-nothing : {w x : World} {xs : List Act} → Rest w xs x → answers-in xs ≡ []
 unfolding answers-in
@@ -222,7 +222,7 @@ unfolding answers-in
 next-takes-nothing none-begun = refl
 next-takes-nothing (opened rest g a i n) = i .takes-nothing
 
--- however the acts of calls are told as the rest of what was in work, whole submissions, and the next
+-- however the acts of calls are split into the rest of what was in work, whole submissions, and the next
 module _ (cs : List Call) (w : World) {x y : World} (first next : List Act) {night : List Act}
     (e : acts-of-all cs w ≡ first ++ (night ++ next)) (s : Served x night y) where
   -- the units that calls report are those of the rest of what was in work, the unsliced rules' counts, and those of the next so far

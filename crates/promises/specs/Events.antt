@@ -17,7 +17,7 @@ use Rattle.rules.specs.State.{Work, State, World, made, with-regs, with-state, 
 use Rattle.rules.specs.State.Work.{resting, entries, packets, waiting}
 use Rattle.rules.specs.Registers.{Write, with-enabled, bit-of, reset, controlled, writable, write-offset, write-of}
 use Rattle.rules.specs.Steps.{step, go, run-for, waits-on, waits, answered}
-use Rattle.rules.specs.Calls.{lent-another, wrote, call-write, ran, call-run, Told, call-answer}
+use Rattle.rules.specs.Calls.{lent-another, wrote, call-write, ran, call-run, Answered, call-answer}
 use Rattle.rules.specs.declared.Ended.the-variants.{Idle}
 use Rattle.rules.specs.declared.Entry.{Entry}
 use Rattle.rules.specs.declared.Job.{Job}
@@ -167,7 +167,7 @@ unfolding call-answer
 answer-call-has-events good w = by-tests (lent-another w) (waits (w .state)) refl refl
   where
     by-tests : (a b : Bool) → lent-another w ≡ a → waits (w .state) ≡ b
-        → (es : List Event) × Happens w (answers good) es (pick {A = Told} a (record { answer = other-memory; world = w }) (pick {A = Told} b (record { answer = done; world = answered good w }) (record { answer = nothing-waits; world = w })) .world)
+        → (es : List Event) × Happens w (answers good) es (pick {A = Answered} a (record { answer = other-memory; world = w }) (pick {A = Answered} b (record { answer = done; world = answered good w }) (record { answer = nothing-waits; world = w })) .world)
     by-tests true b e f = ([], refused-answer good (λ d. absurd (let z : _≡_ {A = ℕ} 0 1 = cc in omega arith)))
     by-tests false true e f =
         let its : (j : Job) × (es : List Entry) × (h : Holdings) × (w .state .work ≡ waiting j es h) = waits-for (w .state .work) f in
@@ -211,8 +211,8 @@ happens-is-after w c es w′ (resets-all offset v h q) = ap (λ s. with-state s 
 happens-is-after w c es w′ (spends n e u) =
     ap (λ b. pick b (record { answer = other-memory; units = 0; ended = Idle; world = w }) (ran (run-for n w)) .world) e
 happens-is-after w c es w′ (settles-answered good j table h e f) =
-    ap (λ b. pick {A = Told} b (record { answer = other-memory; world = w }) (pick {A = Told} (waits (w .state)) (record { answer = done; world = answered good w }) (record { answer = nothing-waits; world = w })) .world) e
-    ∙ ap (λ k. pick {A = Told} (waits-on k) (record { answer = done; world = answered good w }) (record { answer = nothing-waits; world = w }) .world) f
+    ap (λ b. pick {A = Answered} b (record { answer = other-memory; world = w }) (pick {A = Answered} (waits (w .state)) (record { answer = done; world = answered good w }) (record { answer = nothing-waits; world = w })) .world) e
+    ∙ ap (λ k. pick {A = Answered} (waits-on k) (record { answer = done; world = answered good w }) (record { answer = nothing-waits; world = w }) .world) f
 
 pub history-is-after-all : (w : World) (cs : List Call) (es : List Event) (w′ : World) → History w cs es w′ → after-all cs w ≡ w′
 unfolding after-all

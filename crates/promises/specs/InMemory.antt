@@ -23,7 +23,7 @@ use Rattle.rules.specs.State.Work.{resting, entries, packets, waiting}
 use Rattle.rules.specs.Registers.{reset}
 use Rattle.rules.specs.Settle.{settled}
 use Rattle.rules.specs.Steps.{packets-at, entries-at, after-opening, open-step, after-entry, entry-step, after-packet, next-place, packet-step, step-on, step, go, run-for, waits, answer-on, answered}
-use Rattle.rules.specs.Calls.{lent-another, Told, ran, call-run, call-answer, call-write}
+use Rattle.rules.specs.Calls.{lent-another, Answered, ran, call-run, call-answer, call-write}
 use Rattle.rules.specs.declared.Ended.the-variants.{Idle}
 use Rattle.rules.specs.declared.Entry.{Entry}
 use Rattle.rules.specs.declared.Record.{Record}
@@ -212,7 +212,7 @@ pub answer-call-lies : (w : World) (good : Bool) → Lies (w .state) → Lies (c
 unfolding call-answer answered
 answer-call-lies w good h = by-tests (lent-another w) (waits (w .state))
   where
-    by-tests : (a b : Bool) → Lies (pick {A = Told} a (record { answer = other-memory; world = w }) (pick {A = Told} b (record { answer = done; world = answer-on good w (w .state .work) }) (record { answer = nothing-waits; world = w })) .world .state)
+    by-tests : (a b : Bool) → Lies (pick {A = Answered} a (record { answer = other-memory; world = w }) (pick {A = Answered} b (record { answer = done; world = answer-on good w (w .state .work) }) (record { answer = nothing-waits; world = w })) .world .state)
     by-tests true b = h
     by-tests false true = subst (λ i. LiesIn i (answer-on good w (w .state .work) .state .work)) (sym (answer-made w good (w .state .work))) (answer-on-lies w good (w .state .memory) (w .state .work) refl h)
     by-tests false false = h

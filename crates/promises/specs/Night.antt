@@ -10,7 +10,7 @@ use borrow.Author.Tests.{ltb-false, ltb-true}
 use lib.Dec.{ltb}
 use Rattle.machine.specs.Machine.{pick, Out, spent, run-none, run-stop, sliced, run-exact}
 use Rattle.machine.specs.Schedule.{Event, Played, play, took}
-use Rattle.machine.specs.Schedule.Event.{run, told}
+use Rattle.machine.specs.Schedule.Event.{run, answers}
 use Rattle.rules.specs.State.{Work, World}
 use Rattle.rules.specs.State.Work.{resting, entries, packets, waiting}
 use Rattle.rules.specs.Ring.{opening-of}
@@ -36,8 +36,8 @@ Clear w = midst (w .state .work) ≡ false
 -- what the unsliced rules alone lead to: whole submissions, each with the rules' own count of units, and answers to those that wait
 pub data Night : World → List Bool → ℕ → World → Type 0 where
   begun : {w : World} → Night w [] 0 w
-  submission : {w v : World} {told-so : List Bool} {n : ℕ} → w .state .work ≡ resting → go w ≡ true → Night (submitted w .state) told-so n v → Night w told-so (submitted w .units + n) v
-  answer : {w v : World} {told-so : List Bool} {n : ℕ} (good : Bool) → waits (w .state) ≡ true → Night (answered good w) told-so n v → Night w (good ∷ told-so) n v
+  submission : {w v : World} {answers : List Bool} {n : ℕ} → w .state .work ≡ resting → go w ≡ true → Night (submitted w .state) answers n v → Night w answers (submitted w .units + n) v
+  answer : {w v : World} {answers : List Bool} {n : ℕ} (good : Bool) → waits (w .state) ≡ true → Night (answered good w) answers n v → Night w (good ∷ answers) n v
 
 -- ---- a submission's end, and an answer's, is clear
 
@@ -176,10 +176,10 @@ reached (suc fuel) n w f c = by-test (go w) refl (λ k h. reached fuel k (submit
 
 -- ---- schedules
 
-night-on : {w x v : World} {told-so : List Bool} {t n : ℕ} → Night w [] t x → Night x told-so n v → Night w told-so (t + n) v
-night-on {w} {x} {v} {told-so} {t} {n} begun q = subst (λ k. Night w told-so k v) (sym (zero-add n)) q
-night-on {w} {x} {v} {told-so} {t} {n} (submission {n = k} rest g p) q =
-    subst (λ i. Night w told-so i v) (sym (add-assoc (submitted w .units) k n)) (submission rest g (night-on p q))
+night-on : {w x v : World} {answers : List Bool} {t n : ℕ} → Night w [] t x → Night x answers n v → Night w answers (t + n) v
+night-on {w} {x} {v} {answers} {t} {n} begun q = subst (λ k. Night w answers k v) (sym (zero-add n)) q
+night-on {w} {x} {v} {answers} {t} {n} (submission {n = k} rest g p) q =
+    subst (λ i. Night w answers i v) (sym (add-assoc (submitted w .units) k n)) (submission rest g (night-on p q))
 
 night-of : (es : List (Event Bool)) (w : World) (j : ℕ) (x : World) → At w j x → Clear (played es x .state) → Night w (played es x .accepted) (j + played es x .units) (played es x .state)
 unfolding play
@@ -194,7 +194,7 @@ night-of (run n ∷ es) w j x a c =
     let e : r .past + (r .into + played es (run-for n x .state) .units) ≡ j + (run-for n x .units + played es (run-for n x .state) .units) = omega arith in
     subst (λ k. Night w (played es (run-for n x .state) .accepted) k (played es (run-for n x .state) .state)) e
     (night-on (r .night) (night-of es (r .point) (r .into) (run-for n x .state) there c))
-night-of (told good ∷ es) w j x a c = by-test (waits (x .state)) refl (night-of es w j x a) (λ h. night-of es (answered good x) 0 (answered good x) (at-once (answered good x) (answered-clear good x h))) c
+night-of (answers good ∷ es) w j x a c = by-test (waits (x .state)) refl (night-of es w j x a) (λ h. night-of es (answered good x) 0 (answered good x) (at-once (answered good x) (answered-clear good x h))) c
   where
     then : Bool → Played World Bool
     then t = pick t (took go step world-waits answered good (played es (answered good x))) (played es x)

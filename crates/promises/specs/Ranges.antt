@@ -17,7 +17,7 @@ use Rattle.rules.specs.Table.{entry-id, matching}
 use Rattle.rules.specs.Packets.{Holdings}
 use Rattle.rules.specs.State.{Work, State, World}
 use Rattle.rules.specs.State.Work.{resting, entries, packets, waiting}
-use Rattle.rules.specs.Calls.{handed-out, handed, call-record}
+use Rattle.rules.specs.Calls.{handed-out, record-read, call-record}
 use Rattle.rules.specs.declared.Entry.{Entry}
 use Rattle.rules.specs.declared.Record.{Record}
 use Rattle.rules.specs.declared.Job.{Job}
@@ -149,11 +149,11 @@ module _ (s : State) (k : Called s) (i : ℕ) where
             in-memory = every-nth (λ (r : Record). r .gpa + r .length ≤ s .memory) (h .records) i c (waiting-ranges-in-memory s j es h (called-sound s k) (called-lies s k) w) e;
           }
 
-  by-found : (j : Job) (es : List Entry) (h : Holdings) → s .work ≡ waiting j es h → (f : Found Record) → nth (h .records) i ≡ f → handed f .answer ≡ done → InOneEntry s i (handed f .range)
+  by-found : (j : Job) (es : List Entry) (h : Holdings) → s .work ≡ waiting j es h → (f : Found Record) → nth (h .records) i ≡ f → record-read f .answer ≡ done → InOneEntry s i (record-read f .range)
   by-found j es h w none e d = absurd (omega arith)
   by-found j es h w (found c) e d = record-lies j es h c w e
 
-  by-work : (k : Work) → s .work ≡ k → handed (nth (handed-out k) i) .answer ≡ done → InOneEntry s i (handed (nth (handed-out k) i) .range)
+  by-work : (k : Work) → s .work ≡ k → record-read (nth (handed-out k) i) .answer ≡ done → InOneEntry s i (record-read (nth (handed-out k) i) .range)
   unfolding nth
   by-work resting e d = absurd (omega arith)
   by-work (entries o kept) e d = absurd (omega arith)

@@ -9,7 +9,7 @@ use Rattle.rules.specs.Lists.Found.{none, found}
 use Rattle.rules.specs.State.{State, World}
 use Rattle.rules.specs.Registers.{Write, reset, write-of}
 use Rattle.rules.specs.Steps.{run-for, waits, answered}
-use Rattle.rules.specs.Calls.{lent-another, wrote, call-write, ran, call-run, Told, call-answer}
+use Rattle.rules.specs.Calls.{lent-another, wrote, call-write, ran, call-run, Answered, call-answer}
 use Rattle.rules.specs.declared.Ended.the-variants.{Idle}
 use Rattle.promises.specs.Writes.{Written, write-keeps-or-drops}
 use Rattle.promises.specs.Writes.Written.{keeps, drops}
@@ -26,19 +26,19 @@ refused-run-changes-nothing w n = by-test (lent-another w)
     by-test false h = absurd (h refl)
 
 -- what an answer comes to, by the two tests
-abbrev told-by : Bool → Bool → World → Bool → Told
-told-by a b w good =
+abbrev answered-by : Bool → Bool → World → Bool → Answered
+answered-by a b w good =
     pick a (record { answer = other-memory; world = w })
     (pick b (record { answer = done; world = answered good w }) (record { answer = nothing-waits; world = w }))
 
-told-refused : (a b : Bool) (w : World) (good : Bool) → (told-by a b w good .answer ≡ done → ⊥) → told-by a b w good .world ≡ w
-told-refused true b w good h = refl
-told-refused false true w good h = absurd (h refl)
-told-refused false false w good h = refl
+answered-refused : (a b : Bool) (w : World) (good : Bool) → (answered-by a b w good .answer ≡ done → ⊥) → answered-by a b w good .world ≡ w
+answered-refused true b w good h = refl
+answered-refused false true w good h = absurd (h refl)
+answered-refused false false w good h = refl
 
 pub refused-answer-changes-nothing : (w : World) (good : Bool) → (call-answer w good .answer ≡ done → ⊥) → call-answer w good .world ≡ w
 unfolding call-answer
-refused-answer-changes-nothing w good = told-refused (lent-another w) (waits (w .state)) w good
+refused-answer-changes-nothing w good = answered-refused (lent-another w) (waits (w .state)) w good
 
 pub refused-write-changes-nothing : (s : State) (offset v : ℕ) → (call-write s offset v .answer ≡ done → ⊥) → call-write s offset v .state ≡ s
 unfolding call-write
@@ -62,7 +62,7 @@ pub answer-call-keeps-sound : (w : World) (good : Bool) → SoundState (w .state
 unfolding call-answer
 answer-call-keeps-sound w good s = by-tests (lent-another w) (waits (w .state))
   where
-    by-tests : (a b : Bool) → SoundState (told-by a b w good .world .state)
+    by-tests : (a b : Bool) → SoundState (answered-by a b w good .world .state)
     by-tests true b = s
     by-tests false true = answer-keeps-sound good w s
     by-tests false false = s

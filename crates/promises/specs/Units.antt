@@ -16,7 +16,7 @@ use Rattle.rules.specs.State.{Work, State, World, working}
 use Rattle.rules.specs.State.Work.{resting, entries, packets, waiting}
 use Rattle.rules.specs.Settle.{settled, settled-keeping, ring-refused, found-no-work}
 use Rattle.rules.specs.Steps.{packets-at, entries-at, after-opening, open-step, after-entry, entry-step, after-packet, next-place, packet-step, step-on, step, go, run-for, waits-on, waits}
-use Rattle.rules.specs.Calls.{handed-out, handed, call-record, no-range}
+use Rattle.rules.specs.Calls.{handed-out, record-read, call-record, no-range}
 use Rattle.rules.specs.declared.Refusal.{Refusal}
 use Rattle.rules.specs.declared.Entry.{Entry}
 use Rattle.rules.specs.declared.Job.{Job}
@@ -159,7 +159,7 @@ pub not-waiting-hands-out-nothing : (s : State) → waits s ≡ false → (i : �
 unfolding call-record nth
 not-waiting-hands-out-nothing s h i = by-phase (s .work) h
   where
-    by-phase : (k : Work) → waits-on k ≡ false → handed (nth (handed-out k) i) ≡ record { answer = no-record; range = no-range }
+    by-phase : (k : Work) → waits-on k ≡ false → record-read (nth (handed-out k) i) ≡ record { answer = no-record; range = no-range }
     by-phase resting e = refl
     by-phase (entries o kept) e = refl
     by-phase (packets j t at es held) e = refl

@@ -7,16 +7,16 @@ use Prim.Native.Nat.{ℕ, _+_}
 use lib.Dec.{eqb}
 use Rattle.machine.specs.Machine.{pick}
 use Rattle.machine.specs.Schedule.{Event, Played, play}
-use Rattle.machine.specs.Schedule.Event.{run, told}
+use Rattle.machine.specs.Schedule.Event.{run, answers}
 use Rattle.rules.specs.Numbers.{done, nothing-waits}
 use Rattle.rules.specs.State.{State, World}
 use Rattle.rules.specs.Steps.{run-for, waits, answered}
-use Rattle.rules.specs.Calls.{lent-another, Ran as RanBy, ran, call-run, Told as ToldBy, call-answer}
+use Rattle.rules.specs.Calls.{lent-another, Ran as RanBy, ran, call-run, Answered as AnsweredBy, call-answer}
 use Rattle.run_state.specs.Views.{worldIn, deskIn, lent}
-use Rattle.device.specs.Views.{worldOf, stateOf, ranOf, toldOf}
+use Rattle.device.specs.Views.{worldOf, stateOf, ranOf, answeredOf}
 use Rattle.device.specs.declared.Device.{Device}
 use Rattle.device.specs.declared.Ran.{Ran}
-use Rattle.device.specs.declared.Told.{Told}
+use Rattle.device.specs.declared.Answered.{Answered}
 use Rattle.device_memory_calls.specs.Views.{Runs, Answers}
 use Rattle.device_memory_calls.specs.declared.Spent.{Spent}
 use Rattle.promises.specs.Slices.{played, same-units-same-answers-same-world}
@@ -26,8 +26,8 @@ use Rattle.promises.specs.Night.{Clear, Night, finished-or-waiting-is-unsliced}
 pub data Chain : World → List (Event Bool) → World → Type 0 where
   stop : {w : World} → Chain w [] w
   runs : {w v : World} {es : List (Event Bool)} (n : ℕ) (r : RanBy) → r ≡ call-run w n → lent-another w ≡ false → Chain (r .world) es v → Chain w (run n ∷ es) v
-  tells : {w v : World} {es : List (Event Bool)} (good : Bool) (t : ToldBy) → t ≡ call-answer w good → lent-another w ≡ false → Chain (t .world) es v
-      → Chain w (told good ∷ es) v
+  tells : {w v : World} {es : List (Event Bool)} (good : Bool) (t : AnsweredBy) → t ≡ call-answer w good → lent-another w ≡ false → Chain (t .world) es v
+      → Chain w (answers good ∷ es) v
 
 -- ---- whose calls
 
@@ -37,8 +37,8 @@ module _ {es : List (Event Bool)} {v : World} where
     pub device-runs : (n : ℕ) (r : Ran) → ranOf r m₁ ≡ call-run (worldOf d m) n → Chain (worldOf (r .device) m₁) es v → Chain (worldOf d m) (run n ∷ es) v
     device-runs n r c k = runs n (ranOf r m₁) c here k
 
-    pub device-answers : (good : Bool) (t : Told) → toldOf t m₁ ≡ call-answer (worldOf d m) good → Chain (worldOf (t .device) m₁) es v → Chain (worldOf d m) (told good ∷ es) v
-    device-answers good t c k = tells good (toldOf t m₁) c here k
+    pub device-answers : (good : Bool) (t : Answered) → answeredOf t m₁ ≡ call-answer (worldOf d m) good → Chain (worldOf (t .device) m₁) es v → Chain (worldOf d m) (answers good ∷ es) v
+    device-answers good t c k = tells good (answeredOf t m₁) c here k
 
   -- those over lent state
   module _ (s e a b c m s₁ m₁ : List ℕ) (here : lent-another (deskIn s e a b c m) ≡ false) where
@@ -47,8 +47,8 @@ module _ {es : List (Event Bool)} {v : World} where
     lent-runs e₁ a₁ b₁ c₁ n x k later = runs n (record { answer = x .answer; units = x .units; ended = x .ended; world = deskIn s₁ e₁ a₁ b₁ c₁ m₁ }) (k .ran) here later
 
     pub lent-answers : (good : Bool) (answer : ℕ) → Answers s m good answer s₁ m₁ → Chain (deskIn s₁ e a b c m₁) es v
-        → Chain (deskIn s e a b c m) (told good ∷ es) v
-    lent-answers good answer k later = tells good (record { answer = answer; world = deskIn s₁ e a b c m₁ }) (k .told e a b c) here later
+        → Chain (deskIn s e a b c m) (answers good ∷ es) v
+    lent-answers good answer k later = tells good (record { answer = answer; world = deskIn s₁ e a b c m₁ }) (k .answered e a b c) here later
 
 -- ---- what a chain's calls say
 
@@ -86,19 +86,19 @@ module _ (w : World) (es : List (Event Bool)) (later : Played World Bool) where
   unfolding play
   ran-on n r c h ih = ap (spending (r .units)) ih ∙ ap (λ (x : RanBy). spending (x .units) (played es (x .world))) (c ∙ run-gives w n h)
 
-  told-on : (good : Bool) (t : ToldBy) → t ≡ call-answer w good → lent-another w ≡ false → later ≡ played es (t .world)
-      → pick (eqb (t .answer) done) (taking good later) later ≡ played (told good ∷ es) w
+  answered-on : (good : Bool) (t : AnsweredBy) → t ≡ call-answer w good → lent-another w ≡ false → later ≡ played es (t .world)
+      → pick (eqb (t .answer) done) (taking good later) later ≡ played (answers good ∷ es) w
   unfolding play
-  told-on good t c h ih = by-test (waits (w .state)) (c ∙ answer-gives w good h)
+  answered-on good t c h ih = by-test (waits (w .state)) (c ∙ answer-gives w good h)
     where
       by-test : (b : Bool) → t ≡ pick b (record { answer = done; world = answered good w }) (record { answer = nothing-waits; world = w })
           → pick (eqb (t .answer) done) (taking good later) later ≡ pick b (taking good (played es (answered good w))) (played es w)
       by-test true e =
-          ap (λ (x : ToldBy). pick (eqb (x .answer) done) (taking good later) later) e
-          ∙ ap (taking good) (ih ∙ ap (λ (x : ToldBy). played es (x .world)) e)
+          ap (λ (x : AnsweredBy). pick (eqb (x .answer) done) (taking good later) later) e
+          ∙ ap (taking good) (ih ∙ ap (λ (x : AnsweredBy). played es (x .world)) e)
       by-test false e =
-          ap (λ (x : ToldBy). pick (eqb (x .answer) done) (taking good later) later) e
-          ∙ (ih ∙ ap (λ (x : ToldBy). played es (x .world)) e)
+          ap (λ (x : AnsweredBy). pick (eqb (x .answer) done) (taking good later) later) e
+          ∙ (ih ∙ ap (λ (x : AnsweredBy). played es (x .world)) e)
 
 pick-taken : (b good : Bool) (w : World) (u : ℕ) (l : List Bool) → record { state = w; units = u; accepted = pick b (good ∷ l) l } ≡ pick b (taking good (record { state = w; units = u; accepted = l })) (record { state = w; units = u; accepted = l })
 pick-taken true good w u l = refl
@@ -111,7 +111,7 @@ chain-plays w es v stop = refl
 chain-plays w es v (runs {es = fs} n r c h k) = ran-on w fs (record { state = v; units = reported k; accepted = taken k }) n r c h (chain-plays (r .world) fs v k)
 chain-plays w es v (tells {es = fs} good t c h k) =
     pick-taken (eqb (t .answer) done) good v (reported k) (taken k)
-    ∙ told-on w fs (record { state = v; units = reported k; accepted = taken k }) good t c h (chain-plays (t .world) fs v k)
+    ∙ answered-on w fs (record { state = v; units = reported k; accepted = taken k }) good t c h (chain-plays (t .world) fs v k)
 
 -- demand 3, of the calls: two chains from one device and one memory whose runs report the same units and that had the same answers
 -- taken stand in the same state with the same memory
@@ -145,6 +145,6 @@ module _ (d d′ : Device) (lent lent′ : ℕ → List ℕ) (n : ℕ) (same : s
       → ranOf r′ m₂ ≡ call-run (worldOf d′ (lent′ n)) allowance → ranOf r m₁ ≡ ranOf r′ m₂
   call-fixed-by-what-is-lent allowance r r′ m₁ m₂ a b = a ∙ (ap (λ (w : World). call-run w allowance) one-world ∙ sym b)
 
-  pub answer-fixed-by-what-is-lent : (good : Bool) (t t′ : Told) (m₁ m₂ : List ℕ) → toldOf t m₁ ≡ call-answer (worldOf d (lent n)) good
-      → toldOf t′ m₂ ≡ call-answer (worldOf d′ (lent′ n)) good → toldOf t m₁ ≡ toldOf t′ m₂
+  pub answer-fixed-by-what-is-lent : (good : Bool) (t t′ : Answered) (m₁ m₂ : List ℕ) → answeredOf t m₁ ≡ call-answer (worldOf d (lent n)) good
+      → answeredOf t′ m₂ ≡ call-answer (worldOf d′ (lent′ n)) good → answeredOf t m₁ ≡ answeredOf t′ m₂
   answer-fixed-by-what-is-lent good t t′ m₁ m₂ a b = a ∙ (ap (λ (w : World). call-answer w good) one-world ∙ sym b)

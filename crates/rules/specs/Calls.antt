@@ -79,7 +79,7 @@ call-run w allowance =
     pick (lent-another w) (record { answer = other-memory; units = 0; ended = Idle; world = w })
     (ran (run-for allowance w))
 
-pub record Handed : Type 0 where
+pub record RecordRead : Type 0 where
   pub answer : ℕ
   pub range : Record
 
@@ -93,20 +93,20 @@ handed-out (entries o kept) = []
 handed-out (packets j s at es h) = []
 handed-out (waiting j es h) = h .records
 
-abbrev pub handed : Found Record → Handed
-handed none = record { answer = no-record; range = no-range }
-handed (found c) = record { answer = done; range = c }
+abbrev pub record-read : Found Record → RecordRead
+record-read none = record { answer = no-record; range = no-range }
+record-read (found c) = record { answer = done; range = c }
 
 -- "record index not below the count, or nothing waiting"
-unfoldable pub call-record : State → ℕ → Handed
-call-record s i = handed (nth (handed-out (s .work)) i)
+unfoldable pub call-record : State → ℕ → RecordRead
+call-record s i = record-read (nth (handed-out (s .work)) i)
 
-pub record Told : Type 0 where
+pub record Answered : Type 0 where
   pub answer : ℕ
   pub world : World
 
 -- "1 comes before 3."
-unfoldable pub call-answer : World → Bool → Told
+unfoldable pub call-answer : World → Bool → Answered
 call-answer w good =
     pick (lent-another w) (record { answer = other-memory; world = w })
     (pick (waits (w .state)) (record { answer = done; world = answered good w }) (record { answer = nothing-waits; world = w }))

@@ -6,7 +6,7 @@ use lib.Dec.{eqb}
 use Rattle.machine.specs.Machine.{pick}
 use Rattle.rules.specs.Numbers.{device-magic, version, features}
 use Rattle.rules.specs.Lists.{Found, lookup}
-use Rattle.rules.specs.State.{State, with-written, with-told, with-regs}
+use Rattle.rules.specs.State.{State, with-written, with-reported, with-regs}
 use Rattle.rules.specs.State.Work.{resting}
 use Rattle.rules.specs.declared.Registers.{Registers}
 
@@ -96,16 +96,16 @@ with-irqenable v r = with-written r (r .ring) (r .ringsize) (r .enabled) (r .pag
 
 -- "A doorbell write of any number sets the flag, enabled or not."
 abbrev pub with-doorbell : Registers → Registers
-with-doorbell r = with-told r (r .completed) (r .fenced) (r .failed) (r .error) true
+with-doorbell r = with-reported r (r .completed) (r .fenced) (r .failed) (r .error) true
 
 -- "Ack clears the status bits written as 1."
 abbrev pub acknowledged : ℕ → Registers → Registers
 acknowledged v r =
-    with-told r (r .completed) (r .fenced && not (bit-of 0 v)) (r .failed && not (bit-of 1 v)) (r .error) (r .rung)
+    with-reported r (r .completed) (r .fenced && not (bit-of 0 v)) (r .failed && not (bit-of 1 v)) (r .error) (r .rung)
 
 -- "completed fence, IRQ status and doorbell flag become .. zero; error registers stay; .. other registers stay"
 unfoldable pub reset-registers : Bool → Registers → Registers
-reset-registers enabled r = with-told (with-enabled enabled r) 0 false false (r .error) false
+reset-registers enabled r = with-reported (with-enabled enabled r) 0 false false (r .error) false
 
 -- "Bit 1 resets: the submission in work is dropped without fence, head or error; resources .. become empty"
 unfoldable pub reset : Bool → State → State

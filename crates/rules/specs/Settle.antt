@@ -10,7 +10,7 @@ use Rattle.rules.specs.Bytes.{bytesOf}
 use Rattle.rules.specs.Lists.{over}
 use Rattle.rules.specs.Layouts.{head-offset, page-bytes}
 use Rattle.rules.specs.Shapes.{larger}
-use Rattle.rules.specs.State.{World, with-told, registering}
+use Rattle.rules.specs.State.{World, with-reported, registering}
 use Rattle.rules.specs.State.Work.{resting}
 use Rattle.rules.specs.declared.Registers.{Registers}
 use Rattle.rules.specs.declared.Resource.{Resource}
@@ -25,16 +25,16 @@ one-more n = pick (ltb n (2 ^ 32 - 1)) (n + 1) n
 -- "Error: code, fence = signal fence, count + 1, status bit 1."
 unfoldable pub faulted : ℕ → ℕ → Registers → Registers
 faulted code fence r =
-    with-told r (r .completed) (r .fenced) true (record { code = code; fence = fence; count = one-more (r .error .count) }) (r .rung)
+    with-reported r (r .completed) (r .fenced) true (record { code = code; fence = fence; count = one-more (r .error .count) }) (r .rung)
 
 -- "Completed = larger of completed and signal fence; status bit 0 is set if it rose and no-IRQ is clear."
 unfoldable pub signalled : ℕ → Bool → Registers → Registers
 signalled fence silent r =
-    with-told r (larger (r .completed) fence) (r .fenced || (ltb (r .completed) fence && not silent)) (r .failed) (r .error) (r .rung)
+    with-reported r (larger (r .completed) fence) (r .fenced || (ltb (r .completed) fence && not silent)) (r .failed) (r .error) (r .rung)
 
 -- the doorbell flag cleared
 unfoldable pub doorbell-cleared : Registers → Registers
-doorbell-cleared r = with-told r (r .completed) (r .fenced) (r .failed) (r .error) false
+doorbell-cleared r = with-reported r (r .completed) (r .fenced) (r .failed) (r .error) false
 
 -- a submission's last word to the registers: its error, if any, then its fence
 abbrev pub faulted-by : Verdict → ℕ → Registers → Registers

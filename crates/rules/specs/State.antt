@@ -55,8 +55,8 @@ with-written r ring ringsize enabled page irqenable =
     registers-of ring ringsize enabled page (r .completed) (r .fenced) (r .failed) irqenable (r .error) (r .rung)
 
 -- the same with others where the device tells: completed fence, the two status bits, the last error, the doorbell flag
-abbrev pub with-told : Registers → ℕ → Bool → Bool → LastError → Bool → Registers
-with-told r completed fenced failed error rung =
+abbrev pub with-reported : Registers → ℕ → Bool → Bool → LastError → Bool → Registers
+with-reported r completed fenced failed error rung =
     registers-of (r .ring) (r .ringsize) (r .enabled) (r .page) completed fenced failed (r .irqenable) error rung
 
 abbrev pub no-error : LastError

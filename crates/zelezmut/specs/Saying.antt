@@ -7,12 +7,12 @@ use native.Mathlib.Omega.{arith}
 use borrow.Author.Needs.{needs}
 use lib.ListN.{length, set, drop, drop-of-length-le}
 use lib.Seq.{sets-eq}
-use Rattle.rules.specs.Calls.{ended-number, Handed as HandedBy, Ran}
+use Rattle.rules.specs.Calls.{ended-number, RecordRead as RecordReadBy, Ran}
 use Rattle.rules.specs.declared.Record.{Record}
 use Rattle.run_state.specs.Views.{setIn, deskIn, lent}
 use Rattle.device_calls.specs.Views.{Makes, Reads, GivesRecord}
 use Rattle.device_calls.specs.declared.ValueRead.{ValueRead}
-use Rattle.device_calls.specs.declared.Handed.{Handed}
+use Rattle.device_calls.specs.declared.RecordRead.{RecordRead}
 use Rattle.device_memory_calls.specs.Views.{Runs, Answers}
 use Rattle.device_memory_calls.specs.declared.Spent.{Spent}
 use Rattle.zelezmut.specs.Said.{saidValue, saidRun, recordWords, SaysValue, SaysRun, SaysRecord}
@@ -52,11 +52,11 @@ pub says-words : (l : List ℕ) (x : Record) (kind handle id : ℕ) → length l
     → set (set (set (set (set l 0 kind) 1 handle) 2 id) 3 (x .gpa)) 4 (x .length) ≡ recordWords x
 says-words l x kind handle id long p q t = five-set l kind handle id (x .gpa) (x .length) long ∙ rw (p .0, q .0, t .0)
 
-pub says-record : (s c : List ℕ) (i : ℕ) (x : Handed) (said : List ℕ) → GivesRecord s c i x → said ≡ recordWords (x .range) → SaysRecord s c i (x .answer) said
+pub says-record : (s c : List ℕ) (i : ℕ) (x : RecordRead) (said : List ℕ) → GivesRecord s c i x → said ≡ recordWords (x .range) → SaysRecord s c i (x .answer) said
 says-record s c i x said k p =
     record {
-      answer = λ e a b. ap (λ (h : HandedBy). h .answer) (k .hands e a b);
-      range = λ e a b. p ∙ ap (λ (h : HandedBy). recordWords (h .range)) (k .hands e a b);
+      answer = λ e a b. ap (λ (h : RecordReadBy). h .answer) (k .hands e a b);
+      range = λ e a b. p ∙ ap (λ (h : RecordReadBy). recordWords (h .range)) (k .hands e a b);
     }
 
 pub ruleset saying-record = (says-words, says-record, needs)
@@ -66,7 +66,7 @@ pub ruleset saying-record = (says-words, says-record, needs)
 pub made-at : (memory n : ℕ) (s′ : List ℕ) → n ≡ memory → Makes n s′ → Makes memory s′
 made-at memory n s′ p k = rw (← p) k
 
-pub told-as : (s m : List ℕ) (good n answer : ℕ) (b : Bool) (s′ m′ : List ℕ) → (n ≡ good) × (n < 4294967296) → b ≡ setIn n → Answers s m b answer s′ m′ → Answers s m (setIn good) answer s′ m′
-told-as s m good n answer b s′ m′ p q k = rw (← p .0, ← q) k
+pub answered-as : (s m : List ℕ) (good n answer : ℕ) (b : Bool) (s′ m′ : List ℕ) → (n ≡ good) × (n < 4294967296) → b ≡ setIn n → Answers s m b answer s′ m′ → Answers s m (setIn good) answer s′ m′
+answered-as s m good n answer b s′ m′ p q k = rw (← p .0, ← q) k
 
-pub ruleset handing-on = (made-at, told-as, needs)
+pub ruleset handing-on = (made-at, answered-as, needs)

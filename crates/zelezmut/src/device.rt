@@ -136,6 +136,6 @@ pub extern "C" fn zelezmut_record(
 pub extern "C" fn zelezmut_answer(words: &mut Words, mem: &mut [u8], good: u32) -> u32
     ensures { λ r. ⌜ Answers (now (words .entry)) (now (mem .entry)) (setIn good) r (now (words .exit)) (now (mem .exit)) ⌝ }
 {
-    let told = is_set(u32_to_word(good));
-    device_memory_calls::answer(words, mem, told)
+    let accepted = is_set(u32_to_word(good));
+    device_memory_calls::answer(words, mem, accepted)
 }

@@ -10,8 +10,8 @@ u32-to-usize-requires c κs = search needs
 element-copy-out-if1 : tie.Need-element-copy-out-if1
 element-copy-out-if1 c = search needs
 
-none-handed-requires : tie.Need-none-handed-requires
-none-handed-requires c κs = search needs
+no-record-requires : tie.Need-no-record-requires
+no-record-requires c κs = search needs
 
 returns : tie.Need-returns
 returns c = search handing
@@ -22,8 +22,8 @@ element-copy-out-rows-in c = search needs
 rows-in-requires : tie.Need-rows-in-requires
 rows-in-requires c κs = search needs
 
-none-handed-requires-2 : tie.Need-none-handed-requires-2
-none-handed-requires-2 c κs = search needs
+no-record-requires-2 : tie.Need-no-record-requires-2
+no-record-requires-2 c κs = search needs
 
 returns-2 : tie.Need-returns-2
 returns-2 c = search handing
@@ -40,11 +40,11 @@ record-spec =
     (tie.spec
     u32-to-usize-requires
     element-copy-out-if1
-    none-handed-requires
+    no-record-requires
     returns
     element-copy-out-rows-in
     rows-in-requires
-    none-handed-requires-2
+    no-record-requires-2
     returns-2
     record-row-requires
     returns-3)
