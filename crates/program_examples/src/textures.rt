@@ -1,10 +1,10 @@
 // Examples 1 to 4: what textures measure, and which shapes are refused.
-use crate::lines::say;
-use crate::lines::say_count;
 use crate::lines::say_example;
 use crate::lines::say_judged;
-use crate::lines::say_named;
-use crate::lines::say_number;
+use program_lines::say;
+use program_lines::say_count;
+use program_lines::say_named;
+use program_lines::say_number;
 use rules::Shape;
 use rules::Start;
 use rules::numbers::BAD_SHAPE;

@@ -5,8 +5,6 @@ mod operations;
 mod script;
 mod state;
 
-use crate::lines::say;
-use crate::lines::say_named;
 use crate::operations::operation;
 use crate::script::LONGEST_MEMORY;
 use crate::script::LONGEST_SCRIPT;
@@ -15,6 +13,8 @@ use crate::script::SCRIPT_HEADER;
 use crate::script::SCRIPT_MAGIC;
 use crate::script::after;
 use device::Device;
+use program_lines::say;
+use program_lines::say_named;
 ghost use Prim.Native.Nat.{_≤_};
 ghost use lib.ListN.{length};
 ghost use mathlib.Core.Path.{_≡_};
@@ -79,7 +79,7 @@ fn open(script: &[u8]) {
     play_over(script, &mut memory, length);
 }
 
-// RowsExist for the longest script, and a byte more, to tell one that is too long.
+// Room for the longest script, and a byte more, to tell one that is too long.
 fn script_room() -> [u8; LONGEST_SCRIPT + 1]
     ensures { λ r. ⌜ 1048577 ≡ length r ⌝ }
 {

@@ -1,8 +1,6 @@
 // The operations of a desk script: each reads its fields, calls the device and prints its line.
 // One whose fields are cut short does nothing and prints nothing.
-use crate::lines::say;
 use crate::lines::say_answer;
-use crate::lines::say_named;
 use crate::script::ANSWER;
 use crate::script::ANSWER_ELSEWHERE;
 use crate::script::LONGEST_MEMORY;
@@ -17,6 +15,8 @@ use crate::script::WRITE;
 use crate::script::u16_at;
 use crate::state::say_state;
 use device::Device;
+use program_lines::say;
+use program_lines::say_named;
 use rules::Ended;
 ghost use Prim.Native.Nat.{_≤_};
 ghost use lib.ListN.{length};
