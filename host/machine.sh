@@ -46,6 +46,7 @@ host_ready() {
         # Debian's own, whatever else is on the PATH: compiler, x86-64 standard library, linker and emulator fit one another.
         [ -x /usr/bin/cargo ] && [ -x /usr/bin/rustc ] || missing+=(cargo rustc)
         [ -x /usr/bin/x86_64-linux-gnu-gcc ] || missing+=(gcc-x86-64-linux-gnu)
+        dpkg -s libc6-dev-amd64-cross >/dev/null 2>&1 || missing+=(libc6-dev-amd64-cross)
         [ -x /usr/bin/qemu-x86_64 ] || missing+=(qemu-user)
         dpkg -s libstd-rust-dev:amd64 >/dev/null 2>&1 || missing+=(libstd-rust-dev:amd64)
         ;;
