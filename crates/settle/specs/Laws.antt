@@ -7,10 +7,11 @@ use Prim.Native.Nat.{ℕ, _+_, _-_, _≤_, _<_}
 use native.Mathlib.Omega.{arith}
 use borrow.Author.Needs.{needs}
 use borrow.Author.Tests.{ltb-true, ltb-false, le-leb, lt-leb, eq-eqb, ne-eqb}
-use lib.Dec.{ltb}
+use lib.Dec.{ltb, eqb}
 use lib.ListN.{length, take, drop, length-append}
 use mir.Syntax.{w64}
 use mir.Val.{Fits}
+use Rattle.machine.specs.Machine.{pick}
 use Rattle.words.specs.Over.{part-over, over-over}
 use Rattle.words.specs.Fields.{length-bytesOf, put-part, length-put}
 use Rattle.rules.specs.Numbers.{page-magic, version}
@@ -95,10 +96,13 @@ module _ (gpa completed : ℕ) (m : List ℕ) (page : ℕ) (same : page ≡ gpa)
   page-none z = rw (eq-eqb gpa 0 (omega arith))
 
   module _ (n : ℕ) (memory : (n ≡ length m) × (n < 18446744073709551616)) (b : Bool) (is : b ≡ ltb n (gpa + page-size)) where
-    pub page-past : (page ≡ 0 → ⊥) → b ≡ true → m ≡ page-put gpa completed m
-    page-past some t =
-        rw (ne-eqb gpa 0 (λ z. some (same ∙ z)))
-        (sym (written-past gpa (page-bytes completed) m (rw length-page-bytes (omega (arith, ltb-true n (gpa + page-size) (sym is ∙ t))))))
+    pub page-past : b ≡ true → m ≡ page-put gpa completed m
+    page-past t =
+        rw (written-past gpa (page-bytes completed) m (rw length-page-bytes (omega (arith, ltb-true n (gpa + page-size) (sym is ∙ t))))) (either (eqb gpa 0))
+      where
+        either : (x : Bool) → m ≡ pick x m m
+        either true = refl
+        either false = refl
 
     module _ (t : b ≡ false) where
       pub page-within : page + page-size ≤ length m

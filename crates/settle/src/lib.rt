@@ -58,10 +58,10 @@ pub fn write_page(mem: &mut [u8], gpa: u64, completed: u64)
 {
     let memory = usize_to_word(mem.len());
     let page = word_to_usize(gpa);
-    if page == 0 {
+    if beyond(gpa, PAGE_SIZE as u64, memory) {
         return;
     }
-    if beyond(gpa, PAGE_SIZE as u64, memory) {
+    if page == 0 {
         return;
     }
     let end = page + PAGE_SIZE;

@@ -10,11 +10,11 @@ usize-to-word-requires c κs = search needs
 word-to-usize-requires : tie.Need-word-to-usize-requires
 word-to-usize-requires c κs = search needs
 
-returns : tie.Need-returns
-returns c = search writing
-
 beyond-requires : tie.Need-beyond-requires
 beyond-requires c κs = search needs
+
+returns : tie.Need-returns
+returns c = search writing
 
 returns-2 : tie.Need-returns-2
 returns-2 c = search writing
@@ -46,8 +46,8 @@ write-page-spec =
     (tie.spec
     usize-to-word-requires
     word-to-usize-requires
-    returns
     beyond-requires
+    returns
     returns-2
     add-end
     sub-put-page
