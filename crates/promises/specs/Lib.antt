@@ -28,3 +28,4 @@ pub mod LocalPackets
 pub mod LocalOpening
 pub mod Locality
 pub mod Witness
+pub mod Slicing
