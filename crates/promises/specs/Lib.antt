@@ -29,3 +29,4 @@ pub mod LocalOpening
 pub mod Locality
 pub mod Witness
 pub mod Slicing
+pub mod Main
