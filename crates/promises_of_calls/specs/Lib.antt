@@ -1,2 +1,7 @@
+pub mod Layers
+pub mod ByValue
+pub mod OverLent
+pub mod Exports
+pub mod Chains
 pub mod OnDevice
 pub mod Examples
