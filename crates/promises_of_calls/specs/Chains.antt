@@ -124,3 +124,133 @@ chain-is-calls {L} {d} {d′} {m} {m′} (call-then {d₁ = d₁} {m₁ = m₁} 
       taken = ap (λ l. l ++ answers-taken later) (says-taken L (standing L d m) x c here) ∙ ap (λ l. taken-by c (standing L d m) ++ l) (rest .taken ∙ ap (taken-by-all cs) next);
       acts = ap (λ l. l ++ acts-said later) (says-acts L (standing L d m) x c here) ∙ ap (λ l. acts-of c (standing L d m) ++ l) (rest .acts ∙ ap (acts-of-all cs) next);
     }
+
+-- ---- chains without a write, as schedules of runs and answers
+
+-- a call that writes a register
+abbrev pub is-write : Call → Bool
+is-write (writes offset v) = true
+is-write (reads offset) = false
+is-write (runs n) = false
+is-write (records i) = false
+is-write (answers good) = false
+
+-- none of some calls is a write
+abbrev pub NoWrite : List Call → Type 0
+NoWrite = Every (λ (c : Call). is-write c ≡ false)
+
+-- some schedule comes to this
+abbrev Plays : World → Played World Bool → Type 0
+Plays w p = (es : List (Turn Bool)) × (played es w ≡ p)
+
+-- the same with units spent and answers taken before
+abbrev ahead : ℕ → List Bool → Played World Bool → Played World Bool
+ahead u bs p = record { state = p .state; units = u + p .units; accepted = bs ++ p .accepted }
+
+no-units-ahead : (bs : List Bool) (p : Played World Bool) → record { state = p .state; units = p .units; accepted = bs ++ p .accepted } ≡ ahead 0 bs p
+no-units-ahead bs p = ap {B = Played World Bool} (λ u. record { state = p .state; units = u; accepted = bs ++ p .accepted }) (sym (zero-add (p .units)))
+
+call-plays : (c : Call) (w : World) (p : Played World Bool) → is-write c ≡ false → Plays (after c w) p → Plays w (ahead (units-of c w) (taken-by c w) p)
+unfolding after units-of taken-by play call-answer
+call-plays (writes offset v) w p h q = absurd (let z : _≡_ {A = ℕ} 0 1 = cc in omega arith)
+call-plays (reads offset) w p h q = (q .0, q .1 ∙ no-units-ahead [] p)
+call-plays (runs n) w p h q =
+    of-run (λ (r : Ran). Plays (r .world) p → Plays w (ahead (r .units) [] p)) w n (λ e k. (k .0, k .1 ∙ no-units-ahead [] p))
+    (λ e k. (run n ∷ k .0, ap (ahead (run-for n w .units) []) (k .1))) q
+call-plays (records i) w p h q = (q .0, q .1 ∙ no-units-ahead [] p)
+call-plays (answers good) w p h q = by-tests (lent-another w) (waits (w .state)) refl q
+  where
+    gave : Bool → Bool → Told
+    gave a b =
+        pick a (record { answer = other-memory; world = w })
+        (pick b (record { answer = done; world = answered good w }) (record { answer = nothing-waits; world = w }))
+
+    by-tests : (a b : Bool) → waits (w .state) ≡ b → Plays (gave a b .world) p → Plays w (ahead 0 (pick (eqb (gave a b .answer) done) (good ∷ []) []) p)
+    by-tests true b e k = (k .0, k .1 ∙ no-units-ahead [] p)
+    by-tests false true e k = (told good ∷ k .0, rw (e, k .1) (no-units-ahead (good ∷ []) p))
+    by-tests false false e k = (k .0, k .1 ∙ no-units-ahead [] p)
+
+calls-play : (cs : List Call) (w : World) → NoWrite cs → Plays w (record { state = after-all cs w; units = units-of-all cs w; accepted = taken-by-all cs w })
+unfolding after-all units-of-all taken-by-all play Every
+calls-play [] w h = ([], refl)
+calls-play (c ∷ cs) w h =
+    call-plays c w (record { state = after-all cs (after c w); units = units-of-all cs (after c w); accepted = taken-by-all cs (after c w) }) (h .0) (calls-play cs (after c w) (h .1))
+
+-- ---- the theorems about lists of calls, of a chain
+
+module _ {L : Layer} {d d′ : L .Device} {m m′ : List ℕ} {cs : List Call} (k : Chain L d m cs d′ m′) where
+  chain-plays : NoWrite cs → Plays (standing L d m) (record { state = standing L d′ m′; units = units-said k; accepted = answers-taken k })
+  chain-plays n = let it : AsCalls k = chain-is-calls k in rw (it .world, it .units, it .taken) (calls-play cs (standing L d m) n)
+
+  -- wherever a chain without a write that began with nothing in the midst stands so again, whole submissions of the unsliced rules have led
+  -- there with the answers taken, and the units said are their count
+  pub chain-is-unsliced : NoWrite cs → Clear (standing L d m) → Clear (standing L d′ m′) → Night (standing L d m) (answers-taken k) (units-said k) (standing L d′ m′)
+  chain-is-unsliced n c e =
+      let p : Plays (standing L d m) (record { state = standing L d′ m′; units = units-said k; accepted = answers-taken k }) = chain-plays n in
+      subst (λ (x : Played World Bool). Night (standing L d m) (x .accepted) (x .units) (x .state)) (p .1)
+      (finished-or-waiting-is-unsliced (p .0) (standing L d m) c (subst (λ (x : Played World Bool). Clear (x .state)) (sym (p .1)) e))
+
+  -- without a reset, but with any other writes: it stands in the midst of what was in work where it began; or past the end of that, through
+  -- whole submissions of the unsliced rules, some way into the next
+  pub chain-stands : NoReset cs → Stands (standing L d m) (acts-said k) (standing L d′ m′)
+  chain-stands n = let it : AsCalls k = chain-is-calls k in rw (it .world, it .acts) (calls-stand cs (standing L d m) n)
+
+  says-served : (s : Served (standing L d m) (acts-said k) (standing L d′ m′)) → Clear (standing L d m) → (units-said k ≡ counted s) × (answers-taken k ≡ given s)
+  unfolding units-in
+  says-served s c =
+      let it : AsCalls k = chain-is-calls k in
+      let parts : acts-of-all cs (standing L d m) ≡ acts-said k ++ [] = sym (append-nil (acts-said k) ∙ it .acts) in (
+        it .units ∙ (units-add-up cs (standing L d m) [] [] parts s ∙ simp (zero-add, add-zero)),
+        it .taken ∙ answers-are-those-given cs (standing L d m) [] [] parts s (none-left c) none-begun,
+      )
+
+  -- and where it began and stands with nothing in the midst, through whole submissions alone, of which the units said are the count and
+  -- between which the answers taken were given
+  pub chain-serves : NoReset cs → Clear (standing L d m) → Clear (standing L d′ m′)
+      → (s : Served (standing L d m) (acts-said k) (standing L d′ m′)) × (units-said k ≡ counted s) × (answers-taken k ≡ given s)
+  chain-serves n c e =
+      let it : AsCalls k = chain-is-calls k in
+      let s : Served (standing L d m) (acts-said k) (standing L d′ m′) =
+      rw (it .world, it .acts) (clear-calls-are-unsliced cs (standing L d m) n c (subst Clear (it .world) e)) in
+      let says : (units-said k ≡ counted s) × (answers-taken k ≡ given s) = says-served s c in
+      (s, says .0, says .1)
+
+  -- it has events, and its memory is what their settlings wrote over what stood there
+  pub chain-bytes : (es : List Event) × History (standing L d m) cs es (standing L d′ m′) × WrittenBy (standing L d m) es (standing L d′ m′)
+  chain-bytes =
+      let it : AsCalls k = chain-is-calls k in
+      let e : (es : List Event) × History (standing L d m) cs es (after-all cs (standing L d m)) = calls-have-events cs (standing L d m) in
+      let h : History (standing L d m) cs (e .0) (standing L d′ m′) = subst (History (standing L d m) cs (e .0)) (sym (it .world)) (e .1) in
+      (e .0, h, calls-write (standing L d m) cs (e .0) (standing L d′ m′) h)
+
+  -- and its completed fence, error registers and resources are what the events made of those before
+  pub chain-says : (es : List Event) × History (standing L d m) cs es (standing L d′ m′) × Says (L .state d) es (L .state d′)
+  chain-says =
+      let b : (es : List Event) × History (standing L d m) cs es (standing L d′ m′) × WrittenBy (standing L d m) es (standing L d′ m′) = chain-bytes in
+      (b .0, b .1, calls-say (standing L d m) cs (b .0) (standing L d′ m′) (b .1))
+
+-- ---- two chains, of one layer or of two, that began in the same state with the same memory
+
+module _ {L M : Layer} {d d′ : L .Device} {e e′ : M .Device} {m m′ n n′ : List ℕ} {cs ds : List Call}
+    (a : Chain L d m cs d′ m′) (b : Chain M e n ds e′ n′) (start : standing L d m ≡ standing M e n) where
+  -- without a write in either: where their calls said the same units and the same answers were taken, they stand in the same state with the
+  -- same memory
+  pub chains-agree : NoWrite cs → NoWrite ds → units-said a ≡ units-said b → answers-taken a ≡ answers-taken b → standing L d′ m′ ≡ standing M e′ n′
+  chains-agree p q u t =
+      let x : Plays (standing L d m) (record { state = standing L d′ m′; units = units-said a; accepted = answers-taken a }) = chain-plays a p in
+      let y : Plays (standing L d m) (record { state = standing M e′ n′; units = units-said b; accepted = answers-taken b }) =
+      subst (λ w. Plays w (record { state = standing M e′ n′; units = units-said b; accepted = answers-taken b })) (sym start) (chain-plays b q) in
+      sym (ap (λ (z : Played World Bool). z .state) (x .1))
+      ∙ (same-units-same-answers-same-world (x .0) (y .0) (standing L d m)
+      (ap (λ (z : Played World Bool). z .units) (x .1) ∙ (u ∙ sym (ap (λ (z : Played World Bool). z .units) (y .1))))
+      (ap (λ (z : Played World Bool). z .accepted) (x .1) ∙ (t ∙ sym (ap (λ (z : Played World Bool). z .accepted) (y .1))))
+      ∙ ap (λ (z : Played World Bool). z .state) (y .1))
+
+  -- with writes, but no reset: where the units said, the registers written and the answers taken are the same in the same order, they do too
+  pub acting-chains-agree : NoReset cs → NoReset ds → acts-said a ≡ acts-said b → standing L d′ m′ ≡ standing M e′ n′
+  acting-chains-agree p q same =
+      let x : AsCalls a = chain-is-calls a in
+      let y : AsCalls b = chain-is-calls b in
+      x .world
+      ∙ (same-acts-same-world cs ds (standing L d m) p q (sym (x .acts) ∙ (same ∙ (y .acts ∙ ap (acts-of-all ds) (sym start))))
+      ∙ (ap (after-all ds) start ∙ sym (y .world)))

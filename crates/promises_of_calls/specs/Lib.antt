@@ -3,5 +3,6 @@ pub mod ByValue
 pub mod OverLent
 pub mod Exports
 pub mod Chains
+pub mod Calls
 pub mod OnDevice
 pub mod Examples
