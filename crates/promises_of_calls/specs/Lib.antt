@@ -4,5 +4,4 @@ pub mod OverLent
 pub mod Exports
 pub mod Chains
 pub mod Calls
-pub mod OnDevice
 pub mod Examples
