@@ -15,7 +15,8 @@ use Rattle.promises.specs.Called.Called.{makes, calls}
 use Rattle.promises.specs.Ranges.{InOneEntry, ranges-at-the-record-call}
 use Rattle.promises.specs.Locality.{lent, SameWhereRead, SameEnd, SameRun, run-of-one-reads-only}
 use Rattle.promises_of_calls.specs.Layers.{reply-to, Layer}
-use Rattle.promises_of_calls.specs.Chains.{standing}
+use Rattle.promises_of_calls.specs.Chains.{standing, Chain}
+use Rattle.promises_of_calls.specs.Chains.Chain.{no-call, call-then}
 
 -- ---- a device that was made and called
 
@@ -29,6 +30,11 @@ pub made-and-called : (L : Layer) (d : L .Device) → MadeAndCalled L d → Call
 made-and-called L d (made-one memory k) = subst Called (sym (L .makes-made memory d k)) (makes memory)
 made-and-called L d (called-one {d = b} m m′ c x k before) =
     subst (λ (w : World). Called (w .state)) (sym (L .gives-world b m c x d m′ k)) (calls c m (made-and-called L b before))
+
+-- and so is one that a chain of calls led to
+pub chain-called : {L : Layer} {d d′ : L .Device} {m m′ : List ℕ} {cs : List Call} → Chain L d m cs d′ m′ → MadeAndCalled L d → MadeAndCalled L d′
+chain-called no-call c = c
+chain-called (call-then {m = m} {m₁ = m₁} {c = one} x k later) c = chain-called later (called-one m m₁ one x k c)
 
 -- ---- one call that was made
 

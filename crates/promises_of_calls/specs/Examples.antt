@@ -37,6 +37,12 @@ use Rattle.promises.specs.Ranges.{InOneEntry}
 use Rattle.promises.specs.Called.{Call}
 use Rattle.promises.specs.Called.Call.{writes, runs, records, answers}
 use Rattle.promises_of_calls.specs.OverLent.{lent-of}
+use Rattle.promises_of_calls.specs.Exports.{Said, returning, Gives, exports}
+use Rattle.promises_of_calls.specs.Exports.Gives.{zelezmut-write, zelezmut-run, zelezmut-record, zelezmut-answer}
+use Rattle.promises_of_calls.specs.Chains.{Chain, units-said, answers-taken, chain-is-unsliced}
+use Rattle.promises_of_calls.specs.Chains.Chain.{no-call, call-then}
+use Rattle.promises_of_calls.specs.Calls.{MadeAndCalled, chain-called, CallMade, handed-out-in-one-entry}
+use Rattle.promises_of_calls.specs.Calls.MadeAndCalled.{made-one, called-one}
 use Rattle.rules.specs.Unsliced.{judge-packets, submission, submitted}
 use Rattle.promises.specs.Witness.{in-bytes, ring-words, slot-words, table-words, entry-words, stream-words, guest, asking, begun, held, the-entry, awaiting}
 
@@ -143,3 +149,54 @@ says-the-record = record { answer = λ e a b. refl; range = λ e a b. refl }
 pub takes-the-answer : Answers (waiting-device .words) (guest 1) true 0 (answered-device .words) (answered true awaiting .mem)
 unfolding waiting-device answered-device worldIn countIn tab rowAt table zeros awaiting asking begun in-bytes ring-words slot-words table-words entry-words stream-words guest bytesOf call-answer answered settled ended-by signalled marked head-written page-written written over
 takes-the-answer = record { told = λ e a b c. refl; still = λ z. absurd (z refl) }
+
+-- ---- chains of them
+
+-- the registers written
+abbrev beginning : List Call
+beginning = writes 0x108 128 ∷ writes 0x10c 1 ∷ writes 0x200 0 ∷ []
+
+-- the submission served: run, its record asked for, answered
+abbrev serving : List Call
+serving = runs 65535 ∷ records 0 ∷ answers true ∷ []
+
+unfoldable pub some-beginning : (n : ℕ) → Chain exports (new-device n) (guest n) beginning (asking-device n) (guest n)
+unfolding new-device sized-device enabled-device asking-device
+some-beginning n =
+    call-then (returning 0) (zelezmut-write 0x108 128 0 (sized-device n .words) (writes-size n))
+    (call-then (returning 0) (zelezmut-write 0x10c 1 0 (enabled-device n .words) (writes-control n))
+    (call-then (returning 0) (zelezmut-write 0x200 0 0 (asking-device n .words) (writes-doorbell n)) no-call))
+
+unfoldable pub asks-record : Gives waiting-device (guest 1) (records 0) (record { number = 0; words = 1 ∷ 1 ∷ 5 ∷ 80 ∷ 32 ∷ [] }) waiting-device (guest 1)
+asks-record = zelezmut-record 0 0 (1 ∷ 1 ∷ 5 ∷ 80 ∷ 32 ∷ []) says-the-record
+
+unfoldable pub some-serving : Chain exports (asking-device 1) (guest 1) serving answered-device (answered true awaiting .mem)
+unfolding asking-device waiting-device answered-device
+some-serving =
+    call-then (returning (0 + (256 * 1 + 65536 * 3))) (zelezmut-run 65535 (0 + (256 * 1 + 65536 * 3)) waiting-device (guest 1) runs-to-waiting)
+    (call-then (record { number = 0; words = 1 ∷ 1 ∷ 5 ∷ 80 ∷ 32 ∷ [] }) asks-record
+    (call-then (returning 0) (zelezmut-answer 1 0 (answered-device .words) (answered true awaiting .mem) takes-the-answer) no-call))
+
+-- its calls said 3 units, and the answer was taken
+pub serving-says : (units-said some-serving ≡ 3) × (answers-taken some-serving ≡ true ∷ [])
+unfolding some-serving units-said answers-taken
+serving-says = (refl, refl)
+
+-- so it is a night of one whole submission and one answer
+pub some-night : Night (asking 1) (true ∷ []) 3 (answered true awaiting)
+unfolding Every some-serving units-said answers-taken worldIn
+some-night =
+    rw (← asks 1, ← has-answered)
+    (chain-is-unsliced some-serving (refl, (refl, (refl, omega arith))) refl refl)
+
+-- and the device that waits was made and called, so that its record lies in its one entry
+pub waiting-was-called : MadeAndCalled exports waiting-device
+waiting-was-called =
+    called-one (guest 1) (guest 1) (runs 65535) (returning (0 + (256 * 1 + 65536 * 3))) (zelezmut-run 65535 (0 + (256 * 1 + 65536 * 3)) waiting-device (guest 1) runs-to-waiting)
+    (chain-called (some-beginning 1) (made-one 248 (is-made 1)))
+
+pub its-record-in-one-entry : InOneEntry (stateOf waiting-device) 0 (record { kind = 1; handle = 1; id = 5; gpa = 80; length = 32 })
+its-record-in-one-entry =
+    handed-out-in-one-entry 0
+    (record { of = waiting-device; over = guest 1; said = record { number = 0; words = 1 ∷ 1 ∷ 5 ∷ 80 ∷ 32 ∷ [] }; leaves = waiting-device; memory = guest 1; gives = asks-record })
+    waiting-was-called refl
