@@ -4,4 +4,5 @@ pub mod OverLent
 pub mod Exports
 pub mod Chains
 pub mod Calls
+pub mod Contracts
 pub mod Examples
