@@ -43,6 +43,11 @@ pub data Chain (L : Layer) : L .Device → List ℕ → List Call → L .Device 
   call-then : {d d₁ d′ : L .Device} {m m₁ m′ : List ℕ} {c : Call} {cs : List Call} (x : L .Said)
       → L .Gives d m c x d₁ m₁ → Chain L d₁ m₁ cs d′ m′ → Chain L d m (c ∷ cs) d′ m′
 
+-- one chain and then another
+pub chain-on : {L : Layer} {d d₁ d′ : L .Device} {m m₁ m′ : List ℕ} {cs ds : List Call} → Chain L d m cs d₁ m₁ → Chain L d₁ m₁ ds d′ m′ → Chain L d m (cs ++ ds) d′ m′
+chain-on no-call b = b
+chain-on (call-then x k a) b = call-then x k (chain-on a b)
+
 -- ---- what its calls said
 
 -- the units, one call's after the other

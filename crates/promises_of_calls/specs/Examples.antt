@@ -1,11 +1,12 @@
 -- No theorem holds of nothing: the exports called over words and tables that are written out, with the small guests of the promises'
 -- `Witness`. A device is made, its registers are written, a submission with an entry, a packet and a record is run, its record is asked for
 -- and it is answered; and one is refused. Assumes nothing.
-use mathlib.Core.Path.{_≡_, refl}
+use mathlib.Core.Path.{_≡_, refl, sym, ap}
 use mathlib.Core.Bool.{true, false}
 use mathlib.Core.List.{List, [], _∷_, _++_}
 use Prim.Native.Nat.{ℕ, _+_, _*_}
 use native.Mathlib.Omega.{arith}
+use lib.ListN.{getD}
 use Rattle.machine.specs.Machine.{runFor}
 use Rattle.rules.specs.Bytes.{le, bytesOf}
 use Rattle.rules.specs.Lists.{over, nth, lookup}
@@ -15,7 +16,7 @@ use Rattle.rules.specs.Table.{header-rules, entry-rules, take-entry, entries-fr
 use Rattle.rules.specs.Stream.{known, stream-rules, known-size, wrong-size, frame-rules, frame-of, packet-of, cut}
 use Rattle.rules.specs.Ring.{descriptor-rules, range-rules, submission-rules, submission-opening, power-of-two, good-header, good-ring, ring-opening, opening-of}
 use Rattle.rules.specs.Packets.{create-backed, create, on-buffer-packet, apply, take-packet}
-use Rattle.rules.specs.State.{World}
+use Rattle.rules.specs.State.{State}
 use Rattle.rules.specs.Settle.{faulted, signalled, ended-by, written, head-written, page-written, marked, settled}
 use Rattle.rules.specs.Registers.{controlled, write-of}
 use Rattle.rules.specs.Steps.{open-step, entry-step, packet-step, step, go, answered}
@@ -31,20 +32,23 @@ use Rattle.registers.specs.Views.{Writes}
 use Rattle.device_calls.specs.Views.{Makes}
 use Rattle.device_memory_calls.specs.Views.{Answers}
 use Rattle.promises.specs.Acts.{NoReset}
-use Rattle.promises.specs.Chains.{Served, counted, given}
+use Rattle.promises.specs.Chains.{Served}
 use Rattle.promises.specs.Night.{Night}
 use Rattle.promises.specs.Ranges.{InOneEntry}
+use Rattle.promises.specs.Locality.{lent, SameWhereRead, SameEnd, SameWhenRead}
+use Rattle.promises.specs.Locality.SameWhenRead.{unit}
 use Rattle.promises.specs.Called.{Call}
 use Rattle.promises.specs.Called.Call.{writes, runs, records, answers}
 use Rattle.promises_of_calls.specs.OverLent.{lent-of}
 use Rattle.promises_of_calls.specs.Exports.{Said, returning, Gives, exports}
 use Rattle.promises_of_calls.specs.Exports.Gives.{zelezmut-write, zelezmut-run, zelezmut-record, zelezmut-answer}
-use Rattle.promises_of_calls.specs.Chains.{Chain, units-said, answers-taken, chain-is-unsliced}
+use Rattle.promises_of_calls.specs.Chains.{standing, Chain, chain-on, units-said, answers-taken, acts-said, chain-is-unsliced, chain-serves}
 use Rattle.promises_of_calls.specs.Chains.Chain.{no-call, call-then}
 use Rattle.promises_of_calls.specs.Calls.{MadeAndCalled, chain-called, CallMade, handed-out-in-one-entry}
 use Rattle.promises_of_calls.specs.Calls.MadeAndCalled.{made-one, called-one}
+use Rattle.promises_of_calls.specs.Contracts.{export-run-reads-only-there}
 use Rattle.rules.specs.Unsliced.{judge-packets, submission, submitted}
-use Rattle.promises.specs.Witness.{in-bytes, ring-words, slot-words, table-words, entry-words, stream-words, guest, asking, begun, held, the-entry, awaiting}
+use Rattle.promises.specs.Witness.{in-bytes, ring-words, slot-words, table-words, entry-words, stream-words, guest, asking, begun, held, the-entry, awaiting, opening-alone, read-alone}
 
 -- ---- words and tables
 
@@ -200,3 +204,63 @@ its-record-in-one-entry =
     handed-out-in-one-entry 0
     (record { of = waiting-device; over = guest 1; said = record { number = 0; words = 1 ∷ 1 ∷ 5 ∷ 80 ∷ 32 ∷ [] }; leaves = waiting-device; memory = guest 1; gives = asks-record })
     waiting-was-called refl
+
+-- from the new device on, with the register writes before it: one whole submission was served
+pub some-chain : Chain exports (new-device 1) (guest 1) (beginning ++ serving) answered-device (answered true awaiting .mem)
+some-chain = chain-on (some-beginning 1) some-serving
+
+pub some-chain-serves : Served (standing exports (new-device 1) (guest 1)) (acts-said some-chain) (standing exports answered-device (answered true awaiting .mem))
+unfolding Every new-device answered-device worldIn
+some-chain-serves = chain-serves some-chain (refl, (refl, (refl, (refl, (refl, (refl, omega arith)))))) refl refl .0
+
+-- a chain in which a submission is refused, and the night that it is
+unfoldable pub some-refusal : Chain exports (asking-device 2) (guest 2) (runs 3 ∷ []) refused-device (submitted (asking 2) .state .mem)
+some-refusal =
+    call-then (returning (0 + (256 * 2 + 65536 * 3)))
+    (zelezmut-run 3 (0 + (256 * 2 + 65536 * 3)) refused-device (submitted (asking 2) .state .mem) runs-to-refusal) no-call
+
+pub refused-night : Night (standing exports (asking-device 2) (guest 2)) [] 3 (standing exports refused-device (submitted (asking 2) .state .mem))
+unfolding Every some-refusal units-said answers-taken asking-device refused-device worldIn
+refused-night = chain-is-unsliced some-refusal (refl, omega arith) refl refl
+
+-- ---- two devices that no call tells apart: other numbers in the words and rows that nothing reads
+
+unfoldable pub scrawled-device : Device
+scrawled-device =
+    record {
+      words = words-of 1 128 1 0 0 0 0 0 0 1 0 (7 ∷ 7 ∷ 7 ∷ 7 ∷ 7 ∷ 7 ∷ 7 ∷ 7 ∷ 7 ∷ 7 ∷ 7 ∷ 0 ∷ 7 ∷ 7 ∷ 0 ∷ 7 ∷ 7 ∷ 7 ∷ []);
+      entries = 7 ∷ zeros 255;
+      first = 7 ∷ zeros 703;
+      second = 7 ∷ zeros 703;
+      records = 7 ∷ zeros 319;
+    }
+
+pub one-state-of-two : stateOf scrawled-device ≡ stateOf (asking-device 1)
+unfolding scrawled-device asking-device worldIn countIn tab rowAt table zeros
+one-state-of-two = refl
+
+pub and-they-are-two : scrawled-device ≡ asking-device 1 → ⊥
+unfolding scrawled-device asking-device zeros
+and-they-are-two e = let z : _≡_ {A = ℕ} 7 0 = ap (λ (d : Device). getD (d .entries) 0 0) e in omega arith
+
+-- ---- one unit of each, over two memories that differ: the second holds no byte but those that the opening reads
+
+unfoldable pub opened-device : Device
+opened-device = bare (words-of 1 128 1 0 0 0 0 0 0 1 1 (0 ∷ 0 ∷ 7 ∷ 0 ∷ 128 ∷ 1 ∷ 32 ∷ 184 ∷ 64 ∷ zeros 9))
+
+pub opens : SaysRun 1 (lent-of (asking-device 1) (guest 1)) (0 + (256 * 2 + 65536 * 1)) (lent-of opened-device (guest 1))
+unfolding asking-device opened-device worldIn countIn tab rowAt table zeros in-bytes ring-words slot-words table-words entry-words stream-words guest le bytesOf ring-header descriptor table-header stream-header power-of-two good-header good-ring ring-opening opening-of descriptor-rules range-rules submission-rules submission-opening wrong-front header-rules stream-rules open-step step go runFor call-run ending
+opens = record { spent = refl; world = refl; still = λ z. absurd (z refl) }
+
+pub opens-alone : SaysRun 1 (lent-of scrawled-device opening-alone) (0 + (256 * 2 + 65536 * 1)) (lent-of opened-device opening-alone)
+unfolding scrawled-device opened-device worldIn countIn tab rowAt table zeros in-bytes ring-words slot-words table-words entry-words stream-words opening-alone le bytesOf ring-header descriptor table-header stream-header power-of-two good-header good-ring ring-opening opening-of descriptor-rules range-rules submission-rules submission-opening wrong-front header-rules stream-rules open-step step go runFor call-run ending
+opens-alone = record { spent = refl; world = refl; still = λ z. absurd (z refl) }
+
+the-first : {s : State} {m m′ : List ℕ} {ms ms′ : List (List ℕ)} → SameWhenRead s (m ∷ ms) (m′ ∷ ms′) → go (lent s m) ≡ true → SameWhereRead s m m′
+the-first (unit m m′ len same later) = same
+
+pub opening-reads-only-there : SameEnd (guest 1) opening-alone (worldOf opened-device (guest 1)) (worldOf opened-device opening-alone)
+unfolding guest opening-alone in-bytes ring-words slot-words table-words entry-words stream-words zeros bytesOf asking-device asking worldIn countIn tab rowAt table
+opening-reads-only-there =
+    export-run-reads-only-there (asking-device 1) scrawled-device opened-device opened-device (guest 1) opening-alone (guest 1) opening-alone
+    (sym one-state-of-two) refl (the-first read-alone) (0 + (256 * 2 + 65536 * 1)) (0 + (256 * 2 + 65536 * 1)) opens opens-alone .1
