@@ -4,7 +4,7 @@ use mathlib.Core.Path.{_≡_, refl, ap}
 use mathlib.Core.Bool.{Bool}
 use mathlib.Core.List.{List}
 use Prim.Native.Nat.{ℕ}
-use Rattle.rules.specs.State.{State, World, made, with-state}
+use Rattle.rules.specs.State.{made}
 use Rattle.rules.specs.Calls.{Wrote as WroteBy, Value, Ran as RanBy, Handed as HandedBy, Told as ToldBy, call-write, call-read, call-run, call-record, call-answer}
 use Rattle.run_state.specs.Views.{worldIn}
 use Rattle.device_calls.specs.Views.{valueOf, handedOf}

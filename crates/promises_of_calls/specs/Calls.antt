@@ -1,40 +1,24 @@
--- One call that a host made, in any layer: what a record call hands out, what a run of one unit reads, and that two devices that mean the same
--- state cannot be told apart. Assumes nothing.
-use mathlib.Core.Path.{_≡_, sym, ap, subst, _∙_}
-use mathlib.Core.Bool.{true}
-use mathlib.Core.List.{List}
+-- One call that a host made, in any layer: it says and leaves what the rules do; what a record call hands out, and what a run of one unit
+-- reads; and two devices that mean the same state cannot be told apart. Assumes nothing.
+use mathlib.Core.Path.{_≡_, refl, sym, ap, subst, _∙_}
+use mathlib.Core.Bool.{Bool, true}
+use mathlib.Core.List.{List, [], _∷_}
 use Prim.Native.Nat.{ℕ}
+use lib.Dec.{eqb}
 use lib.ListN.{length}
+use Rattle.machine.specs.Machine.{pick}
 use Rattle.rules.specs.Numbers.{done}
 use Rattle.rules.specs.State.{State, World}
 use Rattle.rules.specs.Steps.{go}
-use Rattle.rules.specs.Calls.{Handed, call-run, call-record}
-use Rattle.promises.specs.Called.{Call, after, Called}
-use Rattle.promises.specs.Called.Call.{runs, records}
+use Rattle.rules.specs.Calls.{Handed, call-run, call-record, call-answer}
+use Rattle.promises.specs.Called.{Call, after, units-of, taken-by, Called}
+use Rattle.promises.specs.Called.Call.{writes, reads, runs, records, answers}
 use Rattle.promises.specs.Called.Called.{makes, calls}
+use Rattle.promises.specs.Acts.{Act, in-a-row, acts-of}
+use Rattle.promises.specs.Acts.Act.{write, answer}
 use Rattle.promises.specs.Ranges.{InOneEntry, ranges-at-the-record-call}
 use Rattle.promises.specs.Locality.{lent, SameWhereRead, SameEnd, SameRun, run-of-one-reads-only}
-use Rattle.promises_of_calls.specs.Layers.{reply-to, Layer}
-use Rattle.promises_of_calls.specs.Chains.{standing, Chain}
-use Rattle.promises_of_calls.specs.Chains.Chain.{no-call, call-then}
-
--- ---- a device that was made and called
-
--- any calls, each lent any memory at all, of whatever length
-pub data MadeAndCalled (L : Layer) : L .Device → Type 0 where
-  made-one : {d : L .Device} (memory : ℕ) → L .Makes memory d → MadeAndCalled L d
-  called-one : {d d′ : L .Device} (m m′ : List ℕ) (c : Call) (x : L .Said) → L .Gives d m c x d′ m′ → MadeAndCalled L d → MadeAndCalled L d′
-
--- its state is one that the rules' calls lead to
-pub made-and-called : (L : Layer) (d : L .Device) → MadeAndCalled L d → Called (L .state d)
-made-and-called L d (made-one memory k) = subst Called (sym (L .makes-made memory d k)) (makes memory)
-made-and-called L d (called-one {d = b} m m′ c x k before) =
-    subst (λ (w : World). Called (w .state)) (sym (L .gives-world b m c x d m′ k)) (calls c m (made-and-called L b before))
-
--- and so is one that a chain of calls led to
-pub chain-called : {L : Layer} {d d′ : L .Device} {m m′ : List ℕ} {cs : List Call} → Chain L d m cs d′ m′ → MadeAndCalled L d → MadeAndCalled L d′
-chain-called no-call c = c
-chain-called (call-then {m = m} {m₁ = m₁} {c = one} x k later) c = chain-called later (called-one m m₁ one x k c)
+use Rattle.promises_of_calls.specs.Layers.{reply-to, taken-in, Layer, standing}
 
 -- ---- one call that was made
 
@@ -55,12 +39,82 @@ module _ {L : Layer} {c : Call} (k : CallMade L c) where
   abbrev pub afterwards : World
   afterwards = standing L (k .leaves) (k .memory)
 
-  -- it says the rules' reply and leaves what the rules leave
-  pub says-the-reply : k .said ≡ L .said c (reply-to c before)
+  says-the-reply : k .said ≡ L .said c (reply-to c before)
   says-the-reply = L .gives-reply (k .of) (k .over) c (k .said) (k .leaves) (k .memory) (k .gives)
 
-  pub leaves-the-world : afterwards ≡ after c before
+  leaves-the-world : afterwards ≡ after c before
   leaves-the-world = L .gives-world (k .of) (k .over) c (k .said) (k .leaves) (k .memory) (k .gives)
+
+-- the acts of a call that said these units and this answer
+abbrev pub acts-in : Call → ℕ → ℕ → List Act
+acts-in (writes offset v) u a = write offset v ∷ []
+acts-in (reads offset) u a = []
+acts-in (runs n) u a = in-a-row u
+acts-in (records i) u a = []
+acts-in (answers good) u a = pick (eqb a done) (answer good ∷ []) []
+
+reply-units : (c : Call) (w : World) → reply-to c w .units ≡ units-of c w
+unfolding reply-to units-of
+reply-units (writes offset v) w = refl
+reply-units (reads offset) w = refl
+reply-units (runs n) w = refl
+reply-units (records i) w = refl
+reply-units (answers good) w = refl
+
+module _ (L : Layer) (w : World) (x : L .Said) where
+  says-units : (c : Call) → x ≡ L .said c (reply-to c w) → L .units c x ≡ units-of c w
+  says-units c e = ap (L .units c) e ∙ (L .units-read c w ∙ reply-units c w)
+
+  says-told : (good : Bool) → x ≡ L .said (answers good) (reply-to (answers good) w) → L .told x ≡ call-answer w good .answer
+  unfolding reply-to
+  says-told good e = ap (L .told) e ∙ L .told-read good (reply-to (answers good) w)
+
+  says-taken : (c : Call) → x ≡ L .said c (reply-to c w) → taken-in c (L .told x) ≡ taken-by c w
+  unfolding taken-by
+  says-taken (writes offset v) e = refl
+  says-taken (reads offset) e = refl
+  says-taken (runs n) e = refl
+  says-taken (records i) e = refl
+  says-taken (answers good) e = ap (taken-in (answers good)) (says-told good e)
+
+  says-acts : (c : Call) → x ≡ L .said c (reply-to c w) → acts-in c (L .units c x) (L .told x) ≡ acts-of c w
+  unfolding acts-of units-of
+  says-acts (writes offset v) e = refl
+  says-acts (reads offset) e = refl
+  says-acts (runs n) e = ap in-a-row (says-units (runs n) e)
+  says-acts (records i) e = refl
+  says-acts (answers good) e = ap (acts-in (answers good) 0) (says-told good e)
+
+-- what it says and leaves is what the rules say and leave
+pub record AsCall {L : Layer} {c : Call} (k : CallMade L c) : Type 0 where
+  pub reply : k .said ≡ L .said c (reply-to c (before k))
+  pub world : afterwards k ≡ after c (before k)
+  pub units : L .units c (k .said) ≡ units-of c (before k)
+  pub taken : taken-in c (L .told (k .said)) ≡ taken-by c (before k)
+  pub acts : acts-in c (L .units c (k .said)) (L .told (k .said)) ≡ acts-of c (before k)
+
+pub call-is-the-rules : {L : Layer} {c : Call} (k : CallMade L c) → AsCall k
+call-is-the-rules {L} {c} k =
+    record {
+      reply = says-the-reply k;
+      world = leaves-the-world k;
+      units = says-units L (before k) (k .said) c (says-the-reply k);
+      taken = says-taken L (before k) (k .said) c (says-the-reply k);
+      acts = says-acts L (before k) (k .said) c (says-the-reply k);
+    }
+
+-- ---- a device that was made and called
+
+-- any calls, each lent any memory at all, of whatever length
+pub data MadeAndCalled (L : Layer) : L .Device → Type 0 where
+  made-one : {d : L .Device} (memory : ℕ) → L .Makes memory d → MadeAndCalled L d
+  called-one : {d d′ : L .Device} (m m′ : List ℕ) (c : Call) (x : L .Said) → L .Gives d m c x d′ m′ → MadeAndCalled L d → MadeAndCalled L d′
+
+-- its state is one that the rules' calls lead to
+pub made-and-called : (L : Layer) (d : L .Device) → MadeAndCalled L d → Called (L .state d)
+made-and-called L d (made-one memory k) = subst Called (sym (L .makes-made memory d k)) (makes memory)
+made-and-called L d (called-one {d = b} m m′ c x k before) =
+    subst (λ (w : World). Called (w .state)) (sym (L .gives-world b m c x d m′ k)) (calls c m (made-and-called L b before))
 
 -- ---- record calls
 

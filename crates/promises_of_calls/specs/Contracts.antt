@@ -26,7 +26,7 @@ use Rattle.promises_of_calls.specs.OverLent.{lent-of, over-lent}
 use Rattle.promises_of_calls.specs.OverLent.Gives.{lent-run}
 use Rattle.promises_of_calls.specs.Exports.{Said, returning, range-in, exports}
 use Rattle.promises_of_calls.specs.Exports.Gives.{zelezmut-run, zelezmut-record}
-use Rattle.promises_of_calls.specs.Calls.{MadeAndCalled, CallMade, handed-out-in-one-entry, run-of-one-reads-only-there}
+use Rattle.promises_of_calls.specs.Calls.{MadeAndCalled, handed-out-in-one-entry, run-of-one-reads-only-there}
 
 -- ---- of a device that was made and called, where the record call answers 0
 

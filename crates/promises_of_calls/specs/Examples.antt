@@ -2,7 +2,7 @@
 -- `Witness`. A device is made, its registers are written, a submission with an entry, a packet and a record is run, its record is asked for
 -- and it is answered; and one is refused. Assumes nothing.
 use mathlib.Core.Path.{_≡_, refl, sym, ap}
-use mathlib.Core.Bool.{true, false}
+use mathlib.Core.Bool.{true}
 use mathlib.Core.List.{List, [], _∷_, _++_}
 use Prim.Native.Nat.{ℕ, _+_, _*_}
 use native.Mathlib.Omega.{arith}
@@ -31,7 +31,6 @@ use Rattle.zelezmut.specs.Said.{SaysRun, SaysRecord}
 use Rattle.registers.specs.Views.{Writes}
 use Rattle.device_calls.specs.Views.{Makes}
 use Rattle.device_memory_calls.specs.Views.{Answers}
-use Rattle.promises.specs.Acts.{NoReset}
 use Rattle.promises.specs.Chains.{Served}
 use Rattle.promises.specs.Night.{Night}
 use Rattle.promises.specs.Ranges.{InOneEntry}
@@ -39,12 +38,13 @@ use Rattle.promises.specs.Locality.{lent, SameWhereRead, SameEnd, SameWhenRead}
 use Rattle.promises.specs.Locality.SameWhenRead.{unit}
 use Rattle.promises.specs.Called.{Call}
 use Rattle.promises.specs.Called.Call.{writes, runs, records, answers}
+use Rattle.promises_of_calls.specs.Layers.{standing}
 use Rattle.promises_of_calls.specs.OverLent.{lent-of}
-use Rattle.promises_of_calls.specs.Exports.{Said, returning, Gives, exports}
+use Rattle.promises_of_calls.specs.Exports.{returning, Gives, exports}
 use Rattle.promises_of_calls.specs.Exports.Gives.{zelezmut-write, zelezmut-run, zelezmut-record, zelezmut-answer}
-use Rattle.promises_of_calls.specs.Chains.{standing, Chain, chain-on, units-said, answers-taken, acts-said, chain-is-unsliced, chain-serves}
+use Rattle.promises_of_calls.specs.Chains.{Chain, chain-on, chain-called, units-said, answers-taken, acts-said, chain-is-unsliced, chain-serves}
 use Rattle.promises_of_calls.specs.Chains.Chain.{no-call, call-then}
-use Rattle.promises_of_calls.specs.Calls.{MadeAndCalled, chain-called, CallMade, handed-out-in-one-entry}
+use Rattle.promises_of_calls.specs.Calls.{MadeAndCalled, handed-out-in-one-entry}
 use Rattle.promises_of_calls.specs.Calls.MadeAndCalled.{made-one, called-one}
 use Rattle.promises_of_calls.specs.Contracts.{export-run-reads-only-there}
 use Rattle.rules.specs.Unsliced.{judge-packets, submission, submitted}

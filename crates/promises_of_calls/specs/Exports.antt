@@ -23,7 +23,7 @@ use Rattle.promises.specs.Called.Call.{writes, reads, runs, records, answers}
 use Rattle.promises.specs.Runs.{of-run}
 use Rattle.promises.specs.Locality.{lent}
 use Rattle.promises_of_calls.specs.Layers.{Reply, reply-to, Layer}
-use Rattle.promises_of_calls.specs.OverLent.{with-words, lent-of, Gives as GivesLent, over-lent}
+use Rattle.promises_of_calls.specs.OverLent.{with-words, lent-of, over-lent}
 use Rattle.promises_of_calls.specs.OverLent.Gives.{lent-write, lent-answer}
 
 -- the number that an export returns, and the words that it says a record in

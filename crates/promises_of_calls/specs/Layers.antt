@@ -82,3 +82,7 @@ pub record Layer : Type 1 where
   pub makes-made : (memory : ℕ) (d : Device) → Makes memory d → state d ≡ made memory
   pub gives-reply : (d : Device) (m : List ℕ) (c : Call) (x : Said) (d′ : Device) (m′ : List ℕ) → Gives d m c x d′ m′ → x ≡ said c (reply-to c (lent (state d) m))
   pub gives-world : (d : Device) (m : List ℕ) (c : Call) (x : Said) (d′ : Device) (m′ : List ℕ) → Gives d m c x d′ m′ → lent (state d′) m′ ≡ after c (lent (state d) m)
+
+-- the device and the memory beside it, as the rules' world
+abbrev pub standing : (L : Layer) → L .Device → List ℕ → World
+standing L d m = lent (L .state d) m

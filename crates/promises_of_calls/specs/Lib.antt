@@ -2,7 +2,7 @@ pub mod Layers
 pub mod ByValue
 pub mod OverLent
 pub mod Exports
-pub mod Chains
 pub mod Calls
+pub mod Chains
 pub mod Contracts
 pub mod Examples
