@@ -93,6 +93,7 @@ pub record AsCall {L : Layer} {c : Call} (k : CallMade L c) : Type 0 where
   pub taken : taken-in c (L .told (k .said)) ≡ taken-by c (before k)
   pub acts : acts-in c (L .units c (k .said)) (L .told (k .said)) ≡ acts-of c (before k)
 
+-- of every call
 pub call-is-the-rules : {L : Layer} {c : Call} (k : CallMade L c) → AsCall k
 call-is-the-rules {L} {c} k =
     record {
@@ -113,8 +114,8 @@ pub data MadeAndCalled (L : Layer) : L .Device → Type 0 where
 -- its state is one that the rules' calls lead to
 pub made-and-called : (L : Layer) (d : L .Device) → MadeAndCalled L d → Called (L .state d)
 made-and-called L d (made-one memory k) = subst Called (sym (L .makes-made memory d k)) (makes memory)
-made-and-called L d (called-one {d = b} m m′ c x k before) =
-    subst (λ (w : World). Called (w .state)) (sym (L .gives-world b m c x d m′ k)) (calls c m (made-and-called L b before))
+made-and-called L d (called-one {d = b} m m′ c x k earlier) =
+    subst (λ (w : World). Called (w .state)) (sym (L .gives-world b m c x d m′ k)) (calls c m (made-and-called L b earlier))
 
 -- ---- record calls
 

@@ -22,7 +22,6 @@ use Rattle.promises.specs.Runs.{of-run}
 use Rattle.promises.specs.Called.{Call, after, units-of, taken-by, after-all, units-of-all, taken-by-all}
 use Rattle.promises.specs.Called.Call.{writes, reads, runs, records, answers}
 use Rattle.promises.specs.Acts.{Act, acts-of, acts-of-all, units-in, NoReset}
-use Rattle.promises.specs.Acts.Act.{answer}
 use Rattle.promises.specs.Chains.{Served, counted, given, Stands}
 use Rattle.promises.specs.Chains.Rest.{none-left}
 use Rattle.promises.specs.Chains.Next.{none-begun}
@@ -76,6 +75,7 @@ pub record AsCalls {L : Layer} {d d′ : L .Device} {m m′ : List ℕ} {cs : Li
   pub taken : answers-taken k ≡ taken-by-all cs (standing L d m)
   pub acts : acts-said k ≡ acts-of-all cs (standing L d m)
 
+-- of every chain
 pub chain-is-calls : {L : Layer} {d d′ : L .Device} {m m′ : List ℕ} {cs : List Call} (k : Chain L d m cs d′ m′) → AsCalls k
 unfolding units-said answers-taken acts-said after-all units-of-all taken-by-all acts-of-all
 chain-is-calls no-call = record { world = refl; units = refl; taken = refl; acts = refl }

@@ -20,6 +20,7 @@ use Rattle.rules.specs.State.{State}
 use Rattle.rules.specs.Settle.{faulted, signalled, ended-by, written, head-written, page-written, marked, settled}
 use Rattle.rules.specs.Registers.{controlled, write-of}
 use Rattle.rules.specs.Steps.{open-step, entry-step, packet-step, step, go, answered}
+use Rattle.rules.specs.Unsliced.{judge-packets, submission, submitted}
 use Rattle.rules.specs.Calls.{ending, call-write, call-run, call-record, call-answer}
 use Rattle.rows.specs.Rows.{tab, rowAt, table}
 use Rattle.run_state.specs.Views.{countIn, worldIn}
@@ -38,6 +39,7 @@ use Rattle.promises.specs.Locality.{lent, SameWhereRead, SameEnd, SameWhenRead}
 use Rattle.promises.specs.Locality.SameWhenRead.{unit}
 use Rattle.promises.specs.Called.{Call}
 use Rattle.promises.specs.Called.Call.{writes, runs, records, answers}
+use Rattle.promises.specs.Witness.{in-bytes, ring-words, slot-words, table-words, entry-words, stream-words, guest, asking, begun, held, the-entry, awaiting, opening-alone, read-alone}
 use Rattle.promises_of_calls.specs.Layers.{standing}
 use Rattle.promises_of_calls.specs.OverLent.{lent-of}
 use Rattle.promises_of_calls.specs.Exports.{returning, Gives, exports}
@@ -47,13 +49,11 @@ use Rattle.promises_of_calls.specs.Chains.Chain.{no-call, call-then}
 use Rattle.promises_of_calls.specs.Calls.{MadeAndCalled, handed-out-in-one-entry}
 use Rattle.promises_of_calls.specs.Calls.MadeAndCalled.{made-one, called-one}
 use Rattle.promises_of_calls.specs.Contracts.{export-run-reads-only-there}
-use Rattle.rules.specs.Unsliced.{judge-packets, submission, submitted}
-use Rattle.promises.specs.Witness.{in-bytes, ring-words, slot-words, table-words, entry-words, stream-words, guest, asking, begun, held, the-entry, awaiting, opening-alone, read-alone}
 
 -- ---- words and tables
 
--- words 0 to 13 of a device for the guest of n entries, its ring at 0: whether it is enabled, the completed fence, the two status bits, the
--- last error's three numbers, the doorbell flag, the tag of what is in work; then the other words
+-- words 0 to 13 of a device for the guest of n entries, its ring at 0: the ring's size, whether it is enabled, the completed fence, the two
+-- status bits, the last error's three numbers, the doorbell flag, the tag of what is in work; then the other words
 abbrev words-of : ℕ → ℕ → ℕ → ℕ → ℕ → ℕ → ℕ → ℕ → ℕ → ℕ → ℕ → List ℕ → List ℕ
 words-of n size enabled completed fenced failed code fence count rung tag more =
     (216 + n * 32) ∷ 0 ∷ size ∷ enabled ∷ 0 ∷ completed ∷ fenced ∷ failed ∷ 0 ∷ code ∷ fence ∷ count ∷ rung ∷ tag ∷ more
