@@ -1,0 +1,72 @@
+-- The calls of the device by value, as a layer: each is a method of `Device` that was called, with what its contract says of what it handed
+-- back. Assumes nothing.
+use mathlib.Core.Path.{_≡_, refl, ap}
+use mathlib.Core.Bool.{Bool}
+use mathlib.Core.List.{List}
+use Prim.Native.Nat.{ℕ}
+use Rattle.rules.specs.State.{made}
+use Rattle.rules.specs.Calls.{Wrote as WroteBy, Value, Ran as RanBy, RecordRead as RecordReadBy, Answered as AnsweredBy, call-write, call-read, call-run, call-record, call-answer}
+use Rattle.run_state.specs.Views.{worldIn}
+use Rattle.device_calls.specs.Views.{valueOf, recordReadOf}
+use Rattle.device_calls.specs.declared.ValueRead.{ValueRead}
+use Rattle.device_calls.specs.declared.RecordRead.{RecordRead}
+use Rattle.device.specs.Views.{stateOf, worldOf, wroteOf, ranOf, answeredOf}
+use Rattle.device.specs.declared.Device.{Device}
+use Rattle.device.specs.declared.Wrote.{Wrote}
+use Rattle.device.specs.declared.Ran.{Ran}
+use Rattle.device.specs.declared.Answered.{Answered}
+use Rattle.promises.specs.Called.{Call, after}
+use Rattle.promises.specs.Called.Call.{writes, reads, runs, records, answers}
+use Rattle.promises.specs.Locality.{lent}
+use Rattle.promises_of_calls.specs.Layers.{Reply, answering, showing, spending, handing, reply-to, Layer}
+
+-- a device with memory m beside it, a call of it, its reply, and the device and memory after it
+pub data Gives (d : Device) (m : List ℕ) : Call → Reply → Device → List ℕ → Type 0 where
+  write-gives : (offset v : ℕ) (r : Wrote) → wroteOf r ≡ call-write (stateOf d) offset v → Gives d m (writes offset v) (answering (r .answer)) (r .device) m
+  read-gives : (offset : ℕ) (x : ValueRead) → valueOf x ≡ call-read (stateOf d) offset → Gives d m (reads offset) (showing (x .answer) (x .value)) d m
+  run-gives : (n : ℕ) (r : Ran) (m′ : List ℕ) → ranOf r m′ ≡ call-run (worldOf d m) n → Gives d m (runs n) (spending (r .answer) (r .units) (r .ended)) (r .device) m′
+  record-gives : (i : ℕ) (x : RecordRead) → recordReadOf x ≡ call-record (stateOf d) i → Gives d m (records i) (handing (x .answer) (x .range)) d m
+  answer-gives : (good : Bool) (t : Answered) (m′ : List ℕ) → answeredOf t m′ ≡ call-answer (worldOf d m) good → Gives d m (answers good) (answering (t .answer)) (t .device) m′
+
+-- `Device::new` handed it back
+abbrev pub Makes : ℕ → Device → Type 0
+Makes memory d = stateOf d ≡ made memory
+
+-- its reply is the rules' reply
+pub gives-reply : (d : Device) (m : List ℕ) (c : Call) (r : Reply) (d′ : Device) (m′ : List ℕ) → Gives d m c r d′ m′ → r ≡ reply-to c (lent (stateOf d) m)
+unfolding reply-to worldIn
+gives-reply d m c r d′ m′ (write-gives offset v x k) = ap (λ (y : WroteBy). answering (y .answer)) k
+gives-reply d m c r d′ m′ (read-gives offset x k) = ap (λ (y : Value). showing (y .answer) (y .value)) k
+gives-reply d m c r d′ m′ (run-gives n x n′ k) = ap (λ (y : RanBy). spending (y .answer) (y .units) (y .ended)) k
+gives-reply d m c r d′ m′ (record-gives i x k) = ap (λ (y : RecordReadBy). handing (y .answer) (y .range)) k
+gives-reply d m c r d′ m′ (answer-gives good t n′ k) = ap (λ (y : AnsweredBy). answering (y .answer)) k
+
+-- and leaves what the rules' call leaves
+pub gives-world : (d : Device) (m : List ℕ) (c : Call) (r : Reply) (d′ : Device) (m′ : List ℕ) → Gives d m c r d′ m′ → lent (stateOf d′) m′ ≡ after c (lent (stateOf d) m)
+unfolding after worldIn
+gives-world d m c r d′ m′ (write-gives offset v x k) = ap (λ (y : WroteBy). lent (y .state) m) k
+gives-world d m c r d′ m′ (read-gives offset x k) = refl
+gives-world d m c r d′ m′ (run-gives n x n′ k) = ap (λ (y : RanBy). y .world) k
+gives-world d m c r d′ m′ (record-gives i x k) = refl
+gives-world d m c r d′ m′ (answer-gives good t n′ k) = ap (λ (y : AnsweredBy). y .world) k
+
+-- the layer
+abbrev pub by-value : Layer
+by-value =
+    record {
+      Device = Device;
+      state = stateOf;
+      Said = Reply;
+      said = λ c r. r;
+      units = λ c r. r .units;
+      answered = λ r. r .answer;
+      record-read = λ r. record { answer = r .answer; range = r .range };
+      Makes = Makes;
+      Gives = Gives;
+      units-read = λ c w. refl;
+      answered-as = λ good r. refl;
+      record-read-as = λ i r. refl;
+      makes-made = λ memory d k. k;
+      gives-reply = gives-reply;
+      gives-world = gives-world;
+    }
