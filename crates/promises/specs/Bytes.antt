@@ -24,19 +24,19 @@ use Rattle.promises.specs.Changes.{through, ChangedBy, units-through, ca
 -- what an event makes of memory: a settling writes the head of its ring and the fence page, by the registers that it leaves; nothing else
 -- writes
 abbrev pub marked-by : Event → List ℕ → List ℕ
-marked-by (settling j v s) m = marked j (s .regs) m
+marked-by (settling j v rs s) m = marked j (s .regs) m
 marked-by ring-refusal m = m
 marked-by resetting m = m
 
 -- a byte's place lies outside what an event writes: the 4 bytes of the head, and the 16 of the page, where there is a page
 abbrev pub Outside : ℕ → Event → Type 0
-Outside i (settling j v s) = Apart i 1 (head-at j) head-size × ((s .regs .page ≡ 0) ⊎ Apart i 1 (s .regs .page) page-size)
+Outside i (settling j v rs s) = Apart i 1 (head-at j) head-size × ((s .regs .page ≡ 0) ⊎ Apart i 1 (s .regs .page) page-size)
 Outside i ring-refusal = 0 ≤ 0
 Outside i resetting = 0 ≤ 0
 
 -- an event that writes nothing
 abbrev pub Silent : Event → Type 0
-Silent (settling j v s) = ⊥
+Silent (settling j v rs s) = ⊥
 Silent ring-refusal = 0 ≤ 0
 Silent resetting = 0 ≤ 0
 
@@ -48,7 +48,7 @@ memory-changed =
       finds-nothing = λ w. refl;
       refuses-ring = λ w. refl;
       settles-good = λ j rs w. refl;
-      settles-broken = λ j r w. refl;
+      settles-broken = λ j r rs w. refl;
       writes = λ r w d e. refl;
       resets = λ enabled w. refl;
     }
@@ -62,7 +62,7 @@ module _ {A : Type 0} (part : List ℕ → A) (P : Event → Type 0) (one : (e :
   through-keeps (e ∷ es) m h = through-keeps es (marked-by e m) (h .1) ∙ one e m (h .0)
 
 silent-keeps : (e : Event) (m : List ℕ) → Silent e → marked-by e m ≡ m
-silent-keeps (settling j v s) m h = absurd h
+silent-keeps (settling j v rs s) m h = absurd h
 silent-keeps ring-refusal m h = refl
 silent-keeps resetting m h = refl
 
@@ -72,7 +72,7 @@ unfolding marked page-written head-written bytesOf
 pageless-byte j r m i z h = rw (eq-eqb (r .page) 0 z) (written-byte (head-at j) (bytesOf head-size (next-head (j .head))) m i h)
 
 outside-keeps : (i : ℕ) (e : Event) (m : List ℕ) → Outside i e → getD (marked-by e m) i 0 ≡ getD m i 0
-outside-keeps i (settling j v s) m h = by-page (h .1)
+outside-keeps i (settling j v rs s) m h = by-page (h .1)
   where
     by-page : (s .regs .page ≡ 0) ⊎ Apart i 1 (s .regs .page) page-size → getD (marked j (s .regs) m) i 0 ≡ getD m i 0
     by-page (inl z) = pageless-byte j (s .regs) m i z (h .0)
@@ -81,7 +81,7 @@ outside-keeps i ring-refusal m h = refl
 outside-keeps i resetting m h = refl
 
 length-kept : (e : Event) (m : List ℕ) → 0 ≤ 0 → length (marked-by e m) ≡ length m
-length-kept (settling j v s) m h = marked-length j (s .regs) m
+length-kept (settling j v rs s) m h = marked-length j (s .regs) m
 length-kept ring-refusal m h = refl
 length-kept resetting m h = refl
 

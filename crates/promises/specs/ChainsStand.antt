@@ -241,7 +241,8 @@ module _ (cs : List Call) (w : World) {x y : World} (first next : List Act) {nig
 
 -- ---- two lists of calls
 
-same-acts : {w u v : World} {xs : List Act} → Led w xs u → Led w xs v → u ≡ v
+-- acts lead to one world
+pub same-acts : {w u v : World} {xs : List Act} → Led w xs u → Led w xs v → u ≡ v
 same-acts stays stays = refl
 same-acts (spends g p) (spends h q) = same-acts p q
 same-acts (writes-one offset n g p) (writes-one at k h q) = same-acts p q

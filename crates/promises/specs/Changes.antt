@@ -47,8 +47,9 @@ pub record ChangedBy {A : Type 0} (by : Event → A → A) (part : World → A) 
   pub works : (k : Work) (w : World) → part (working k w) ≡ part w
   pub finds-nothing : (w : World) → part (found-no-work w) ≡ part w
   pub refuses-ring : (w : World) → part (ring-refused w) ≡ by ring-refusal (part w)
-  pub settles-good : (j : Job) (rs : List Resource) (w : World) → part (settled j Fine rs w) ≡ by (settling j Fine (settled j Fine rs w .state)) (part w)
-  pub settles-broken : (j : Job) (r : Refusal) (w : World) → part (settled-keeping j (Broken r) w) ≡ by (settling j (Broken r) (settled-keeping j (Broken r) w .state)) (part w)
+  pub settles-good : (j : Job) (rs : List Resource) (w : World) → part (settled j Fine rs w) ≡ by (settling j Fine rs (settled j Fine rs w .state)) (part w)
+  pub settles-broken : (j : Job) (r : Refusal) (rs : List Resource) (w : World)
+      → part (settled-keeping j (Broken r) w) ≡ by (settling j (Broken r) rs (settled-keeping j (Broken r) w .state)) (part w)
   pub writes : (r : Registers) (w : World) → r .completed ≡ w .state .regs .completed → r .error ≡ w .state .regs .error → part (registering r w) ≡ part w
   pub resets : (enabled : Bool) (w : World) → part (with-state (reset enabled (w .state)) w) ≡ by resetting (part w)
 
@@ -58,7 +59,7 @@ module _ {A : Type 0} {by : Event → A → A} {part : World → A} (c : Changed
   unit-through w w′ (works-on next h) = c .works next w
   unit-through w w′ (finds-bad-ring e h) = c .refuses-ring w
   unit-through w w′ (finds-no-work e h) = c .finds-nothing w
-  unit-through w w′ (settles j r h) = c .settles-broken j r w
+  unit-through w w′ (settles j r h) = c .settles-broken j r (w .state .resources) w
 
   pub units-through : (w : World) (es : List Event) (w′ : World) → Units w es w′ → part w′ ≡ through by es (part w)
   unfolding through
@@ -67,9 +68,9 @@ module _ {A : Type 0} {by : Event → A → A} {part : World → A} (c : Changed
       units-through v fs w′ q ∙ (ap (through by fs) (unit-through w v u) ∙ sym (through-both by (events-of-unit u) fs (part w)))
 
   answer-through : (good : Bool) (w : World) (j : Job) (es : List Entry) (h : Holdings) → w .state .work ≡ waiting j es h
-      → part (answered good w) ≡ by (settling j (verdict-of good) (answered good w .state)) (part w)
+      → part (answered good w) ≡ by (settling j (verdict-of good) (h .resources) (answered good w .state)) (part w)
   answer-through true w j es h e = rw (good-settles w j es h e) (c .settles-good j (h .resources) w)
-  answer-through false w j es h e = rw (failed-settles w j es h e) (c .settles-broken j (refusal host-failed) w)
+  answer-through false w j es h e = rw (failed-settles w j es h e) (c .settles-broken j (refusal host-failed) (h .resources) w)
 
   call-through : (w : World) (k : Call) (es : List Event) (w′ : World) → Happens w k es w′ → part w′ ≡ through by es (part w)
   unfolding through
@@ -100,21 +101,21 @@ module _ {A : Type 0} (by : Event → A → A) (part : State → A) (c : Changed
 
 -- "Completed = larger of completed and signal fence"; a reset makes it zero; nothing else changes it
 abbrev pub completed-by : Event → ℕ → ℕ
-completed-by (settling j v s) completed = larger completed (j .signal)
+completed-by (settling j v rs s) completed = larger completed (j .signal)
 completed-by ring-refusal completed = completed
 completed-by resetting completed = 0
 
 -- the error registers: a broken rule's code and the signal fence, or a bad ring's with fence 0; a reset lets them stay
 abbrev pub error-by : Event → LastError → LastError
-error-by (settling j Fine s) error = error
-error-by (settling j (Broken r) s) error = record { code = r .code; fence = j .signal; count = one-more (error .count) }
+error-by (settling j Fine rs s) error = error
+error-by (settling j (Broken r) rs s) error = record { code = r .code; fence = j .signal; count = one-more (error .count) }
 error-by ring-refusal error = record { code = bad-ring; fence = 0; count = one-more (error .count) }
 error-by resetting error = error
 
 -- the device's resources: a good answer gives it the submission's, a reset empties them; nothing else changes them
 abbrev pub resources-by : Event → List Resource → List Resource
-resources-by (settling j Fine s) resources = s .resources
-resources-by (settling j (Broken r) s) resources = resources
+resources-by (settling j Fine rs s) resources = rs
+resources-by (settling j (Broken r) rs s) resources = resources
 resources-by ring-refusal resources = resources
 resources-by resetting resources = []
 
@@ -126,7 +127,7 @@ completed-changed =
       finds-nothing = λ w. refl;
       refuses-ring = λ w. refl;
       settles-good = λ j rs w. refl;
-      settles-broken = λ j r w. refl;
+      settles-broken = λ j r rs w. refl;
       writes = λ r w d e. d;
       resets = λ enabled w. refl;
     }
@@ -139,7 +140,7 @@ error-changed =
       finds-nothing = λ w. refl;
       refuses-ring = λ w. refl;
       settles-good = λ j rs w. refl;
-      settles-broken = λ j r w. refl;
+      settles-broken = λ j r rs w. refl;
       writes = λ r w d e. e;
       resets = λ enabled w. refl;
     }
@@ -152,7 +153,7 @@ resources-changed =
       finds-nothing = λ w. refl;
       refuses-ring = λ w. refl;
       settles-good = λ j rs w. refl;
-      settles-broken = λ j r w. refl;
+      settles-broken = λ j r rs w. refl;
       writes = λ r w d e. refl;
       resets = λ enabled w. refl;
     }

@@ -20,6 +20,7 @@ use Rattle.rules.specs.Steps.{step, go, run-for, waits-on, waits, answered}
 use Rattle.rules.specs.Calls.{lent-another, wrote, call-write, ran, call-run, Answered, call-answer}
 use Rattle.rules.specs.declared.Ended.the-variants.{Idle}
 use Rattle.rules.specs.declared.Entry.{Entry}
+use Rattle.rules.specs.declared.Resource.{Resource}
 use Rattle.rules.specs.declared.Job.{Job}
 use Rattle.rules.specs.declared.Registers.{Registers}
 use Rattle.rules.specs.declared.Verdict.{Verdict}
@@ -34,8 +35,9 @@ use Rattle.promises.specs.Units.{Unit, unit}
 use Rattle.promises.specs.Units.Unit.{works-on, finds-bad-ring, finds-no-work, settles}
 
 pub data Event : Type 0 where
-  -- a submission was settled with a verdict, and this state stood after it
-  settling : Job → Verdict → State → Event
+  -- a submission was settled with a verdict; these resources were the submission's, where the host answered, and the device's before it,
+  -- where a unit refused it; and this state stood after it
+  settling : Job → Verdict → List Resource → State → Event
   -- an opening found a bad ring
   ring-refusal : Event
   -- the guest reset the device
@@ -51,7 +53,7 @@ abbrev pub events-of-unit : {w w′ : World} → Unit w w′ → List Event
 events-of-unit (works-on next h) = []
 events-of-unit (finds-bad-ring e h) = ring-refusal ∷ []
 events-of-unit (finds-no-work e h) = []
-events-of-unit {w} {w′} (settles j r h) = settling j (Broken r) (w′ .state) ∷ []
+events-of-unit {w} {w′} (settles j r h) = settling j (Broken r) (w .state .resources) (w′ .state) ∷ []
 
 -- units one after the other, each of a device that goes on, and their events
 pub data Units : World → List Event → World → Type 0 where
@@ -76,7 +78,7 @@ pub data Happens (w : World) : Call → List Event → World → Type 0 where
   spends : (n : ℕ) {es : List Event} → lent-another w ≡ false → Units w es (run-for n w .state) → Happens w (runs n) es (run-for n w .state)
   -- the submission that waits is answered, and settled with the host's verdict
   settles-answered : (good : Bool) (j : Job) (es : List Entry) (h : Holdings) → lent-another w ≡ false → w .state .work ≡ waiting j es h
-      → Happens w (answers good) (settling j (verdict-of good) (answered good w .state) ∷ []) (answered good w)
+      → Happens w (answers good) (settling j (verdict-of good) (h .resources) (answered good w .state) ∷ []) (answered good w)
 
 -- calls one after the other over still memory, and their events
 pub data History : World → List Call → List Event → World → Type 0 where

@@ -1,35 +1,51 @@
 -- What is promised, in the user's words and order: ten statements about the calls that a host makes. `Call`, `after` and what a call reports are
 -- in Called.antt; the calls' own definitions in rules/specs/Calls.antt are what the code's contracts cite. All else in this crate serves
 -- these ten. Assumes nothing.
-use mathlib.Core.Path.{_≡_, refl}
+use mathlib.Core.Path.{_≡_, refl, ap, _∙_}
 use mathlib.Core.Bool.{true, false}
-use mathlib.Core.List.{List}
+use mathlib.Core.List.{List, []}
+use mathlib.Core.Bool.{Bool, true, false}
 use mathlib.Core.Logic.{_⊎_}
+use native.Mathlib.Omega.{arith}
+use Rattle.machine.specs.Machine.{pick, run-stop}
 use Prim.Native.Nat.{ℕ, _≤_}
 use lib.ListN.{length}
-use Rattle.rules.specs.Numbers.{done, no-record}
+use Rattle.rules.specs.Numbers.{done, other-memory, no-record, host-failed}
 use Rattle.rules.specs.Ring.{opening-of}
 use Rattle.rules.specs.Table.{entries-of}
-use Rattle.rules.specs.Packets.{at-first}
+use Rattle.rules.specs.Packets.{Holdings, at-first}
+use Rattle.rules.specs.Judging.{refusal}
+use Rattle.rules.specs.Registers.{Read, register}
 use Rattle.rules.specs.State.{State, World, working, registering}
-use Rattle.rules.specs.State.Work.{waiting}
+use Rattle.rules.specs.State.Work.{resting, waiting}
 use Rattle.rules.specs.Settle.{settled, settled-keeping}
-use Rattle.rules.specs.Steps.{go}
-use Rattle.rules.specs.Unsliced.{Submission, submission}
-use Rattle.rules.specs.Calls.{lent-another, no-range, call-write, call-read, call-run, call-record, call-answer}
-use Rattle.rules.specs.Lists.{nth}
-use Rattle.rules.specs.declared.Ended.the-variants.{Paused}
+use Rattle.rules.specs.Steps.{go, step, run-for, waits-on, waits}
+use Rattle.rules.specs.Unsliced.{Submission, submission, finished, submitted-on}
+use Rattle.rules.specs.Calls.{lent-another, ending, Ran, ran, Answered, valued, record-read, handed-out, no-range, call-write, call-read, call-run, call-record, call-answer}
+use Rattle.rules.specs.Lists.{Found, nth}
+use Rattle.rules.specs.Lists.Found.{none, found}
+use Rattle.rules.specs.declared.Ended.the-variants.{Idle, Paused}
+use Rattle.rules.specs.declared.Entry.{Entry}
+use Rattle.rules.specs.declared.Job.{Job}
+use Rattle.rules.specs.declared.Record.{Record}
+use Rattle.rules.specs.declared.Opening.{Opening}
+use Rattle.rules.specs.declared.Verdict.{Verdict}
 use Rattle.rules.specs.declared.Opened.{Opened}
 use Rattle.rules.specs.declared.Refusal.{Refusal}
 use Rattle.rules.specs.declared.Registers.{Registers}
 use Rattle.rules.specs.declared.Verdict.the-variants.{Fine, Broken}
-use Rattle.rules.specs.declared.Opening.the-variants.{Started}
+use Rattle.rules.specs.declared.Opening.the-variants.{BadRing, NoWork, Refused, Started}
 use Rattle.promises.specs.Refused.{refused-run-changes-nothing, refused-answer-changes-nothing, refused-write-changes-nothing}
 use Rattle.promises.specs.Called.{Call, after, after-all, units-of-all, taken-by-all, Called}
 use Rattle.promises.specs.Called.Call.{writes, reads, runs, records, answers}
-use Rattle.promises.specs.Acts.{acts-of-all, NoReset}
+use Rattle.promises.specs.Acts.{Act, acts-of-all, answers-in, registers-after, acts-answers, Led, NoReset, calls-lead}
+use Rattle.promises.specs.Acts.Led.{stays, spends, writes-one, takes}
+use Rattle.promises.specs.Courses.{clash}
+use Rattle.promises.specs.Slices.{waiting-stands-still}
+use Rattle.promises.specs.Fences.{good-settles, failed-settles}
+use Rattle.promises.specs.Units.{Unit, unit}
 use Rattle.promises.specs.Chains.{submitted-under, Stands}
-use Rattle.promises.specs.ChainsStand.{calls-stand}
+use Rattle.promises.specs.ChainsStand.{calls-stand, same-acts}
 use Rattle.promises.specs.Slicing.{NoWrite, same-units-same-answers}
 use Rattle.promises.specs.Runs.{never-more-than-allowed, run-spends-all-or-is-done, paused-spent-all}
 use Rattle.promises.specs.Events.{Event, History, calls-have-events}
@@ -57,6 +73,36 @@ refused-call-changes-nothing (runs n) w h = refused-run-changes-nothing w n h
 refused-call-changes-nothing (records i) w h = refl
 refused-call-changes-nothing (answers good) w h = refused-answer-changes-nothing w good h
 
+-- "a value returned beside them is zero (idle for run)"
+pub record SaysNothing (w : World) : Type 0 where
+  pub run : (n : ℕ) → (call-run w n .answer ≡ done → ⊥) → (call-run w n .units ≡ 0) × (call-run w n .ended ≡ Idle)
+  pub read : (offset : ℕ) → (call-read (w .state) offset .answer ≡ done → ⊥) → call-read (w .state) offset .value ≡ 0
+  pub range : (i : ℕ) → (call-record (w .state) i .answer ≡ done → ⊥) → call-record (w .state) i .range ≡ no-range
+
+pub refused-call-says-nothing : (w : World) → SaysNothing w
+unfolding call-run call-read call-record
+refused-call-says-nothing w =
+    record {
+      run = λ n. by-length n (lent-another w);
+      read = λ offset. by-register (register (w .state .regs) offset);
+      range = λ i. by-record (nth (handed-out (w .state .work)) i);
+    }
+  where
+    of-run : ℕ → Bool → Ran
+    of-run n b = pick b (record { answer = other-memory; units = 0; ended = Idle; world = w }) (ran (run-for n w))
+
+    by-length : (n : ℕ) (b : Bool) → (of-run n b .answer ≡ done → ⊥) → (of-run n b .units ≡ 0) × (of-run n b .ended ≡ Idle)
+    by-length n true h = (refl, refl)
+    by-length n false h = absurd (h refl)
+
+    by-register : (f : Found Read) → (valued f .answer ≡ done → ⊥) → valued f .value ≡ 0
+    by-register none h = refl
+    by-register (found x) h = absurd (h refl)
+
+    by-record : (f : Found Record) → (record-read f .answer ≡ done → ⊥) → record-read f .range ≡ no-range
+    by-record none h = refl
+    by-record (found c) h = absurd (h refl)
+
 -- 2. "touches nothing outside what it was lent": of guest memory only the heads and the fence pages of submissions that settled are written.
 -- Every list of calls has a history, which says what settled, and memory after it is what those settlings write.
 pub only-heads-and-pages-change : (cs : List Call) (w : World)
@@ -69,9 +115,44 @@ only-heads-and-pages-change cs w =
 
 -- 3. "With still memory and no reset, a submission is accepted exactly when the published rules hold; else the first broken rule is its error."
 -- From any device and memory, after any calls of which none is a reset, the device stands in the midst of what was in work; or past its
--- end, through whole submissions, each from its opening to what the unsliced rules give, some units into the next.
-pub submissions-go-by-the-rules : (cs : List Call) (w : World) → NoReset cs → Stands w (acts-of-all cs w) (after-all cs w)
-submissions-go-by-the-rules = calls-stand
+-- end, through whole submissions, each from its opening to what the unsliced rules give, some units into the next. There is one such
+-- place, since the acts lead there one by one, each unit where one is due and each answer where one is awaited (`one-place`).
+pub submissions-go-by-the-rules : (cs : List Call) (w : World) → NoReset cs
+    → Led w (acts-of-all cs w) (after-all cs w) × Stands w (acts-of-all cs w) (after-all cs w)
+submissions-go-by-the-rules cs w n = (calls-lead cs w n, calls-stand cs w n)
+
+pub one-place : {w u v : World} {xs : List Act} → Led w xs u → Led w xs v → u ≡ v
+one-place = same-acts
+
+-- a submission that its opening refuses, at w, whatever registers q stand
+pub refused-at-the-opening : (w : World) (q : Registers) (j : Job) (r : Refusal)
+    → opening-of (w .mem) (w .state .regs .ring) (w .state .regs .ringsize) ≡ Refused j r
+    → submitted-under q w ≡ record { state = settled-keeping j (Broken r) (registering q w); units = 1 }
+refused-at-the-opening w q j r opened = rw opened
+
+-- what waits was accepted: the unsliced rules found no broken rule
+pub record Accepted (w : World) : Type 0 where
+  pub what : Opened
+  pub opened : opening-of (w .mem) (w .state .regs .ring) (w .state .regs .ringsize) ≡ Started what
+  pub verdict : submission (w .mem) what (at-first (w .state .resources)) .verdict ≡ Fine
+
+pub only-accepted-waits : (w : World) (q : Registers) → w .state .work ≡ resting → waits (submitted-under q w .state .state) ≡ true → Accepted w
+unfolding settled
+only-accepted-waits w q rest = by-opening (opening-of (w .mem) (w .state .regs .ring) (w .state .regs .ringsize)) refl
+  where
+    by-verdict : (o : Opened) → opening-of (w .mem) (w .state .regs .ring) (w .state .regs .ringsize) ≡ Started o
+        → (v : Verdict) → submission (w .mem) o (at-first (w .state .resources)) .verdict ≡ v
+        → waits (finished (registering q w) (o .job) (entries-of (w .mem) (o .table)) (submission (w .mem) o (at-first (w .state .resources)) .held) v .state) ≡ true
+        → Accepted w
+    by-verdict o e Fine h k = record { what = o; opened = e; verdict = h }
+    by-verdict o e (Broken r) h k = absurd (let z : _≡_ {A = ℕ} 0 1 = cc in omega arith)
+
+    by-opening : (v : Opening) → opening-of (w .mem) (w .state .regs .ring) (w .state .regs .ringsize) ≡ v
+        → waits (submitted-on (registering q w) v .state .state) ≡ true → Accepted w
+    by-opening BadRing e k = absurd (let f : waits (w .state) ≡ false = rw rest in let z : _≡_ {A = ℕ} 0 1 = cc in omega arith)
+    by-opening NoWork e k = absurd (let f : waits (w .state) ≡ false = rw rest in let z : _≡_ {A = ℕ} 0 1 = cc in omega arith)
+    by-opening (Refused j r) e k = absurd (let z : _≡_ {A = ℕ} 0 1 = cc in omega arith)
+    by-opening (Started o) e k = by-verdict o e (submission (w .mem) o (at-first (w .state .resources)) .verdict) refl k
 
 -- a submission that was opened at w and settled or accepted with the registers q
 module _ (w : World) (q : Registers) (o : Opened) (opened : opening-of (w .mem) (w .state .regs .ring) (w .state .regs .ringsize) ≡ Started o) where
@@ -79,8 +160,8 @@ module _ (w : World) (q : Registers) (o : Opened) (opened : opening-of (w .mem) 
   abbrev pub judged : Submission
   judged = submission (w .mem) o (at-first (w .state .resources))
 
-  -- 4. "An accepted one's fence waits for the host's answer": it waits, and nothing but the work has changed: not the completed fence, no
-  -- status, no byte, no resource.
+  -- 4. "An accepted one's fence waits for the host's answer": it waits, and its units have changed nothing but the work: no byte, no
+  -- resource, and of the registers only what was written meanwhile, which q are.
   pub accepted-waits : judged .verdict ≡ Fine
       → submitted-under q w .state ≡ working (waiting (o .job) (entries-of (w .mem) (o .table)) (judged .held)) (registering q w)
   accepted-waits e = rw (opened, e)
@@ -98,6 +179,36 @@ module _ (w : World) (q : Registers) (o : Opened) (opened : opening-of (w .mem) 
     pub refused-keeps-resources : submitted-under q w .state .state .resources ≡ w .state .resources
     unfolding settled
     refused-keeps-resources = rw refused-completes
+
+-- it goes on waiting until an answer is taken, and only registers are written
+pub waits-until-answered : (cs : List Call) (w : World) → NoReset cs → waits (w .state) ≡ true → taken-by-all cs w ≡ []
+    → after-all cs w ≡ registering (registers-after (acts-of-all cs w) (w .state .regs)) w
+unfolding answers-in registers-after
+waits-until-answered cs w n k a = led-waits (calls-lead cs w n) k (acts-answers cs w ∙ a)
+  where
+    led-waits : {w v : World} {xs : List Act} → Led w xs v → waits (w .state) ≡ true → answers-in xs ≡ []
+        → v ≡ registering (registers-after xs (w .state .regs)) w
+    led-waits stays k a = refl
+    led-waits {w = w} (spends g p) k a = clash g (waiting-stands-still w k)
+    led-waits (writes-one offset v h p) k a = led-waits p k a
+    led-waits (takes good h p) k a = absurd (let z : _≡_ {A = ℕ} 0 1 = cc in omega arith)
+
+-- and an answer that is lent the device's memory is taken: it settles the submission, with its resources or with error 27
+pub an-answer-settles : (w : World) (j : Job) (es : List Entry) (h : Holdings) → w .state .work ≡ waiting j es h → lent-another w ≡ false
+    → (call-answer w true ≡ record { answer = done; world = settled j Fine (h .resources) w })
+    × (call-answer w false ≡ record { answer = done; world = settled-keeping j (Broken (refusal host-failed)) w })
+unfolding call-answer
+an-answer-settles w j es h e l =
+    let awaits : waits (w .state) ≡ true = ap waits-on e in (
+      rw (l, awaits) (ap {B = Answered} (λ (x : World). record { answer = done; world = x }) (good-settles w j es h e)),
+      rw (l, awaits) (ap {B = Answered} (λ (x : World). record { answer = done; world = x }) (failed-settles w j es h e)),
+    )
+
+-- while it waits, each of its records is handed out
+pub each-record-is-handed-out : (s : State) (j : Job) (es : List Entry) (h : Holdings) → s .work ≡ waiting j es h → (i : ℕ) (c : Record)
+    → nth (h .records) i ≡ found c → call-record s i ≡ record { answer = done; range = c }
+unfolding call-record
+each-record-is-handed-out s j es h e i c k = rw (e, k)
 
 -- 6. "Each range handed out lies inside the one matching entry of that submission's table": of any device made and called, over any memories
 pub ranges-lie-in-their-one-entry : (s : State) → Called s → (i : ℕ) → call-record s i .answer ≡ done → InOneEntry s i (call-record s i .range)
@@ -122,10 +233,34 @@ pub record Allowed (w : World) (n : ℕ) : Type 0 where
   pub most : call-run w n .units ≤ n
   pub all-or-done : lent-another w ≡ false → (call-run w n .units ≡ n) ⊎ (go (call-run w n .world) ≡ false)
   pub paused : call-run w n .ended ≡ Paused → call-run w n .units ≡ n
+  -- it says how the device then stands, and spends nothing where nothing is due
+  pub ends : lent-another w ≡ false → call-run w n .ended ≡ ending (call-run w n .world .state)
+  pub still : go w ≡ false → (call-run w n .units ≡ 0) × (call-run w n .world ≡ w)
 
 pub a-run-spends-its-allowance : (w : World) (n : ℕ) → Allowed w n
+unfolding call-run
 a-run-spends-its-allowance w n =
-    record { most = never-more-than-allowed w n; all-or-done = run-spends-all-or-is-done w n; paused = paused-spent-all w n }
+    record {
+      most = never-more-than-allowed w n;
+      all-or-done = run-spends-all-or-is-done w n;
+      paused = paused-spent-all w n;
+      ends = run-ends;
+      still = run-still (lent-another w);
+    }
+  where
+    run-ends : lent-another w ≡ false → call-run w n .ended ≡ ending (call-run w n .world .state)
+    run-ends l = rw l
+
+    of-run : Bool → Ran
+    of-run b = pick b (record { answer = other-memory; units = 0; ended = Idle; world = w }) (ran (run-for n w))
+
+    run-still : (b : Bool) → go w ≡ false → (of-run b .units ≡ 0) × (of-run b .world ≡ w)
+    run-still true g = (refl, refl)
+    run-still false g = rw (run-stop go step n w g) (refl, refl)
+
+-- each unit is one of the rules' units: it works on; or finds a bad ring or no work; or settles with a rule that is broken there
+pub a-unit-is-the-rules : (w : World) → Unit w (step w)
+a-unit-is-the-rules = unit
 
 -- 10. A unit is fixed by what it reads of the memory lent at that unit: what was read ahead, and what another unit reads, cannot matter.
 pub a-unit-reads-only-its-own : (s : State) (m m′ : List ℕ) → length m ≡ length m′ → (go (lent s m) ≡ true → SameWhereRead s m m′)
