@@ -2,9 +2,12 @@
 
 use compare::desks;
 use compare::front::{Ended, Front, Ran, Record};
+use compare::generator::draw;
+use compare::player::play;
 use compare::shape::Shape;
 use std::fs;
-use zelezmut::script;
+use zelezmut::registers::ERROR_CODE;
+use zelezmut::script::{self, Operation};
 
 const DOES_NOTHING: u8 = 0;
 const INVENTS_UNITS: u8 = 1;
@@ -12,23 +15,78 @@ const ANSWERS_ALIKE: u8 = 2;
 const FORGETS_WRITES: u8 = 3;
 const TOUCHES_MEMORY: u8 = 4;
 const PANICS: u8 = 5;
+const READS_ALL_AT_OPENING: u8 = 6;
+
+/// An entry that is bad by itself.
+const BAD_ENTRY: u32 = 14;
 
 /// The plain program with one fault.
-struct Wrong<const FAULT: u8>(plain::Desk);
+struct Wrong<const FAULT: u8> {
+    desk: plain::Desk,
+    /// Memory as the first unit of the entries in work found it.
+    found: Option<Vec<u8>>,
+}
+
+impl<const FAULT: u8> Wrong<FAULT> {
+    /// A run whose every unit is as it should be, but that later entries are taken from what the first one's unit found.
+    fn run_reading_ahead(&mut self, memory: &mut [u8], allowance: u16) -> Ran {
+        let mut ran = self.desk.run(memory, 0);
+        while ran.answer == 0 && ran.units < allowance {
+            let unit = self.unit_reading_ahead(memory);
+            ran.units += unit.units;
+            ran.ended = unit.ended;
+            if unit.units == 0 {
+                break;
+            }
+        }
+        ran
+    }
+
+    fn unit_reading_ahead(&mut self, memory: &mut [u8]) -> Ran {
+        match self.error_over_zeros(memory.len()) {
+            Some(BAD_ENTRY) => {}
+            Some(_) => {
+                self.found = None;
+                return self.desk.run(memory, 1);
+            }
+            None => return self.desk.run(memory, 1),
+        }
+        let found = self.found.get_or_insert_with(|| memory.to_vec());
+        let mut after = found.clone();
+        let ran = self.desk.run(&mut after, 1);
+        // A refused entry settles its submission: what that writes is written here.
+        for (byte, (before, after)) in memory.iter_mut().zip(found.iter().zip(after)) {
+            if *before != after {
+                *byte = after;
+            }
+        }
+        ran
+    }
+
+    /// What the next unit would be refused with over memory that is all zero, which tells an entry from an opening and from a packet.
+    fn error_over_zeros(&self, memory: usize) -> Option<u32> {
+        let mut other = self.desk.clone();
+        let ran = other.run(&mut vec![0; memory], 1);
+        (ran.units == 1).then(|| other.read(ERROR_CODE).1)
+    }
+}
 
 impl<const FAULT: u8> Front for Wrong<FAULT> {
     const NAME: &'static str = "wrong";
 
     fn made_for(memory: usize) -> Self {
-        Wrong(plain::Desk::new(memory))
+        Wrong {
+            desk: plain::Desk::new(memory),
+            found: None,
+        }
     }
 
     fn write(&mut self, offset: u32, value: u32) -> u32 {
-        self.0.write(offset, value)
+        self.desk.write(offset, value)
     }
 
     fn read(&self, offset: u32) -> (u32, u32) {
-        self.0.read(offset)
+        self.desk.read(offset)
     }
 
     fn run(&mut self, memory: &mut [u8], allowance: u16) -> Ran {
@@ -40,7 +98,10 @@ impl<const FAULT: u8> Front for Wrong<FAULT> {
                 ended,
             };
         }
-        let mut ran = self.0.run(memory, allowance);
+        if FAULT == READS_ALL_AT_OPENING {
+            return self.run_reading_ahead(memory, allowance);
+        }
+        let mut ran = self.desk.run(memory, allowance);
         let waits = ran.units > 0 && ran.ended == Ended::Waiting;
         match FAULT {
             INVENTS_UNITS if waits => ran.units += 1,
@@ -52,14 +113,14 @@ impl<const FAULT: u8> Front for Wrong<FAULT> {
     }
 
     fn record(&self, i: u32) -> (u32, Record) {
-        match self.0.record(i) {
+        match self.desk.record(i) {
             (0, record) if FAULT == FORGETS_WRITES && record.kind == 3 => (4, Record::default()),
             told => told,
         }
     }
 
     fn answer(&mut self, memory: &mut [u8], good: bool) -> u32 {
-        self.0.answer(memory, good || FAULT == ANSWERS_ALIKE)
+        self.desk.answer(memory, good || FAULT == ANSWERS_ALIKE)
     }
 
     fn packed_size(shape: Shape) -> u64 {
@@ -122,4 +183,32 @@ fn a_front_that_touches_memory_is_told_apart() {
 #[test]
 fn a_front_that_panics_is_told_apart() {
     is_told_apart::<PANICS>();
+}
+
+#[test]
+fn a_front_that_reads_all_entries_at_the_first_is_told_apart() {
+    is_told_apart::<READS_ALL_AT_OPENING>();
+}
+
+/// So it is what was read too early that tells it apart: where every run goes on to its end, no byte changes between two entries.
+#[test]
+fn a_front_that_reads_all_entries_at_the_first_is_right_over_still_memory() {
+    for seed in 0..40 {
+        let mut drawn = draw(seed);
+        for operation in &mut drawn.operations {
+            if let Operation::Run { allowance } | Operation::RunElsewhere { allowance, .. } =
+                operation
+            {
+                *allowance = u16::MAX;
+            }
+        }
+        let played = play::<plain::Desk, Wrong<READS_ALL_AT_OPENING>>(
+            drawn.memory,
+            &drawn.operations,
+            |_, _| {},
+        );
+        if let Err(difference) = played {
+            panic!("desk of seed {}: {:?}", seed, difference);
+        }
+    }
 }
