@@ -31,7 +31,7 @@ module _ (s : List ℕ) where
   unfolding worldIn
   enabled-in e r h c m = refl
 
-  rung-in : (e r h c m : List ℕ) → worldIn s e r h c m .state .regs .rung ≡ setIn (getD s 12 0)
+  rung-in : (e r h c m : List ℕ) → worldIn s e r h c m .state .regs .doorbell ≡ setIn (getD s 12 0)
   unfolding worldIn
   rung-in e r h c m = refl
 
@@ -50,7 +50,7 @@ module _ (s : List ℕ) where
       ends-paused h =
           record {
             ended = λ e r x c m.
-                rw (works-on s e r x c m low, enabled-in e r x c m, is-set (getD s 3 0) on, works-in s e r x c m h, and-false (not (worldIn s e r x c m .state .regs .rung)));
+                rw (works-on s e r x c m low, enabled-in e r x c m, is-set (getD s 3 0) on, works-in s e r x c m h, and-false (not (worldIn s e r x c m .state .regs .doorbell)));
           }
 
       module _ (rests : tagIn s ≡ 0) where

@@ -67,7 +67,7 @@ goes-on e r (waiting j es held) h m = absurd (let z : _≡_ {A = ℕ} 0 1 = cc i
 module _ (q : Registers) (on : q .enabled ≡ true) where
   goes : (x : World) → midst (x .state .work) ≡ true → go (registering q x) ≡ true
   unfolding go
-  goes x m = goes-on (q .enabled) (q .rung) (x .state .work) on m
+  goes x m = goes-on (q .enabled) (q .doorbell) (x .state .work) on m
 
   -- in the midst before each of n units under q
   abbrev pub Midst : ℕ → World → Type 0

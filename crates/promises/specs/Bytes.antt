@@ -30,7 +30,7 @@ marked-by resetting m = m
 
 -- a byte's place lies outside what an event writes: the 4 bytes of the head, and the 16 of the page, where there is a page
 abbrev pub Outside : ℕ → Event → Type 0
-Outside i (settling j v rs s) = Apart i 1 (head-at j) head-size × ((s .regs .page ≡ 0) ⊎ Apart i 1 (s .regs .page) page-size)
+Outside i (settling j v rs s) = Apart i 1 (head-at j) head-size × ((s .regs .fencepage ≡ 0) ⊎ Apart i 1 (s .regs .fencepage) page-size)
 Outside i ring-refusal = 0 ≤ 0
 Outside i resetting = 0 ≤ 0
 
@@ -67,14 +67,14 @@ silent-keeps ring-refusal m h = refl
 silent-keeps resetting m h = refl
 
 -- without a page only the head is written
-pageless-byte : (j : Job) (r : Registers) (m : List ℕ) (i : ℕ) → r .page ≡ 0 → Apart i 1 (head-at j) head-size → getD (marked j r m) i 0 ≡ getD m i 0
+pageless-byte : (j : Job) (r : Registers) (m : List ℕ) (i : ℕ) → r .fencepage ≡ 0 → Apart i 1 (head-at j) head-size → getD (marked j r m) i 0 ≡ getD m i 0
 unfolding marked page-written head-written bytesOf
-pageless-byte j r m i z h = rw (eq-eqb (r .page) 0 z) (written-byte (head-at j) (bytesOf head-size (next-head (j .head))) m i h)
+pageless-byte j r m i z h = rw (eq-eqb (r .fencepage) 0 z) (written-byte (head-at j) (bytesOf head-size (next-head (j .head))) m i h)
 
 outside-keeps : (i : ℕ) (e : Event) (m : List ℕ) → Outside i e → getD (marked-by e m) i 0 ≡ getD m i 0
 outside-keeps i (settling j v rs s) m h = by-page (h .1)
   where
-    by-page : (s .regs .page ≡ 0) ⊎ Apart i 1 (s .regs .page) page-size → getD (marked j (s .regs) m) i 0 ≡ getD m i 0
+    by-page : (s .regs .fencepage ≡ 0) ⊎ Apart i 1 (s .regs .fencepage) page-size → getD (marked j (s .regs) m) i 0 ≡ getD m i 0
     by-page (inl z) = pageless-byte j (s .regs) m i z (h .0)
     by-page (inr p) = only-head-and-page j (s .regs) m i (h .0) p
 outside-keeps i ring-refusal m h = refl

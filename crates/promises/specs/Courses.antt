@@ -80,7 +80,7 @@ pub course-one : (w : World) → w .state .regs .enabled ≡ true → midst (w .
 unfolding go
 course-one w on m =
     record {
-      ends = run-go go step 0 w (goes-on (w .state .regs .enabled) (w .state .regs .rung) (w .state .work) on m) ∙ rw (run-none go step (step w));
+      ends = run-go go step 0 w (goes-on (w .state .regs .enabled) (w .state .regs .doorbell) (w .state .work) on m) ∙ rw (run-none go step (step w));
       inside = at;
     }
   where

@@ -55,11 +55,11 @@ module _ (i : ℕ) (m m′ : List ℕ) (len : length m ≡ length m′) (same : 
 
   page-both : (r : Registers) → AgreeAt i (page-written r m) (page-written r m′)
   unfolding page-written
-  page-both r = by-test (eqb (r .page) 0)
+  page-both r = by-test (eqb (r .fencepage) 0)
     where
-      by-test : (t : Bool) → AgreeAt i (pick t m (written (r .page) (page-bytes (r .completed)) m)) (pick t m′ (written (r .page) (page-bytes (r .completed)) m′))
+      by-test : (t : Bool) → AgreeAt i (pick t m (written (r .fencepage) (page-bytes (r .completed)) m)) (pick t m′ (written (r .fencepage) (page-bytes (r .completed)) m′))
       by-test true = same
-      by-test false = written-both (r .page) (page-bytes (r .completed))
+      by-test false = written-both (r .fencepage) (page-bytes (r .completed))
 
   head-both : (j : Job) → AgreeAt i (head-written j m) (head-written j m′)
   unfolding head-written

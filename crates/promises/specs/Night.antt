@@ -82,7 +82,7 @@ rests-on e r (waiting j es held) c h =
 
 rests : (w : World) → Clear w → go w ≡ true → w .state .work ≡ resting
 unfolding go
-rests w c h = rests-on (w .state .regs .enabled) (w .state .regs .rung) (w .state .work) c h
+rests w c h = rests-on (w .state .regs .enabled) (w .state .regs .doorbell) (w .state .work) c h
 
 waits-clear : (k : Work) → waits-on k ≡ true → midst k ≡ false
 waits-clear resting h = refl

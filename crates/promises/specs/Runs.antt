@@ -72,4 +72,4 @@ pub paused-spent-all : (w : World) (n : ℕ) → call-run w n .ended ≡ Paused 
 unfolding ending go
 paused-spent-all w n =
     of-run (λ (r : Ran). r .ended ≡ Paused → r .units ≡ n) w n (λ e h. absurd (let z : _≡_ {A = ℕ} 0 1 = cc in omega arith))
-    (λ e h. spends-all n w (paused-on (run-for n w .state .state .regs .enabled) (run-for n w .state .state .regs .rung) (run-for n w .state .state .work) h))
+    (λ e h. spends-all n w (paused-on (run-for n w .state .state .regs .enabled) (run-for n w .state .state .regs .doorbell) (run-for n w .state .state .work) h))

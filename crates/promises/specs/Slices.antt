@@ -21,7 +21,7 @@ world-waits w = waits (w .state)
 -- a device that waits takes no step
 pub waiting-stands-still : (w : World) → world-waits w ≡ true → go w ≡ false
 unfolding go
-waiting-stands-still w h = still-on (w .state .regs .enabled) (w .state .regs .rung) (w .state .work) h
+waiting-stands-still w h = still-on (w .state .regs .enabled) (w .state .regs .doorbell) (w .state .work) h
 
 -- runs and host answers, in order; an answer that nothing waits for is not accepted
 abbrev pub played : List (Event Bool) → World → Played World Bool

@@ -110,11 +110,11 @@ module _ (s : List ℕ) (offset v : ℕ) where
 
       pub writes-page-low : offset ≡ 0x120 → x ≡ with-low v (getD s 4 0) → Writes s offset v done (set s 4 x)
       unfolding call-write write-of lookup worldIn
-      writes-page-low o p = found-at 0x120 (λ y. with-regs (with-page (with-low v (y .regs .page)) (y .regs)) y) (set s 4 x) o (λ y. refl) (λ e r h c. spell (λ w. stateIn (set w 4 x) e r h c) s long ∙ rw p)
+      writes-page-low o p = found-at 0x120 (λ y. with-regs (with-page (with-low v (y .regs .fencepage)) (y .regs)) y) (set s 4 x) o (λ y. refl) (λ e r h c. spell (λ w. stateIn (set w 4 x) e r h c) s long ∙ rw p)
 
       pub writes-page-high : offset ≡ 0x124 → x ≡ with-high v (getD s 4 0) → Writes s offset v done (set s 4 x)
       unfolding call-write write-of lookup worldIn
-      writes-page-high o p = found-at 0x124 (λ y. with-regs (with-page (with-high v (y .regs .page)) (y .regs)) y) (set s 4 x) o (λ y. refl) (λ e r h c. spell (λ w. stateIn (set w 4 x) e r h c) s long ∙ rw p)
+      writes-page-high o p = found-at 0x124 (λ y. with-regs (with-page (with-high v (y .regs .fencepage)) (y .regs)) y) (set s 4 x) o (λ y. refl) (λ e r h c. spell (λ w. stateIn (set w 4 x) e r h c) s long ∙ rw p)
 
       pub writes-ringsize : offset ≡ 0x108 → (x ≡ v) × (x < 4294967296) → Writes s offset v done (set s 2 x)
       unfolding call-write write-of lookup worldIn

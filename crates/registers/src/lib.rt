@@ -11,9 +11,9 @@ use run_state::ERROR_CODE;
 use run_state::ERROR_COUNT;
 use run_state::ERROR_FENCE;
 use run_state::FAILED;
+use run_state::FENCE_PAGE;
 use run_state::FENCED;
 use run_state::IRQ_ENABLE;
-use run_state::PAGE;
 use run_state::RING;
 use run_state::RING_SIZE;
 use run_state::Words;
@@ -66,8 +66,8 @@ pub fn read(words: &Words, offset: u32) -> Shown
         offsets::RING_HIGH => Shown::Value(high(words[RING])),
         offsets::RING_SIZE => Shown::Value(low32(words[RING_SIZE])),
         offsets::CONTROL => Shown::Value(bit(words[ENABLED])),
-        offsets::PAGE_LOW => Shown::Value(low32(words[PAGE])),
-        offsets::PAGE_HIGH => Shown::Value(high(words[PAGE])),
+        offsets::PAGE_LOW => Shown::Value(low32(words[FENCE_PAGE])),
+        offsets::PAGE_HIGH => Shown::Value(high(words[FENCE_PAGE])),
         offsets::COMPLETED_LOW => Shown::Value(low32(words[COMPLETED])),
         offsets::COMPLETED_HIGH => Shown::Value(high(words[COMPLETED])),
         offsets::IRQ_STATUS => Shown::Value(status(words)),

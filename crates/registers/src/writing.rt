@@ -7,11 +7,11 @@ use run_state::COMPLETED;
 use run_state::DOORBELL;
 use run_state::ENABLED;
 use run_state::FAILED;
+use run_state::FENCE_PAGE;
 use run_state::FENCED;
 use run_state::IRQ_ENABLE;
 use run_state::LIVE;
 use run_state::NOTHING;
-use run_state::PAGE;
 use run_state::RING;
 use run_state::RING_SIZE;
 use run_state::TAG;
@@ -106,11 +106,11 @@ pub fn write(words: &mut Words, offset: u32, value: u32) -> u32
             DONE
         }
         offsets::PAGE_LOW => {
-            words[PAGE] = with_low(value, words[PAGE]);
+            words[FENCE_PAGE] = with_low(value, words[FENCE_PAGE]);
             DONE
         }
         offsets::PAGE_HIGH => {
-            words[PAGE] = with_high(value, words[PAGE]);
+            words[FENCE_PAGE] = with_high(value, words[FENCE_PAGE]);
             DONE
         }
         offsets::DOORBELL => {

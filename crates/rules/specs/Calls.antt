@@ -32,7 +32,7 @@ at-rest (waiting j es h) = false
 unfoldable pub ending : State → Ended
 ending s =
     pick (waits s) Waiting
-    (pick (not (s .regs .enabled) || (not (s .regs .rung) && at-rest (s .work))) Idle Paused)
+    (pick (not (s .regs .enabled) || (not (s .regs .doorbell) && at-rest (s .work))) Idle Paused)
 
 -- a number for each of the three, for exports: idle is 0, as beside a refused run
 abbrev pub ended-number : Ended → ℕ

@@ -62,8 +62,8 @@ readable r =
     ∷ shows 0x104 (high (r .ring))
     ∷ shows 0x108 (r .ringsize)
     ∷ shows 0x10c (bit (r .enabled))
-    ∷ shows 0x120 (low (r .page))
-    ∷ shows 0x124 (high (r .page))
+    ∷ shows 0x120 (low (r .fencepage))
+    ∷ shows 0x124 (high (r .fencepage))
     ∷ shows 0x130 (low (r .completed))
     ∷ shows 0x134 (high (r .completed))
     ∷ shows 0x300 (status r)
@@ -80,19 +80,19 @@ register r offset = lookup read-offset offset (readable r)
 -- ---- what is written
 
 abbrev pub with-ring : ℕ → Registers → Registers
-with-ring v r = with-written r v (r .ringsize) (r .enabled) (r .page) (r .irqenable)
+with-ring v r = with-written r v (r .ringsize) (r .enabled) (r .fencepage) (r .irqenable)
 
 abbrev pub with-ringsize : ℕ → Registers → Registers
-with-ringsize v r = with-written r (r .ring) v (r .enabled) (r .page) (r .irqenable)
+with-ringsize v r = with-written r (r .ring) v (r .enabled) (r .fencepage) (r .irqenable)
 
 abbrev pub with-enabled : Bool → Registers → Registers
-with-enabled v r = with-written r (r .ring) (r .ringsize) v (r .page) (r .irqenable)
+with-enabled v r = with-written r (r .ring) (r .ringsize) v (r .fencepage) (r .irqenable)
 
 abbrev pub with-page : ℕ → Registers → Registers
 with-page v r = with-written r (r .ring) (r .ringsize) (r .enabled) v (r .irqenable)
 
 abbrev pub with-irqenable : ℕ → Registers → Registers
-with-irqenable v r = with-written r (r .ring) (r .ringsize) (r .enabled) (r .page) v
+with-irqenable v r = with-written r (r .ring) (r .ringsize) (r .enabled) (r .fencepage) v
 
 -- "A doorbell write of any number sets the flag, enabled or not."
 abbrev pub with-doorbell : Registers → Registers
@@ -101,7 +101,7 @@ with-doorbell r = with-reported r (r .completed) (r .fenced) (r .failed) (r .err
 -- "Ack clears the status bits written as 1."
 abbrev pub acknowledged : ℕ → Registers → Registers
 acknowledged v r =
-    with-reported r (r .completed) (r .fenced && not (bit-of 0 v)) (r .failed && not (bit-of 1 v)) (r .error) (r .rung)
+    with-reported r (r .completed) (r .fenced && not (bit-of 0 v)) (r .failed && not (bit-of 1 v)) (r .error) (r .doorbell)
 
 -- "completed fence, IRQ status and doorbell flag become .. zero; error registers stay; .. other registers stay"
 unfoldable pub reset-registers : Bool → Registers → Registers
@@ -133,8 +133,8 @@ writable s v =
     ∷ gives 0x104 (with-regs (with-ring (with-high v (s .regs .ring)) (s .regs)) s)
     ∷ gives 0x108 (with-regs (with-ringsize v (s .regs)) s)
     ∷ gives 0x10c (controlled v s)
-    ∷ gives 0x120 (with-regs (with-page (with-low v (s .regs .page)) (s .regs)) s)
-    ∷ gives 0x124 (with-regs (with-page (with-high v (s .regs .page)) (s .regs)) s)
+    ∷ gives 0x120 (with-regs (with-page (with-low v (s .regs .fencepage)) (s .regs)) s)
+    ∷ gives 0x124 (with-regs (with-page (with-high v (s .regs .fencepage)) (s .regs)) s)
     ∷ gives 0x200 (with-regs (with-doorbell (s .regs)) s)
     ∷ gives 0x304 (with-regs (with-irqenable v (s .regs)) s)
     ∷ gives 0x308 (with-regs (acknowledged v (s .regs)) s)

@@ -25,12 +25,12 @@ one-more n = pick (ltb n (2 ^ 32 - 1)) (n + 1) n
 -- "Error: code, fence = signal fence, count + 1, status bit 1."
 unfoldable pub faulted : ℕ → ℕ → Registers → Registers
 faulted code fence r =
-    with-reported r (r .completed) (r .fenced) true (record { code = code; fence = fence; count = one-more (r .error .count) }) (r .rung)
+    with-reported r (r .completed) (r .fenced) true (record { code = code; fence = fence; count = one-more (r .error .count) }) (r .doorbell)
 
 -- "Completed = larger of completed and signal fence; status bit 0 is set if it rose and no-IRQ is clear."
 unfoldable pub signalled : ℕ → Bool → Registers → Registers
 signalled fence silent r =
-    with-reported r (larger (r .completed) fence) (r .fenced || (ltb (r .completed) fence && not silent)) (r .failed) (r .error) (r .rung)
+    with-reported r (larger (r .completed) fence) (r .fenced || (ltb (r .completed) fence && not silent)) (r .failed) (r .error) (r .doorbell)
 
 -- the doorbell flag cleared
 unfoldable pub doorbell-cleared : Registers → Registers
@@ -60,7 +60,7 @@ head-written j m = written (j .ring + head-offset) (bytesOf 4 (next-head (j .hea
 
 -- "the fence page is written if its GPA is non-zero and all 16 bytes fit, else not"
 unfoldable pub page-written : Registers → List ℕ → List ℕ
-page-written r m = pick (eqb (r .page) 0) m (written (r .page) (page-bytes (r .completed)) m)
+page-written r m = pick (eqb (r .fencepage) 0) m (written (r .fencepage) (page-bytes (r .completed)) m)
 
 -- "Then the head ..., then the fence page": with the registers as they now are
 unfoldable pub marked : Job → Registers → List ℕ → List ℕ

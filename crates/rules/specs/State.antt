@@ -40,24 +40,24 @@ registers-of ring ringsize enabled page completed fenced failed irqenable error 
       ring = ring;
       ringsize = ringsize;
       enabled = enabled;
-      page = page;
+      fencepage = page;
       completed = completed;
       fenced = fenced;
       failed = failed;
       irqenable = irqenable;
       error = error;
-      rung = rung;
+      doorbell = rung;
     }
 
 -- the same registers with other numbers where the guest writes: ring, its size, enabled, page, IRQ enable
 abbrev pub with-written : Registers → ℕ → ℕ → Bool → ℕ → ℕ → Registers
 with-written r ring ringsize enabled page irqenable =
-    registers-of ring ringsize enabled page (r .completed) (r .fenced) (r .failed) irqenable (r .error) (r .rung)
+    registers-of ring ringsize enabled page (r .completed) (r .fenced) (r .failed) irqenable (r .error) (r .doorbell)
 
 -- the same with others where the device tells: completed fence, the two status bits, the last error, the doorbell flag
 abbrev pub with-reported : Registers → ℕ → Bool → Bool → LastError → Bool → Registers
 with-reported r completed fenced failed error rung =
-    registers-of (r .ring) (r .ringsize) (r .enabled) (r .page) completed fenced failed (r .irqenable) error rung
+    registers-of (r .ring) (r .ringsize) (r .enabled) (r .fencepage) completed fenced failed (r .irqenable) error rung
 
 abbrev pub no-error : LastError
 no-error = record { code = 0; fence = 0; count = 0 }

@@ -92,7 +92,7 @@ busy rung (packets j s at es h) = true
 busy rung (waiting j es h) = false
 
 unfoldable pub go : World → Bool
-go w = w .state .regs .enabled && busy (w .state .regs .rung) (w .state .work)
+go w = w .state .regs .enabled && busy (w .state .regs .doorbell) (w .state .work)
 
 -- "Run stops when the allowance is spent, when idle, or when a submission waits."
 abbrev pub run-for : ℕ → World → Out World

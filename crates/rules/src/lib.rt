@@ -204,18 +204,18 @@ pub struct LastError {
     pub count: u32,
 }
 
-// The registers' numbers, and the doorbell flag (`rung`). IRQ status is its two bits.
+// The registers' numbers, and the doorbell flag. IRQ status is its two bits.
 pub struct Registers {
     pub ring: u64,
     pub ringsize: u32,
     pub enabled: bool,
-    pub page: u64,
+    pub fencepage: u64,
     pub completed: u64,
     pub fenced: bool,
     pub failed: bool,
     pub irqenable: u32,
     pub error: LastError,
-    pub rung: bool,
+    pub doorbell: bool,
 }
 
 // How a run ended.

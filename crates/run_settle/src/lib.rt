@@ -7,13 +7,13 @@ use run_state::ERROR_CODE;
 use run_state::ERROR_COUNT;
 use run_state::ERROR_FENCE;
 use run_state::FAILED;
+use run_state::FENCE_PAGE;
 use run_state::FENCED;
 use run_state::HELD;
 use run_state::JOB_SIGNAL;
 use run_state::JOB_SILENT;
 use run_state::LIVE;
 use run_state::NOTHING;
-use run_state::PAGE;
 use run_state::SIDE;
 use run_state::TAG;
 use run_state::Words;
@@ -50,7 +50,7 @@ fn finish(words: &mut Words, mem: &mut [u8])
 {
     let job = job_in(words);
     signal(words);
-    mark(mem, job, words[PAGE], words[COMPLETED]);
+    mark(mem, job, words[FENCE_PAGE], words[COMPLETED]);
 }
 
 // Settles the submission in work with an error; the device's resources stay.

@@ -21,7 +21,7 @@ pub const RING_SIZE: usize = 2;
 
 pub const ENABLED: usize = 3;
 
-pub const PAGE: usize = 4;
+pub const FENCE_PAGE: usize = 4;
 
 pub const COMPLETED: usize = 5;
 

@@ -123,7 +123,7 @@ pub marks : (gpa completed : ℕ) (j : Job) (m m₁ m₂ : List ℕ) → m₁ �
 marks gpa completed j m m₁ m₂ b c = c ∙ ap (page-put gpa completed) b
 
 -- and with the numbers of some registers it is what the rules write
-pub marks-as : (r : Registers) (j : Job) (m : List ℕ) → page-put (r .page) (r .completed) (head-written j m) ≡ marked j r m
+pub marks-as : (r : Registers) (j : Job) (m : List ℕ) → page-put (r .fencepage) (r .completed) (head-written j m) ≡ marked j r m
 unfolding marked page-written
 marks-as r j m = refl
 

@@ -85,27 +85,27 @@ module _ (j : Job) (m : List ℕ) where
   head-there h = written-stands (head-at j) (bytesOf head-size (next-head (j .head))) m head-size (length-bytesOf head-size (next-head (j .head))) h
 
 module _ (r : Registers) (m : List ℕ) where
-  by-page : (P : List ℕ → Type 0) → P m → P (written (r .page) (page-bytes (r .completed)) m) → P (page-written r m)
+  by-page : (P : List ℕ → Type 0) → P m → P (written (r .fencepage) (page-bytes (r .completed)) m) → P (page-written r m)
   unfolding page-written
-  by-page P none there = by-test (eqb (r .page) 0)
+  by-page P none there = by-test (eqb (r .fencepage) 0)
     where
-      by-test : (t : Bool) → P (pick t m (written (r .page) (page-bytes (r .completed)) m))
+      by-test : (t : Bool) → P (pick t m (written (r .fencepage) (page-bytes (r .completed)) m))
       by-test true = none
       by-test false = there
 
   pub page-length : length (page-written r m) ≡ length m
-  page-length = by-page (λ x. length x ≡ length m) refl (written-length (r .page) (page-bytes (r .completed)) m)
+  page-length = by-page (λ x. length x ≡ length m) refl (written-length (r .fencepage) (page-bytes (r .completed)) m)
 
-  page-part : (w i : ℕ) → Apart i w (r .page) page-size → take w (drop i (page-written r m)) ≡ take w (drop i m)
+  page-part : (w i : ℕ) → Apart i w (r .fencepage) page-size → take w (drop i (page-written r m)) ≡ take w (drop i m)
   page-part w i h =
-      by-page (λ x. take w (drop i x) ≡ take w (drop i m)) refl (written-part (r .page) (page-bytes (r .completed)) m w i (rw length-page-bytes h))
+      by-page (λ x. take w (drop i x) ≡ take w (drop i m)) refl (written-part (r .fencepage) (page-bytes (r .completed)) m w i (rw length-page-bytes h))
 
-  page-byte : (i : ℕ) → Apart i 1 (r .page) page-size → getD (page-written r m) i 0 ≡ getD m i 0
-  page-byte i h = by-page (λ x. getD x i 0 ≡ getD m i 0) refl (written-byte (r .page) (page-bytes (r .completed)) m i (rw length-page-bytes h))
+  page-byte : (i : ℕ) → Apart i 1 (r .fencepage) page-size → getD (page-written r m) i 0 ≡ getD m i 0
+  page-byte i h = by-page (λ x. getD x i 0 ≡ getD m i 0) refl (written-byte (r .fencepage) (page-bytes (r .completed)) m i (rw length-page-bytes h))
 
-  page-there : (r .page ≡ 0 → ⊥) → r .page + page-size ≤ length m → take page-size (drop (r .page) (page-written r m)) ≡ page-bytes (r .completed)
+  page-there : (r .fencepage ≡ 0 → ⊥) → r .fencepage + page-size ≤ length m → take page-size (drop (r .fencepage) (page-written r m)) ≡ page-bytes (r .completed)
   unfolding page-written
-  page-there some h = rw (ne-eqb (r .page) 0 some) (written-stands (r .page) (page-bytes (r .completed)) m page-size (length-page-bytes (r .completed)) h)
+  page-there some h = rw (ne-eqb (r .fencepage) 0 some) (written-stands (r .fencepage) (page-bytes (r .completed)) m page-size (length-page-bytes (r .completed)) h)
 
 -- ---- both
 
@@ -115,28 +115,28 @@ module _ (j : Job) (r : Registers) (m : List ℕ) where
   marked-length = page-length r (head-written j m) ∙ head-length j m
 
   -- a byte outside the head and the page stays
-  pub only-head-and-page : (i : ℕ) → Apart i 1 (head-at j) head-size → Apart i 1 (r .page) page-size → getD (marked j r m) i 0 ≡ getD m i 0
+  pub only-head-and-page : (i : ℕ) → Apart i 1 (head-at j) head-size → Apart i 1 (r .fencepage) page-size → getD (marked j r m) i 0 ≡ getD m i 0
   unfolding marked
   only-head-and-page i h p = page-byte r (head-written j m) i p ∙ head-byte j m i h
 
   -- and so do bytes side by side: what is read outside the head and the page is read as before
-  pub only-head-and-page-part : (w i : ℕ) → Apart i w (head-at j) head-size → Apart i w (r .page) page-size → take w (drop i (marked j r m)) ≡ take w (drop i m)
+  pub only-head-and-page-part : (w i : ℕ) → Apart i w (head-at j) head-size → Apart i w (r .fencepage) page-size → take w (drop i (marked j r m)) ≡ take w (drop i m)
   unfolding marked
   only-head-and-page-part w i h p = page-part r (head-written j m) w i p ∙ head-part j m w i h
 
   -- where the page fits, it stands there whole: it is written last
-  pub page-stands : (r .page ≡ 0 → ⊥) → r .page + page-size ≤ length m → take page-size (drop (r .page) (marked j r m)) ≡ page-bytes (r .completed)
+  pub page-stands : (r .fencepage ≡ 0 → ⊥) → r .fencepage + page-size ≤ length m → take page-size (drop (r .fencepage) (marked j r m)) ≡ page-bytes (r .completed)
   unfolding marked
   page-stands some h = page-there r (head-written j m) some (rw (head-length j m) h)
 
   -- where the head fits and the page does not lie over it, the head has moved on by one
-  pub head-stands : head-at j + head-size ≤ length m → Apart (head-at j) head-size (r .page) page-size
+  pub head-stands : head-at j + head-size ≤ length m → Apart (head-at j) head-size (r .fencepage) page-size
       → take head-size (drop (head-at j) (marked j r m)) ≡ bytesOf head-size (next-head (j .head))
   unfolding marked
   head-stands h p = page-part r (head-written j m) head-size (head-at j) p ∙ head-there j m h
 
   -- and is read as the next one
-  pub head-reads : head-at j + head-size ≤ length m → Apart (head-at j) head-size (r .page) page-size → word (marked j r m) (head-at j) ≡ next-head (j .head)
+  pub head-reads : head-at j + head-size ≤ length m → Apart (head-at j) head-size (r .fencepage) page-size → word (marked j r m) (head-at j) ≡ next-head (j .head)
   head-reads h p =
       let small : next-head (j .head) % 2 ^ 32 ≡ next-head (j .head) = omega arith in
       ap le (head-stands h p) ∙ (le-bytesOf head-size (next-head (j .head)) ∙ small)
@@ -150,9 +150,9 @@ by-verdict part Fine fence r h = refl
 by-verdict part (Broken f) fence r h = h (f .code)
 
 module _ (j : Job) (v : Verdict) (r : Registers) where
-  pub settling-keeps-page : ended-by j v r .page ≡ r .page
+  pub settling-keeps-page : ended-by j v r .fencepage ≡ r .fencepage
   unfolding ended-by signalled faulted
-  settling-keeps-page = by-verdict (λ x. x .page) v (j .signal) r (λ code. refl)
+  settling-keeps-page = by-verdict (λ x. x .fencepage) v (j .signal) r (λ code. refl)
 
   pub settling-keeps-ring : ended-by j v r .ring ≡ r .ring
   unfolding ended-by signalled faulted
