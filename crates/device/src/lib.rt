@@ -10,6 +10,7 @@ ghost use Rattle.rules.specs.Calls.{call-write, call-read, call-run, call-recor
 ghost use Rattle.device_calls.specs.Views.{valueOf, recordReadOf};
 ghost use Rattle.device.specs.Views.{stateOf, worldOf, wroteOf, ranOf, answeredOf};
 
+// A device by value: its words, the entries kept, the two tables of resources and the records.
 pub struct Device {
     pub words: [u64; 32],
     pub entries: [u64; 256],
@@ -18,11 +19,13 @@ pub struct Device {
     pub records: [u64; 320],
 }
 
+// What a write answers, and the device after it.
 pub struct Wrote {
     pub answer: u32,
     pub device: Device,
 }
 
+// What a run answers, the units spent, how it ended, and the device after it.
 pub struct Ran {
     pub answer: u32,
     pub units: u16,
@@ -30,6 +33,7 @@ pub struct Ran {
     pub device: Device,
 }
 
+// What the host's answer is answered with, and the device after it.
 pub struct Answered {
     pub answer: u32,
     pub device: Device,

@@ -5,6 +5,7 @@ ghost use mathlib.Core.Path.{_≡_};
 ghost use Prim.Native.Nat.{_≤_};
 ghost use Rattle.packet_ranges.specs.Views.{refusedWith};
 
+// A verdict, and the counts of live resources and of records made.
 pub struct Applied {
     pub verdict: Verdict,
     pub live: usize,

@@ -61,6 +61,7 @@ pub struct Shape {
     pub layers: u32,
 }
 
+// A new buffer, of so many bytes, in an entry of the table or host-backed.
 pub struct CreateBuffer {
     pub handle: u32,
     pub size: u64,
@@ -68,6 +69,7 @@ pub struct CreateBuffer {
     pub offset: u32,
 }
 
+// A new texture of a shape, in an entry of the table or host-backed.
 pub struct CreateTexture {
     pub handle: u32,
     pub shape: Shape,
@@ -76,16 +78,19 @@ pub struct CreateTexture {
     pub offset: u32,
 }
 
+// A resource that is to go.
 pub struct DestroyResource {
     pub handle: u32,
 }
 
+// A range of a resource that the host is to read again.
 pub struct DirtyRange {
     pub handle: u32,
     pub offset: u64,
     pub size: u64,
 }
 
+// Bytes of one buffer into another; flag bit 0 asks for writeback.
 pub struct CopyBuffer {
     pub dst: u32,
     pub src: u32,
@@ -152,6 +157,7 @@ pub struct Refusal {
     pub code: u32,
 }
 
+// What a check comes to: no rule is broken, or this one.
 pub enum Verdict {
     Fine,
     Broken(Refusal),

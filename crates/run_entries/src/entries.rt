@@ -17,6 +17,7 @@ pub struct EntriesPlace {
     pub why: u32,
 }
 
+// Where the entries stand after some units, and how many those were.
 pub struct EntriesRun {
     pub place: EntriesPlace,
     pub units: u16,

@@ -35,6 +35,7 @@ pub struct PacketsPlace {
     pub why: u32,
 }
 
+// Where the packets stand after some units, and how many those were.
 pub struct PacketsRun {
     pub place: PacketsPlace,
     pub units: u16,
