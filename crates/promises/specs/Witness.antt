@@ -234,7 +234,7 @@ read-alone =
     (λ _. record { header = λ _ _. refl; pending = λ _ _. record { slot = refl; ranges = λ _ _. record { table = λ _. refl; stream = λ _ _. refl } } })
     (unit {s = after-one (asking 1 .state) (guest 1)} (guest 1) entry-alone refl (λ _. refl)
     (unit {s = after-one (after-one (asking 1 .state) (guest 1)) (guest 1)} (guest 1) packet-alone refl
-    (λ _. record { header = λ _. refl; packet = λ op size e. let forty : 40 ≡ size = cc in subst (λ (n : ℕ). Agree (guest 1) packet-alone 208 n) forty refl })
+    (λ _. record { header = λ _. refl; packet = λ op size e. let is : create-buffer ≡ op = cc in subst (λ (n : ℕ). Agree (guest 1) packet-alone 208 (least-size n)) is refl })
     ends))
 
 -- and so it waits with the same entry, resource and record
