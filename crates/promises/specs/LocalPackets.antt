@@ -29,7 +29,8 @@ pub record SamePacket (m m′ : List ℕ) (s : Stream) (at : ℕ) : Type 0 where
 -- ---- some bytes, whatever they are a part of
 
 module _ (b b′ : List ℕ) (len : length b ≡ length b′) where
-  same-frame : (packet-header-size ≤ length b → Agree b b′ 0 packet-header-size) → frame-of b ≡ frame-of b′
+  -- the frame is the header's and the number of bytes'
+  pub same-frame : (packet-header-size ≤ length b → Agree b b′ 0 packet-header-size) → frame-of b ≡ frame-of b′
   unfolding frame-of frame-rules
   same-frame h = by-test (ltb (length b′) packet-header-size) refl
     where
