@@ -21,7 +21,7 @@ use Rattle.rules.specs.State.{Work, State, World, working}
 use Rattle.rules.specs.State.Work.{resting, entries, packets, waiting}
 use Rattle.rules.specs.Settle.{settled, settled-keeping}
 use Rattle.rules.specs.Steps.{packets-at, entries-at, after-opening, open-step, after-entry, entry-step, after-packet, next-place, packet-step, step-on, step, go, run-for}
-use Rattle.rules.specs.Unsliced.{submission, finished, submitted-on, submitted}
+use Rattle.rules.specs.Unsliced.{Submission, submission, finished, submitted-on, submitted}
 use Rattle.rules.specs.declared.Entry.{Entry}
 use Rattle.rules.specs.declared.Job.{Job}
 use Rattle.rules.specs.declared.Refusal.{Refusal}
@@ -224,3 +224,30 @@ module _ (m m′ : List ℕ) (len : length m ≡ length m′) where
           rw (run-go go step n (lent s m) g, run-go go step n (lent s m′) g) (record { units = ap (λ (k : ℕ). 1 + k) (all .units); end = all .end })
       by-test false g ih =
           rw (run-stop go step (suc n) (lent s m) g, run-stop go step (suc n) (lent s m′) g) (record { units = refl; end = record { state = refl; writes = unwritten } })
+
+  module _ (s : State) (same : SameAhead (s .regs) resting m m′) where
+    -- a whole submission by the unsliced rules: as many units, and the same error and fence, or the same resources and records that wait
+    pub appended-bytes-same-outcome : SameOut m m′ (submitted (lent s m)) (submitted (lent s m′))
+    unfolding submitted settled
+    appended-bytes-same-outcome =
+        rw (← same-opening m m′ len (s .regs .ring) (s .regs .ringsize) (same .0)) (by-opening (opening-of m (s .regs .ring) (s .regs .ringsize)) (same .1))
+      where
+        finished-same : (j : Job) (es : List Entry) (h : Holdings) (v : Verdict) → SameEnd m m′ (finished (lent s m) j es h v) (finished (lent s m′) j es h v)
+        finished-same j es h Fine = record { state = refl; writes = unwritten }
+        finished-same j es h (Broken r) = record { state = refl; writes = settles j }
+
+        by-opening : (v : Opening) → ((o : Opened) → v ≡ Started o → SameSubmission m m′ o 0) → SameOut m m′ (submitted-on (lent s m) v) (submitted-on (lent s m′) v)
+        by-opening BadRing ahead = record { units = refl; end = record { state = refl; writes = unwritten } }
+        by-opening NoWork ahead = record { units = refl; end = record { state = refl; writes = unwritten } }
+        by-opening (Refused j r) ahead = record { units = refl; end = finished-same j [] (at-first (s .resources)) (Broken r) }
+        by-opening (Started o) ahead =
+            let held : Holdings = at-first (s .resources) in
+            let judged : Submission = submission m o held in
+            rw (← same-table m m′ len o (ahead o refl), ← appended-bytes-same-submission m m′ len o (ahead o refl) held)
+            (record { units = refl; end = finished-same (o .job) (entries-of m (o .table)) (judged .held) (judged .verdict) })
+
+    -- and each of its units, from the opening on
+    pub appended-bytes-at-each-unit : s .work ≡ resting → go (lent s m) ≡ true → (n : ℕ) → n ≤ submitted (lent s m) .units
+        → SameOut m m′ (run-for n (lent s m)) (run-for n (lent s m′))
+    appended-bytes-at-each-unit rest g n h =
+        appended-bytes-unit-by-unit n s (rw rest same) (λ i some below. submits (lent s m) rest g .inside i some (omega arith))
