@@ -12,8 +12,8 @@ use lib.Seq.{drop-drop}
 use Rattle.machine.specs.Machine.{pick, Out, run-none, run-stop, run-go}
 use Rattle.rules.specs.Judging.{refusal}
 use Rattle.rules.specs.Layouts.{entry, stream-header-size}
-use Rattle.rules.specs.Numbers.{bad-entry}
-use Rattle.rules.specs.Table.{entry-place, entry-rules, entries-of, Taken, keep, in-reach, take-entry}
+use Rattle.rules.specs.Numbers.{bad-entry, other-memory}
+use Rattle.rules.specs.Table.{entry-place, entry-rules, entries-of, keep, in-reach, take-entry}
 use Rattle.rules.specs.Stream.{least-size, frame-rules, frame-of, size-of, left, stream-bytes}
 use Rattle.rules.specs.Ring.{opening-of}
 use Rattle.rules.specs.Packets.{Holdings, at-first, apply-frame, take-packet}
@@ -22,6 +22,7 @@ use Rattle.rules.specs.State.Work.{resting, entries, packets, waiting}
 use Rattle.rules.specs.Settle.{settled, settled-keeping}
 use Rattle.rules.specs.Steps.{packets-at, entries-at, after-opening, open-step, after-entry, entry-step, after-packet, next-place, packet-step, step-on, step, go, run-for}
 use Rattle.rules.specs.Unsliced.{Submission, submission, finished, submitted-on, submitted}
+use Rattle.rules.specs.Calls.{lent-another, ending, Ran, ran, call-run}
 use Rattle.rules.specs.declared.Entry.{Entry}
 use Rattle.rules.specs.declared.Job.{Job}
 use Rattle.rules.specs.declared.Refusal.{Refusal}
@@ -33,6 +34,7 @@ use Rattle.rules.specs.declared.Frame.{Frame}
 use Rattle.rules.specs.declared.Frame.the-variants.{Whole, Misframed}
 use Rattle.rules.specs.declared.Verdict.{Verdict}
 use Rattle.rules.specs.declared.Verdict.the-variants.{Fine, Broken}
+use Rattle.rules.specs.declared.Ended.the-variants.{Idle}
 use Rattle.rules.specs.declared.Opening.{Opening}
 use Rattle.rules.specs.declared.Opening.the-variants.{BadRing, NoWork, Refused, Started}
 use Rattle.rule_laws.specs.Fine.{broken-not-fine}
@@ -42,7 +44,7 @@ use Rattle.promises.specs.LocalBytes.{Agree}
 use Rattle.promises.specs.LocalWrites.SameWrites.{unwritten, settles}
 use Rattle.promises.specs.LocalPackets.{same-taken}
 use Rattle.promises.specs.LocalOpening.{SameOpening, same-opening}
-use Rattle.promises.specs.Locality.{lent, SameEnd, same-taken-entry}
+use Rattle.promises.specs.Locality.{lent, SameEnd, SameRun, same-taken-entry}
 use Rattle.promises.specs.Appended.{SameButAppended, SameSubmission, same-table, appended-bytes-same-submission}
 use Rattle.promises.specs.Appended.SameButAppended.{ends, packet, misframed}
 
@@ -224,6 +226,21 @@ module _ (m m′ : List ℕ) (len : length m ≡ length m′) where
           rw (run-go go step n (lent s m) g, run-go go step n (lent s m′) g) (record { units = ap (λ (k : ℕ). 1 + k) (all .units); end = all .end })
       by-test false g ih =
           rw (run-stop go step (suc n) (lent s m) g, run-stop go step (suc n) (lent s m′) g) (record { units = refl; end = record { state = refl; writes = unwritten } })
+
+  -- the same of a call to run: its answer, its units, how it ended, and its end
+  pub appended-bytes-same-run : (n : ℕ) (s : State) → SameAhead (s .regs) (s .work) m m′
+      → ((i : ℕ) → 0 < i → i < n → midst (run-for i (lent s m) .state .state .work) ≡ true)
+      → SameRun m m′ (call-run (lent s m) n) (call-run (lent s m′) n)
+  unfolding call-run
+  appended-bytes-same-run n s same inside = rw (← len) (by-test (lent-another (lent s m)) (appended-bytes-unit-by-unit n s same inside))
+    where
+      refused : World → Ran
+      refused w = record { answer = other-memory; units = 0; ended = Idle; world = w }
+
+      by-test : (t : Bool) → SameOut m m′ (run-for n (lent s m)) (run-for n (lent s m′))
+          → SameRun m m′ (pick t (refused (lent s m)) (ran (run-for n (lent s m)))) (pick t (refused (lent s m′)) (ran (run-for n (lent s m′))))
+      by-test true run = record { answer = refl; units = refl; ended = refl; end = record { state = refl; writes = unwritten } }
+      by-test false run = record { answer = refl; units = run .units; ended = ap ending (run .end .state); end = run .end }
 
   module _ (s : State) (same : SameAhead (s .regs) resting m m′) where
     -- a whole submission by the unsliced rules: as many units, and the same error and fence, or the same resources and records that wait
