@@ -58,7 +58,7 @@ appended-bytes-cannot-matter m m′ s s′ size same es h =
 
 -- ---- a submission, of what was opened
 
--- what a submission reads once it has kept i entries, the same in two memories but for appended bytes
+-- what a submission still reads once it has kept i entries, the same in two memories but for appended bytes
 pub record SameSubmission (m m′ : List ℕ) (o : Opened) (i : ℕ) : Type 0 where
   pub table : (k : ℕ) → i ≤ k → k < o .table .count → Agree m m′ (entry-place (o .table) k) entry-size
   pub stream : SameButAppended (left m (o .stream) stream-header-size) (left m′ (o .stream) stream-header-size)
@@ -71,35 +71,40 @@ same-entries m m′ t (suc n) i same =
     rw (same-entry m m′ (entry-place t i) (same i (omega arith) (omega arith)), same-entries m m′ t n (suc i) (λ k h l. same k (omega arith) (omega arith)))
 
 module _ (m m′ : List ℕ) (len : length m ≡ length m′) (o : Opened) (same : SameSubmission m m′ o 0) where
+  -- the same entries
   pub same-table : entries-of m (o .table) ≡ entries-of m′ (o .table)
   same-table = same-entries m m′ (o .table) (o .table .count) 0 (λ k h l. same .table k h (omega arith))
 
   -- the unsliced rules come to the same verdict, resources, records and units
   pub appended-bytes-same-submission : (h : Holdings) → submission m o h ≡ submission m′ o h
   unfolding submission
-  appended-bytes-same-submission h = rw (len, same-table, appended-bytes-cannot-matter m m′ (o .stream) (o .stream) refl (same .stream) (entries-of m′ (o .table)) h)
+  appended-bytes-same-submission h =
+      rw (len, same-table, appended-bytes-cannot-matter m m′ (o .stream) (o .stream) refl (same .stream) (entries-of m′ (o .table)) h)
 
 -- ---- of bytes: any that are appended to a packet may be exchanged for as many others
 
-same-within : (k : ℕ) (b : List ℕ) → length b ≤ k → SameButAppended b b
-same-within zero b h = by-frame (frame-of b) refl
+same-here : (b : List ℕ) → ((op size : ℕ) → frame-of b ≡ Whole op size → SameButAppended (drop size b) (drop size b)) → SameButAppended b b
+same-here b later = by-frame (frame-of b) refl
   where
     by-frame : (f : Frame) → frame-of b ≡ f → SameButAppended b b
-    by-frame (Whole op size) e = absurd (omega (arith, whole-some b op size e))
+    by-frame (Whole op size) e = packet op size e e refl (later op size e)
     by-frame (Misframed r) e = misframed r refl e e
-same-within (suc k) b h = by-frame (frame-of b) refl (λ size some. same-within k (drop size b) (rw length-drop (omega arith)))
-  where
-    by-frame : (f : Frame) → frame-of b ≡ f → ((size : ℕ) → packet-header-size ≤ size → SameButAppended (drop size b) (drop size b)) → SameButAppended b b
-    by-frame (Whole op size) e later = packet op size e e refl (later size (frame-sound b op size e .header))
-    by-frame (Misframed r) e later = misframed r refl e e
 
--- where nothing differs
+same-within : (k : ℕ) (b : List ℕ) → length b ≤ k → SameButAppended b b
+same-within zero b h = same-here b (λ op size e. absurd (omega (arith, whole-some b op size e)))
+same-within (suc k) b h =
+    same-here b (λ op size e.
+    let head : packet-header-size ≤ size = frame-sound b op size e .header in
+    same-within k (drop size b) (rw length-drop (omega arith)))
+
+-- a stream and itself
 pub same-stream : (b : List ℕ) → SameButAppended b b
 same-stream b = same-within (length b) b (omega arith)
 
--- x is a packet up to its row's bytes at least, y or y′ stands behind it up to its size, and behind that z or z′, which are such streams too
-module _ (x y y′ z z′ : List ℕ) (head : packet-header-size ≤ length x) (row : least-size (word x 0) ≤ length x) (size-is : word x 4 ≡ length x + length y)
-    (len : length y ≡ length y′) (later-len : length z ≡ length z′) (later : SameButAppended z z′) where
+-- x has a packet's header and its row's bytes at least, y or y′ stands behind it up to the packet's size, and behind that z or z′, the same
+-- but for appended bytes
+module _ (x y y′ z z′ : List ℕ) (head : packet-header-size ≤ length x) (row : least-size (word x 0) ≤ length x)
+    (size-is : word x 4 ≡ length x + length y) (len : length y ≡ length y′) (later-len : length z ≡ length z′) (later : SameButAppended z z′) where
   abbrev one : List ℕ
   one = x ++ (y ++ z)
 
@@ -127,5 +132,6 @@ module _ (x y y′ z z′ : List ℕ) (head : packet-header-size ≤ length x) (
       (rw (rest, rest′) later)
   by-frame (Misframed r) e = misframed r as-long e (sym (same-frame one other as-long (λ _. front packet-header-size head)) ∙ e)
 
+  -- whatever y and y′ are
   pub exchanged : SameButAppended one other
   exchanged = by-frame (frame-of one) refl

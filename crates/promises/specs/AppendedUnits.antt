@@ -80,6 +80,10 @@ module _ (op size : ℕ) where
 
 -- ---- one unit
 
+-- where nothing is written
+same-unwritten : (m m′ : List ℕ) (s : State) → SameEnd m m′ (lent s m) (lent s m′)
+same-unwritten m m′ s = record { state = refl; writes = unwritten }
+
 -- two worlds after a unit: the same end, and in the midst of the submission m and m′ stand as they were, the same ahead
 record Onward (m m′ : List ℕ) (w w′ : World) : Type 0 where
   end : SameEnd m m′ w w′
@@ -92,7 +96,7 @@ at-rest m m′ w w′ rests same = record { end = same; ahead = λ h. absurd (le
 module _ (s : State) (m m′ : List ℕ) where
   -- a unit that writes nothing
   goes-on : (k : Work) → SameAhead (s .regs) k m m′ → Onward m m′ (working k (lent s m)) (working k (lent s m′))
-  goes-on k same = record { end = record { state = refl; writes = unwritten }; ahead = λ _. (refl, (refl, same)) }
+  goes-on k same = record { end = same-unwritten m m′ _; ahead = λ _. (refl, (refl, same)) }
 
   -- and one that settles, after which no submission is in work
   stops : (j : Job) (r : Refusal) → Onward m m′ (settled-keeping j (Broken r) (lent s m)) (settled-keeping j (Broken r) (lent s m′))
@@ -118,8 +122,8 @@ module _ (s : State) (m m′ : List ℕ) where
 
   opening-onward : s .work ≡ resting → (v : Opening) → ((o : Opened) → v ≡ Started o → SameSubmission m m′ o 0)
       → Onward m m′ (after-opening (lent s m) v) (after-opening (lent s m′) v)
-  opening-onward rest BadRing same = at-rest m m′ _ _ (ap midst rest) (record { state = refl; writes = unwritten })
-  opening-onward rest NoWork same = at-rest m m′ _ _ (ap midst rest) (record { state = refl; writes = unwritten })
+  opening-onward rest BadRing same = at-rest m m′ _ _ (ap midst rest) (same-unwritten m m′ _)
+  opening-onward rest NoWork same = at-rest m m′ _ _ (ap midst rest) (same-unwritten m m′ _)
   opening-onward rest (Refused j r) same = stops j r
   opening-onward rest (Started o) same = goes-on (entries-at o [] (s .resources)) (entries-ahead o [] (s .resources) (same o refl))
 
@@ -179,7 +183,7 @@ module _ (m m′ : List ℕ) (len : length m ≡ length m′) where
       rw (← frames, ← taken)
       (packet-onward s m m′ j t (next-place at (left m t at)) es (take-packet es h (left m t at) .held) (take-packet es h (left m t at) .verdict)
       (packet-behind m m′ t at es h same))
-  unit-on s (waiting j es h) e same = at-rest m m′ _ _ (ap midst e) (record { state = refl; writes = unwritten })
+  unit-on s (waiting j es h) e same = at-rest m m′ _ _ (ap midst e) (same-unwritten m m′ _)
 
   unit-onward : (s : State) → SameAhead (s .regs) (s .work) m m′ → Onward m m′ (step (lent s m)) (step (lent s m′))
   unfolding step
@@ -209,7 +213,7 @@ module _ (m m′ : List ℕ) (len : length m ≡ length m′) where
       → SameOut m m′ (run-for n (lent s m)) (run-for n (lent s m′))
   unfolding go
   appended-bytes-unit-by-unit zero s same inside =
-      rw (run-none go step (lent s m), run-none go step (lent s m′)) (record { units = refl; end = record { state = refl; writes = unwritten } })
+      rw (run-none go step (lent s m), run-none go step (lent s m′)) (record { units = refl; end = same-unwritten m m′ _ })
   appended-bytes-unit-by-unit (suc n) s same inside = by-test (go (lent s m)) refl (λ x. appended-bytes-unit-by-unit n x)
     where
       by-test : (t : Bool) → go (lent s m) ≡ t
@@ -225,7 +229,7 @@ module _ (m m′ : List ℕ) (len : length m ≡ length m′) where
           (λ is ahead. ih (step (lent s m) .state) ahead (λ i some h. subst (λ (x : World). midst (run-for i x .state .state .work) ≡ true) is (on i h (omega arith)))) in
           rw (run-go go step n (lent s m) g, run-go go step n (lent s m′) g) (record { units = ap (λ (k : ℕ). 1 + k) (all .units); end = all .end })
       by-test false g ih =
-          rw (run-stop go step (suc n) (lent s m) g, run-stop go step (suc n) (lent s m′) g) (record { units = refl; end = record { state = refl; writes = unwritten } })
+          rw (run-stop go step (suc n) (lent s m) g, run-stop go step (suc n) (lent s m′) g) (record { units = refl; end = same-unwritten m m′ _ })
 
   -- the same of a call to run: its answer, its units, how it ended, and its end
   pub appended-bytes-same-run : (n : ℕ) (s : State) → SameAhead (s .regs) (s .work) m m′
@@ -239,7 +243,7 @@ module _ (m m′ : List ℕ) (len : length m ≡ length m′) where
 
       by-test : (t : Bool) → SameOut m m′ (run-for n (lent s m)) (run-for n (lent s m′))
           → SameRun m m′ (pick t (refused (lent s m)) (ran (run-for n (lent s m)))) (pick t (refused (lent s m′)) (ran (run-for n (lent s m′))))
-      by-test true run = record { answer = refl; units = refl; ended = refl; end = record { state = refl; writes = unwritten } }
+      by-test true run = record { answer = refl; units = refl; ended = refl; end = same-unwritten m m′ _ }
       by-test false run = record { answer = refl; units = run .units; ended = ap ending (run .end .state); end = run .end }
 
   module _ (s : State) (same : SameAhead (s .regs) resting m m′) where
@@ -250,12 +254,12 @@ module _ (m m′ : List ℕ) (len : length m ≡ length m′) where
         rw (← same-opening m m′ len (s .regs .ring) (s .regs .ringsize) (same .0)) (by-opening (opening-of m (s .regs .ring) (s .regs .ringsize)) (same .1))
       where
         finished-same : (j : Job) (es : List Entry) (h : Holdings) (v : Verdict) → SameEnd m m′ (finished (lent s m) j es h v) (finished (lent s m′) j es h v)
-        finished-same j es h Fine = record { state = refl; writes = unwritten }
+        finished-same j es h Fine = same-unwritten m m′ _
         finished-same j es h (Broken r) = record { state = refl; writes = settles j }
 
         by-opening : (v : Opening) → ((o : Opened) → v ≡ Started o → SameSubmission m m′ o 0) → SameOut m m′ (submitted-on (lent s m) v) (submitted-on (lent s m′) v)
-        by-opening BadRing ahead = record { units = refl; end = record { state = refl; writes = unwritten } }
-        by-opening NoWork ahead = record { units = refl; end = record { state = refl; writes = unwritten } }
+        by-opening BadRing ahead = record { units = refl; end = same-unwritten m m′ _ }
+        by-opening NoWork ahead = record { units = refl; end = same-unwritten m m′ _ }
         by-opening (Refused j r) ahead = record { units = refl; end = finished-same j [] (at-first (s .resources)) (Broken r) }
         by-opening (Started o) ahead =
             let held : Holdings = at-first (s .resources) in

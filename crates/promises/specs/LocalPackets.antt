@@ -21,7 +21,8 @@ use Rattle.rules.specs.declared.Frame.the-variants.{Whole, Misframed}
 use Rattle.stream_packets.specs.Framing.{FrameFits, frame-sound}
 use Rattle.promises.specs.LocalBytes.{Agree, front-read, same-first, same-field, packet-reads-only}
 
--- two memories hold the same bytes where the unit of the packet at a place of the stream reads
+-- two memories hold the same bytes where the unit of the packet at a place of the stream reads: its header if one is left, and of a framed
+-- packet as many bytes as its opcode's row has, which are none for an unknown one
 pub record SamePacket (m m′ : List ℕ) (s : Stream) (at : ℕ) : Type 0 where
   pub header : packet-header-size ≤ length (left m s at) → Agree m m′ (s .gpa + at) packet-header-size
   pub packet : (op size : ℕ) → frame-of (left m s at) ≡ Whole op size → Agree m m′ (s .gpa + at) (least-size op)
