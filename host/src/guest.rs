@@ -42,7 +42,7 @@ fn header(bytes: &mut [u8], magic: [u8; 4], size: u32) {
 
 /// The bytes of what is lent, as a size field says them.
 fn size_of(bytes: &[u8]) -> u32 {
-    u32::try_from(bytes.len()).expect("a table or stream of less than 4 GiB")
+    u32::try_from(bytes.len()).expect("a table, stream or packet of less than 4 GiB")
 }
 
 /// The header of a ring whose slots stand close together after it: submissions from `head` to before `tail` are pending.
@@ -228,7 +228,7 @@ pub enum Packet {
 }
 
 impl Packet {
-    /// The packet's row of document 01's table.
+    /// The packet's row of document 01's table. A known packet may be longer than its row says, not shorter.
     fn opcode_and_size(&self) -> (u32, u32) {
         match *self {
             Packet::CreateBuffer { .. } => (256, 40),
@@ -247,6 +247,28 @@ impl Packet {
         word(&mut bytes, 0, opcode);
         word(&mut bytes, 4, size);
         self.put_fields(&mut bytes);
+        bytes
+    }
+
+    /// The packet's bytes as a driver of a higher minor version sends them: its own fields, and these words appended, which the
+    /// front ignores. So it comes to what [`to_bytes`](Packet::to_bytes) comes to; [`stream_of`] puts it into a stream.
+    ///
+    /// ```
+    /// use zelezmut::guest::Packet;
+    ///
+    /// let destroy = Packet::Destroy { handle: 7 };
+    /// let grown = destroy.grown(&[1, 2]);
+    /// assert_eq!(grown.len(), 24);
+    /// assert_eq!(grown[4..8], 24u32.to_le_bytes());
+    /// assert_eq!(grown[8..16], destroy.to_bytes()[8..]);
+    /// ```
+    pub fn grown(&self, appended: &[u32]) -> Vec<u8> {
+        let mut bytes = self.to_bytes();
+        for value in appended {
+            bytes.extend(value.to_le_bytes());
+        }
+        let size = size_of(&bytes);
+        word(&mut bytes, 4, size);
         bytes
     }
 
@@ -315,9 +337,15 @@ fn put_backing(bytes: &mut [u8], at: usize, backing: Option<Backing>) {
 
 /// A command stream's bytes.
 pub fn stream(packets: &[Packet]) -> Vec<u8> {
+    let packets: Vec<Vec<u8>> = packets.iter().map(Packet::to_bytes).collect();
+    stream_of(&packets)
+}
+
+/// A command stream's bytes, of packets that are bytes already: some [grown](Packet::grown), some not.
+pub fn stream_of(packets: &[Vec<u8>]) -> Vec<u8> {
     let mut bytes = vec![0; STREAM_HEADER];
     for packet in packets {
-        bytes.extend(packet.to_bytes());
+        bytes.extend(packet);
     }
     let size = size_of(&bytes);
     header(&mut bytes, *b"ACMD", size);

@@ -1,6 +1,7 @@
-//! Desk scripts, version 1: a night at the desk as a file, the same on every front that plays it.
+//! Desk scripts, versions 1 and 2: a night at the desk as a file, the same on every front that plays it.
 //!
-//! A script is "DESK", the memory's length, and operations to the end of the file. [`decode`] reads one, [`encode`] writes one,
+//! A script of version 2 is "DSK2", the memory's length, a word that says which wishes its writer knew, and operations to the
+//! end of the file; one of version 1 begins with "DESK" and lacks that word. [`decode`] reads both, [`encode`] writes version 2,
 //! and [`transcript`] plays one on a [`Desk`](crate::Desk) and gives a line for each operation.
 //!
 //! ```
@@ -23,7 +24,11 @@ use crate::HostAnswer;
 use std::error::Error;
 use std::fmt;
 
-const MAGIC: [u8; 4] = *b"DESK";
+const MAGIC_1: [u8; 4] = *b"DESK";
+const MAGIC_2: [u8; 4] = *b"DSK2";
+
+/// What [`encode`] says of itself: bit N for wish N. Nobody who plays a script asks for it.
+const WISHES: u32 = 1 << 2;
 
 /// The most bytes that a script has.
 pub const LONGEST_SCRIPT: usize = 1 << 20;
@@ -101,7 +106,7 @@ pub enum Operation {
 pub enum Fault {
     /// It is longer than [`LONGEST_SCRIPT`].
     LongScript,
-    /// It does not begin with "DESK".
+    /// It begins with neither "DESK" nor "DSK2".
     NoMagic,
     /// A memory of so many bytes is asked for, more than [`LONGEST_MEMORY`].
     LongMemory(u32),
@@ -130,7 +135,10 @@ impl fmt::Display for Fault {
                 "longer than the {} bytes of a desk script",
                 LONGEST_SCRIPT
             ),
-            Fault::NoMagic => write!(f, "no desk script: it does not begin with \"DESK\""),
+            Fault::NoMagic => write!(
+                f,
+                "no desk script: it begins with neither \"DESK\" nor \"DSK2\""
+            ),
             Fault::LongMemory(length) => write!(
                 f,
                 "a memory of {} bytes is asked for, more than {}",
@@ -171,17 +179,26 @@ fn read_script(rest: &mut Reader<'_>, script: &mut Script) -> Result<(), Fault> 
     if rest.bytes.len() > LONGEST_SCRIPT {
         return Err(Fault::LongScript);
     }
-    let magic = rest.field::<4>()?;
-    let length = rest.u32()?;
-    if magic != MAGIC {
-        return Err(Fault::NoMagic);
-    }
-    script.memory = memory_length(length)?;
+    script.memory = read_head(rest)?;
     while let Some((&tag, after)) = rest.bytes.split_first() {
         rest.bytes = after;
         script.operations.push(operation(tag, rest)?);
     }
     Ok(())
+}
+
+/// The memory's length. A head is read whole before the length is judged.
+fn read_head(rest: &mut Reader<'_>) -> Result<u32, Fault> {
+    let magic = rest.field()?;
+    let length = rest.u32()?;
+    match magic {
+        MAGIC_1 => {}
+        MAGIC_2 => {
+            rest.u32()?;
+        }
+        _ => return Err(Fault::NoMagic),
+    }
+    memory_length(length)
 }
 
 fn memory_length(length: u32) -> Result<u32, Fault> {
@@ -266,13 +283,14 @@ impl<'a> Reader<'a> {
     }
 }
 
-/// Writes a script. What is longer than a script may be is written all the same, and is refused by whoever plays it.
+/// Writes a script of version 2. What is longer than a script may be is written all the same, and is refused by whoever plays it.
 ///
 /// # Panics
 /// If a poke has 4 GiB or more, which no script can say.
 pub fn encode(memory: u32, operations: &[Operation]) -> Vec<u8> {
-    let mut script = MAGIC.to_vec();
+    let mut script = MAGIC_2.to_vec();
     script.extend(memory.to_le_bytes());
+    script.extend(WISHES.to_le_bytes());
     for operation in operations {
         encode_operation(&mut script, operation);
     }
@@ -362,6 +380,16 @@ mod tests {
         ]
     }
 
+    /// The bytes of a head, in version 1 and in version 2.
+    const HEADS: [usize; 2] = [8, 12];
+
+    /// The same script in version 1 and in version 2.
+    fn both(memory: u32, operations: &[Operation]) -> [Vec<u8>; 2] {
+        let second = encode(memory, operations);
+        let first = [&MAGIC_1, &second[4..8], &second[12..]].concat();
+        [first, second]
+    }
+
     fn bad(fault: Fault) -> Script {
         Script {
             memory: 0,
@@ -373,48 +401,85 @@ mod tests {
     #[test]
     fn what_is_written_is_read_back() {
         let operations = every_operation();
-        let script = decode(&encode(4096, &operations));
-        assert_eq!(
-            script,
-            Script {
-                memory: 4096,
-                operations,
-                fault: None
-            }
-        );
+        for bytes in both(4096, &operations) {
+            assert_eq!(
+                decode(&bytes),
+                Script {
+                    memory: 4096,
+                    operations: operations.clone(),
+                    fault: None
+                }
+            );
+        }
     }
 
     #[test]
     fn the_bytes_are_the_formats() {
-        let script = encode(0x1234, &[Operation::Run { allowance: 0x0506 }]);
-        assert_eq!(script, b"DESK\x34\x12\x00\x00\x04\x06\x05");
+        let [first, second] = both(0x1234, &[Operation::Run { allowance: 0x0506 }]);
+        assert_eq!(first, b"DESK\x34\x12\x00\x00\x04\x06\x05");
+        assert_eq!(second, b"DSK2\x34\x12\x00\x00\x04\x00\x00\x00\x04\x06\x05");
+    }
+
+    #[test]
+    fn nobody_asks_which_wishes_the_writer_knew() {
+        let written = encode(4096, &every_operation());
+        for wishes in [0, 1, 4, 1 << 31, u32::MAX] {
+            let mut other = written.clone();
+            other[8..12].copy_from_slice(&wishes.to_le_bytes());
+            assert_eq!(decode(&other), decode(&written));
+        }
     }
 
     #[test]
     fn a_script_that_is_cut_anywhere_keeps_what_stands_before() {
         let operations = every_operation();
-        let whole = encode(4096, &operations);
-        let mut ends = vec![8];
-        for operation in &operations {
-            let size = encode(0, std::slice::from_ref(operation)).len() - 8;
-            ends.push(ends[ends.len() - 1] + size);
+        for (whole, head) in both(4096, &operations).iter().zip(HEADS) {
+            let mut ends = vec![head];
+            for operation in &operations {
+                let size = encode(0, std::slice::from_ref(operation)).len() - encode(0, &[]).len();
+                ends.push(ends[ends.len() - 1] + size);
+            }
+            for cut in 0..whole.len() {
+                let script = decode(&whole[..cut]);
+                let kept = ends.iter().filter(|&&end| end <= cut).count();
+                assert_eq!(script.operations[..], operations[..kept.saturating_sub(1)]);
+                let fault = if ends.contains(&cut) {
+                    None
+                } else {
+                    Some(Fault::Truncated)
+                };
+                assert_eq!(script.fault, fault, "head of {}, cut at {}", head, cut);
+            }
         }
-        for cut in 0..whole.len() {
-            let script = decode(&whole[..cut]);
-            let kept = ends.iter().filter(|&&end| end <= cut).count();
-            assert_eq!(script.operations[..], operations[..kept.saturating_sub(1)]);
-            let fault = if ends.contains(&cut) {
-                None
-            } else {
-                Some(Fault::Truncated)
-            };
-            assert_eq!(script.fault, fault, "cut at {}", cut);
+    }
+
+    #[test]
+    fn a_head_is_read_whole_before_it_is_judged() {
+        let head = encode(u32::MAX, &[]);
+        for cut in 0..head.len() {
+            assert_eq!(
+                decode(&head[..cut]),
+                bad(Fault::Truncated),
+                "cut at {}",
+                cut
+            );
+        }
+        assert_eq!(decode(&head), bad(Fault::LongMemory(u32::MAX)));
+        // A wrong magic is told from 8 bytes on, as in version 1.
+        for cut in 8..head.len() {
+            let mut other = head[..cut].to_vec();
+            other[3] = b'3';
+            assert_eq!(decode(&other), bad(Fault::NoMagic), "cut at {}", cut);
         }
     }
 
     #[test]
     fn a_file_that_is_no_script_is_bad() {
         assert_eq!(decode(b"DUSK\x00\x00\x00\x00"), bad(Fault::NoMagic));
+        assert_eq!(
+            decode(b"DSK1\x00\x00\x00\x00\x00\x00\x00\x00"),
+            bad(Fault::NoMagic)
+        );
         assert_eq!(decode(b"DES"), bad(Fault::Truncated));
         assert_eq!(decode(b"not a script"), bad(Fault::NoMagic));
         assert_eq!(Fault::NoMagic.line(), "bad script");
@@ -423,15 +488,21 @@ mod tests {
 
     #[test]
     fn memories_have_at_most_64_kib() {
-        assert_eq!(decode(&encode(65_536, &[])).fault, None);
-        assert_eq!(decode(&encode(65_537, &[])), bad(Fault::LongMemory(65_537)));
+        for bytes in both(65_536, &[]) {
+            assert_eq!(decode(&bytes).fault, None);
+        }
+        for bytes in both(65_537, &[]) {
+            assert_eq!(decode(&bytes), bad(Fault::LongMemory(65_537)));
+        }
         let elsewhere = |length| Operation::RunElsewhere {
             allowance: 1,
             length,
         };
-        let script = decode(&encode(16, &[elsewhere(65_536), elsewhere(65_537)]));
-        assert_eq!(script.operations, [elsewhere(65_536)]);
-        assert_eq!(script.fault, Some(Fault::LongMemory(65_537)));
+        for bytes in both(16, &[elsewhere(65_536), elsewhere(65_537)]) {
+            let script = decode(&bytes);
+            assert_eq!(script.operations, [elsewhere(65_536)]);
+            assert_eq!(script.fault, Some(Fault::LongMemory(65_537)));
+        }
         assert_eq!(Fault::LongMemory(65_537).line(), "bad script");
     }
 
@@ -456,11 +527,12 @@ mod tests {
     #[test]
     fn an_unknown_tag_ends_the_script() {
         for tag in (0..=255).filter(|tag| !(1..=9).contains(tag)) {
-            let mut bytes = encode(16, &[Operation::State]);
-            bytes.extend([tag, STATE]);
-            let script = decode(&bytes);
-            assert_eq!(script.operations, [Operation::State]);
-            assert_eq!(script.fault, Some(Fault::UnknownTag(tag)));
+            for mut bytes in both(16, &[Operation::State]) {
+                bytes.extend([tag, STATE]);
+                let script = decode(&bytes);
+                assert_eq!(script.operations, [Operation::State]);
+                assert_eq!(script.fault, Some(Fault::UnknownTag(tag)));
+            }
         }
         assert_eq!(Fault::UnknownTag(10).line(), "unknown tag 10");
     }

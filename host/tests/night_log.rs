@@ -1,5 +1,5 @@
-//! Examples of document 01 through the Rust crate: the whole submissions 9 and 10, and some of the small ones.
-use zelezmut::guest::{self, Backing, Descriptor, Entry, Packet, Part};
+//! Examples of document 01 through the Rust crate: the whole submissions 9 and 10, some of the small ones, and longer packets.
+use zelezmut::guest::{self, Backing, Descriptor, Entry, Packet, Part, Shape};
 use zelezmut::{
     packed_size, registers, table_error, Desk, DeviceError, Ended, ErrorReport, HostAnswer, Ran,
     Record, RecordKind, Refused,
@@ -21,11 +21,14 @@ fn entry(id: u32, gpa: u64, size: u64) -> Entry {
 
 /// A desk whose guest has put one submission with fence 1 into its ring, and rung.
 fn one_submission(entries: &[Entry], packets: &[Packet]) -> (Desk, Vec<u8>) {
+    one_stream(entries, &guest::stream(packets))
+}
+
+fn one_stream(entries: &[Entry], stream: &[u8]) -> (Desk, Vec<u8>) {
     let mut memory = vec![0; MEMORY];
     let table = guest::table(entries);
-    let stream = guest::stream(packets);
     let slot = Descriptor {
-        commands: Part::of(STREAM as u64, &stream),
+        commands: Part::of(STREAM as u64, stream),
         table: Part::of(TABLE as u64, &table),
         fence: 1,
         silent: false,
@@ -33,7 +36,7 @@ fn one_submission(entries: &[Entry], packets: &[Packet]) -> (Desk, Vec<u8>) {
     guest::put(&mut memory, 0, &guest::ring(8, 0, 1));
     guest::put(&mut memory, guest::slot_offset(0), &slot.to_bytes());
     guest::put(&mut memory, TABLE, &table);
-    guest::put(&mut memory, STREAM, &stream);
+    guest::put(&mut memory, STREAM, stream);
 
     let mut desk = Desk::new(MEMORY);
     for (offset, value) in [
@@ -167,6 +170,108 @@ fn example_10_is_refused_with_15_after_3_units() {
     // A refusal does not stop a run: a fourth unit finds no more work.
     let (mut desk, mut memory) = example_10();
     assert_eq!(desk.run(&mut memory, 100), ran(4, Ended::Idle));
+}
+
+/// One of each known packet, in an order in which all of them pass.
+fn known_packets() -> [Packet; 5] {
+    let backing = Some(Backing { id: 5, offset: 64 });
+    [
+        Packet::CreateBuffer {
+            handle: 1,
+            size: 256,
+            backing,
+        },
+        Packet::CreateTexture {
+            handle: 2,
+            shape: Shape {
+                format: 1,
+                width: 4,
+                height: 4,
+                mips: 1,
+                layers: 1,
+                pitch: 16,
+            },
+            backing,
+        },
+        Packet::DirtyRange {
+            handle: 2,
+            offset: 16,
+            size: 32,
+        },
+        Packet::CopyBuffer {
+            destination: 1,
+            source: 3,
+            destination_offset: 8,
+            source_offset: 0,
+            size: 16,
+            writeback: true,
+        },
+        Packet::Destroy { handle: 2 },
+    ]
+}
+
+/// A host-backed buffer to copy from, and these packets.
+fn after_a_source(packets: &[Vec<u8>]) -> Vec<Vec<u8>> {
+    let source = Packet::CreateBuffer {
+        handle: 3,
+        size: 64,
+        backing: None,
+    };
+    [&[source.to_bytes()], packets].concat()
+}
+
+/// What a stream over one entry comes to: how the run ends, its records, and the error.
+fn played(packets: &[Vec<u8>]) -> (Ran, Vec<Record>, Option<DeviceError>) {
+    let stream = guest::stream_of(&after_a_source(packets));
+    let (mut desk, mut memory) = one_stream(&[entry(5, 8192, 4096)], &stream);
+    let ran = desk.run(&mut memory, 100).unwrap();
+    let error = desk.last_error().map(|report| report.error);
+    (ran, desk.records().collect(), error)
+}
+
+#[test]
+fn grown_packets_pass_and_what_is_appended_is_ignored() {
+    let plain = known_packets().map(|packet| packet.to_bytes());
+    let as_before = played(&plain);
+    let (ran, records, error) = &as_before;
+    assert_eq!((ran.units, ran.ended), (8, Ended::Waiting));
+    assert_eq!((records.len(), *error), (4, None));
+    // What is appended looks like a packet of its own, and is none.
+    let destroy = Packet::Destroy { handle: 1 }.to_bytes();
+    let words: Vec<u32> = destroy
+        .chunks_exact(4)
+        .map(|word| u32::from_le_bytes(word.try_into().unwrap()))
+        .collect();
+    for appended in [&words[..1], &words, &[0; 16], &[u32::MAX; 100]] {
+        for i in 0..plain.len() {
+            let mut grown = plain.clone();
+            grown[i] = known_packets()[i].grown(appended);
+            assert_eq!(played(&grown), as_before, "packet {} grown", i);
+        }
+        let all = known_packets().map(|packet| packet.grown(appended));
+        assert_eq!(played(&all), as_before);
+    }
+}
+
+#[test]
+fn shorter_packets_and_those_past_the_stream_are_17() {
+    for (i, packet) in known_packets().iter().enumerate() {
+        let before = known_packets().map(|packet| packet.to_bytes())[..i].to_vec();
+        let mut short = packet.to_bytes();
+        short.truncate(short.len() - 4);
+        let size = short.len() as u32;
+        guest::put(&mut short, 4, &size.to_le_bytes());
+        // One word past the stream's end, which it would reach exactly.
+        let mut past = packet.grown(&[0; 4]);
+        let size = past.len() as u32 + 4;
+        guest::put(&mut past, 4, &size.to_le_bytes());
+        for wrong in [short, past] {
+            let (ran, records, error) = played(&[before.clone(), vec![wrong]].concat());
+            assert_eq!(ran.ended, Ended::Idle);
+            assert_eq!(error, Some(DeviceError::BadPacket), "packet {}", i);
+            assert!(records.is_empty());
+        }
+    }
 }
 
 #[test]

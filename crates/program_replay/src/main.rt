@@ -9,9 +9,9 @@ use crate::operations::operation;
 use crate::script::LONGEST_MEMORY;
 use crate::script::LONGEST_SCRIPT;
 use crate::script::Next;
-use crate::script::SCRIPT_HEADER;
-use crate::script::SCRIPT_MAGIC;
+use crate::script::SHORTEST_HEAD;
 use crate::script::after;
+use crate::script::head_size;
 use device::Device;
 use program_lines::say;
 use program_lines::say_named;
@@ -32,10 +32,10 @@ fn say_end(next: Next) {
     }
 }
 
-// Every operation of the script, on a new device that is lent this memory.
+// Every operation of a script, which is lent without its head, on a new device that is lent this memory.
 fn play(script: &[u8], memory: &mut [u8]) {
     let mut device = Device::new(memory.len());
-    let mut at: usize = SCRIPT_HEADER;
+    let mut at: usize = 0;
     while at < script.len() {
         let first = at + 1;
         let played = operation(script[at], device, memory, &script[first..]);
@@ -60,14 +60,19 @@ fn play_over(script: &[u8], memory: &mut [u8], n: usize)
     play(script, &mut memory[0..n]);
 }
 
-// The script's own header: what it is, and how long the memory is that the device is made for.
+// The script's own head: what it is, and how long the memory is that the device is made for. It is read whole before the length is judged.
 fn open(script: &[u8]) {
-    if script.len() < SCRIPT_HEADER {
+    if script.len() < SHORTEST_HEAD {
         say_end(Next::Cut);
         return;
     }
-    if words::u32_at(script, 0) != SCRIPT_MAGIC {
+    let head = head_size(words::u32_at(script, 0));
+    if head == 0 {
         say_end(Next::Bad);
+        return;
+    }
+    if script.len() < head {
+        say_end(Next::Cut);
         return;
     }
     let length = words::u32_at(script, 4) as usize;
@@ -76,7 +81,7 @@ fn open(script: &[u8]) {
         return;
     }
     let mut memory = io::large_buffer();
-    play_over(script, &mut memory, length);
+    play_over(&script[head..], &mut memory, length);
 }
 
 // Room for the longest script, and a byte more, to tell one that is too long.

@@ -27,6 +27,8 @@ pub mod LocalWrites
 pub mod LocalPackets
 pub mod LocalOpening
 pub mod Locality
+pub mod Appended
+pub mod AppendedUnits
 pub mod Witness
 pub mod Slicing
 pub mod Main

@@ -1,14 +1,22 @@
--- Two memories that hold the same bytes in a range, and that the fields and the layouts of the rules read only their own range.
--- Assumes nothing.
+-- Two memories that hold the same bytes in a range, and that the fields, the layouts and the packets of the rules read only their own
+-- range. Assumes nothing.
 use mathlib.Core.Path.{_≡_, refl, sym, ap, _∙_}
+use mathlib.Core.Bool.{Bool, true, false}
 use mathlib.Core.List.{List, [], _∷_}
 use Prim.Native.Nat.{ℕ, zero, suc, _+_, _≤_}
 use native.Mathlib.Nat.{add-zero}
 use native.Mathlib.Omega.{arith}
+use lib.Dec.{eqb}
 use lib.ListN.{take, drop}
 use lib.Seq.{drop-drop, take-take}
+use Rattle.machine.specs.Machine.{pick}
+use Rattle.rules.specs.Numbers.{create-buffer, create-texture, destroy, dirty-range, copy-buffer, create-buffer-size, create-texture-size, destroy-size, dirty-range-size, copy-buffer-size}
 use Rattle.rules.specs.Bytes.{le, field}
-use Rattle.rules.specs.Layouts.{ring-header, ring-header-size, descriptor, descriptor-size, table-header, table-header-size, entry, entry-size, stream-header, stream-header-size}
+use Rattle.rules.specs.Layouts.{ring-header, ring-header-size, descriptor, descriptor-size, table-header, table-header-size, entry, entry-size, stream-header, stream-header-size, buffer-fields, texture-fields, destroy-fields, dirty-fields, copy-fields}
+use Rattle.rules.specs.Lists.{Found}
+use Rattle.rules.specs.Lists.Found.{none}
+use Rattle.rules.specs.Stream.{Known, row, known, bytes-in, says-in, least-size, packet-of}
+use Rattle.rules.specs.declared.Packet.the-variants.{Buffer, Texture, Destroy, Dirty, Copy}
 
 -- m and m′ hold the same n bytes from `at` on
 abbrev pub Agree : List ℕ → List ℕ → ℕ → ℕ → Type 0
@@ -64,3 +72,70 @@ module _ (m m′ : List ℕ) (at : ℕ) where
   same-stream-header s =
       let offset = same-field m m′ at stream-header-size s 4 in
       rw (same-first m m′ at stream-header-size s 4 (omega arith), offset 4 (omega arith), offset 8 (omega arith))
+
+-- ---- a packet's own bytes, by the rows of the table of opcodes
+
+-- what a row's packet says stands in its first bytes, as many as the row has; where there is no row, nothing is read
+record WithinRow (f : Found Known) : Type 0 where
+  same : (b b′ : List ℕ) → Agree b b′ 0 (bytes-in f) → says-in f b ≡ says-in f b′
+
+within-pick : {f g : Found Known} (t : Bool) → WithinRow f → WithinRow g → WithinRow (pick t f g)
+within-pick true p q = p
+within-pick false p q = q
+
+buffer-within : WithinRow (row create-buffer-size (λ b. Buffer (buffer-fields b)))
+unfolding buffer-fields
+buffer-within =
+    record {
+      same = λ b b′ s.
+          let offset = same-field b b′ 0 create-buffer-size s in
+          rw (offset 4 8 (omega arith), offset 8 16 (omega arith), offset 4 24 (omega arith), offset 4 28 (omega arith));
+    }
+
+texture-within : WithinRow (row create-texture-size (λ b. Texture (texture-fields b)))
+unfolding texture-fields
+texture-within =
+    record {
+      same = λ b b′ s.
+          let offset = same-field b b′ 0 create-texture-size s 4 in
+          rw (offset 8 (omega arith), offset 16 (omega arith), offset 20 (omega arith), offset 24 (omega arith), offset 28 (omega arith), offset 32 (omega arith), offset 36 (omega arith), offset 40 (omega arith), offset 44 (omega arith));
+    }
+
+destroy-within : WithinRow (row destroy-size (λ b. Destroy (destroy-fields b)))
+unfolding destroy-fields
+destroy-within = record { same = λ b b′ s. rw (same-field b b′ 0 destroy-size s 4 8 (omega arith)) }
+
+dirty-within : WithinRow (row dirty-range-size (λ b. Dirty (dirty-fields b)))
+unfolding dirty-fields
+dirty-within =
+    record {
+      same = λ b b′ s.
+          let offset = same-field b b′ 0 dirty-range-size s in
+          rw (offset 4 8 (omega arith), offset 8 16 (omega arith), offset 8 24 (omega arith));
+    }
+
+copy-within : WithinRow (row copy-buffer-size (λ b. Copy (copy-fields b)))
+unfolding copy-fields
+copy-within =
+    record {
+      same = λ b b′ s.
+          let offset = same-field b b′ 0 copy-buffer-size s in
+          rw (offset 4 8 (omega arith), offset 4 12 (omega arith), offset 8 16 (omega arith), offset 8 24 (omega arith), offset 8 32 (omega arith), offset 4 40 (omega arith));
+    }
+
+none-within : WithinRow none
+none-within = record { same = λ b b′ s. refl }
+
+known-within : (op : ℕ) → WithinRow (known op)
+unfolding known
+known-within op =
+    within-pick (eqb op create-buffer) buffer-within
+    (within-pick (eqb op create-texture) texture-within
+    (within-pick (eqb op destroy) destroy-within
+    (within-pick (eqb op dirty-range) dirty-within
+    (within-pick (eqb op copy-buffer) copy-within none-within))))
+
+-- a packet says the same whatever stands past its row's bytes, and an unknown one whatever its bytes are
+pub packet-reads-only : (op : ℕ) (b b′ : List ℕ) → Agree b b′ 0 (least-size op) → packet-of op b ≡ packet-of op b′
+unfolding least-size packet-of
+packet-reads-only op b b′ same = known-within op .same b b′ same

@@ -38,7 +38,8 @@ use Rattle.promises.specs.LocalOpening.{SameOpening, same-opening}
 abbrev pub lent : State → List ℕ → World
 lent s m = record { state = s; mem = m }
 
--- two memories hold the same bytes where a unit reads that stands at some work: what an opening reads, the next entry, or the next packet
+-- two memories hold the same bytes where a unit reads that stands at some work: what an opening reads, the next entry, or the next packet up
+-- to its table size
 abbrev pub SameFor : Registers → Work → List ℕ → List ℕ → Type 0
 SameFor r resting m m′ = SameOpening m m′ (r .ring) (r .ringsize)
 SameFor r (entries o kept) m m′ = Agree m m′ (entry-place (o .table) (length kept)) entry-size

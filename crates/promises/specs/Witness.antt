@@ -1,5 +1,5 @@
--- No theorem is vacuous: one small guest with a ring, a table and a stream, whose submission is accepted with a record, and the same with
--- its entry twice in the table, which is refused with 15. Assumes nothing.
+-- No theorem is vacuous: one small guest with a ring, a table and a stream, whose submission is accepted with a record, the same with its
+-- entry twice in the table, which is refused with 15, and its packet with bytes appended. Assumes nothing.
 use mathlib.Core.Path.{_≡_, refl, sym, ap, subst, _∙_}
 use mathlib.Core.Bool.{true, false}
 use mathlib.Core.List.{List, [], _∷_, _++_}
@@ -13,7 +13,7 @@ use Rattle.rules.specs.Judging.{refusal}
 use Rattle.rules.specs.Layouts.{word, long, ring-header, descriptor, table-header, entry, stream-header, buffer-fields, page-bytes}
 use Rattle.rules.specs.Headers.{wrong-front}
 use Rattle.rules.specs.Table.{header-rules, entry-id, entry-rules, take-entry, entries-from, entries-of, judge-entries}
-use Rattle.rules.specs.Stream.{known, stream-rules, known-size, wrong-size, frame-rules, frame-of, packet-of, cut}
+use Rattle.rules.specs.Stream.{known, stream-rules, least-size, frame-rules, frame-of, packet-of, cut, packets-of}
 use Rattle.rules.specs.Ring.{descriptor-rules, range-rules, submission-rules, submission-opening, power-of-two, good-header, good-ring, ring-opening, opening-of}
 use Rattle.rules.specs.Packets.{Holdings, at-first, create-backed, create, on-buffer-packet, apply, take-packet}
 use Rattle.rules.specs.State.{World, made, with-regs, registers-of, no-error, working, registering}
@@ -27,6 +27,7 @@ use Rattle.rules.specs.declared.Entry.{Entry}
 use Rattle.rules.specs.declared.Kind.the-variants.{Buffer}
 use Rattle.rules.specs.declared.Record.{Record}
 use Rattle.rules.specs.declared.Registers.{Registers}
+use Rattle.rules.specs.declared.Stream.{Stream}
 use Rattle.rules.specs.declared.Opened.{Opened}
 use Rattle.rules.specs.declared.Verdict.the-variants.{Fine, Broken}
 use Rattle.rules.specs.declared.Opening.the-variants.{Started}
@@ -37,6 +38,8 @@ use Rattle.promises.specs.Submission.{LiesOn, opening-lies}
 use Rattle.promises.specs.LocalBytes.{Agree}
 use Rattle.promises.specs.Locality.{after-one, over-moving, SameWhenRead, moving-memory-reads-only}
 use Rattle.promises.specs.Locality.SameWhenRead.{ends, unit}
+use Rattle.promises.specs.Appended.{appended-bytes-cannot-matter}
+use Rattle.promises.specs.Appended.SameButAppended.{packet, ends as stream-ends}
 use Rattle.promises.specs.Sound.{SoundState, made-sound, waiting-ranges-inside}
 use Rattle.promises.specs.InMemory.{Lies, made-lies, run-call-lies, waiting-ranges-in-memory}
 use Rattle.promises.specs.Refused.{run-call-keeps-sound}
@@ -145,7 +148,7 @@ pub record TwoGuests : Type 0 where
   pub by-units : over-moving (guest 1 ∷ guest 1 ∷ guest 1 ∷ []) (asking 1 .state) ≡ awaiting .state
 
 pub two-guests : TwoGuests
-unfolding zeros in-bytes ring-words slot-words table-words entry-words stream-words guest asking begun held the-entry awaiting ringing rewriting rewritten le bytesOf over lookup nth ring-header descriptor table-header entry stream-header buffer-fields page-bytes power-of-two good-header good-ring ring-opening opening-of descriptor-rules range-rules submission-rules submission-opening wrong-front header-rules stream-rules entry-rules take-entry entries-from judge-entries known known-size wrong-size frame-rules frame-of packet-of cut apply take-packet on-buffer-packet create create-backed judge-packets submission submitted faulted signalled ended-by written head-written page-written marked settled write-of open-step entry-step packet-step step go runFor call-write call-run call-record after after-all units-of units-of-all over-moving
+unfolding zeros in-bytes ring-words slot-words table-words entry-words stream-words guest asking begun held the-entry awaiting ringing rewriting rewritten le bytesOf over lookup nth ring-header descriptor table-header entry stream-header buffer-fields page-bytes power-of-two good-header good-ring ring-opening opening-of descriptor-rules range-rules submission-rules submission-opening wrong-front header-rules stream-rules entry-rules take-entry entries-from judge-entries known least-size frame-rules frame-of packet-of cut apply take-packet on-buffer-packet create create-backed judge-packets submission submitted faulted signalled ended-by written head-written page-written marked settled write-of open-step entry-step packet-step step go runFor call-write call-run call-record after after-all units-of units-of-all over-moving
 two-guests =
     record {
       one-starts = refl;
@@ -228,13 +231,13 @@ unfoldable pub packet-alone : List ℕ
 packet-alone = in-bytes (zeros 52 ++ drop 6 stream-words)
 
 pub read-alone : SameWhenRead (asking 1 .state) (guest 1 ∷ guest 1 ∷ guest 1 ∷ []) (opening-alone ∷ entry-alone ∷ packet-alone ∷ [])
-unfolding opening-alone entry-alone packet-alone zeros in-bytes ring-words slot-words table-words entry-words stream-words guest asking le bytesOf lookup ring-header descriptor table-header entry stream-header power-of-two good-header good-ring ring-opening opening-of descriptor-rules range-rules submission-rules submission-opening wrong-front header-rules stream-rules entry-rules take-entry known known-size wrong-size frame-rules frame-of open-step entry-step step go runFor call-run
+unfolding opening-alone entry-alone packet-alone zeros in-bytes ring-words slot-words table-words entry-words stream-words guest asking le bytesOf lookup ring-header descriptor table-header entry stream-header power-of-two good-header good-ring ring-opening opening-of descriptor-rules range-rules submission-rules submission-opening wrong-front header-rules stream-rules entry-rules take-entry known least-size frame-rules frame-of open-step entry-step step go runFor call-run
 read-alone =
     unit {s = asking 1 .state} (guest 1) opening-alone refl
     (λ _. record { header = λ _ _. refl; pending = λ _ _. record { slot = refl; ranges = λ _ _. record { table = λ _. refl; stream = λ _ _. refl } } })
     (unit {s = after-one (asking 1 .state) (guest 1)} (guest 1) entry-alone refl (λ _. refl)
     (unit {s = after-one (after-one (asking 1 .state) (guest 1)) (guest 1)} (guest 1) packet-alone refl
-    (λ _. record { header = λ _. refl; packet = λ op size e. let forty : 40 ≡ size = cc in subst (λ (n : ℕ). Agree (guest 1) packet-alone 208 n) forty refl })
+    (λ _. record { header = λ _. refl; packet = λ op size e. let is : create-buffer ≡ op = cc in subst (λ (n : ℕ). Agree (guest 1) packet-alone 208 (least-size n)) is refl })
     ends))
 
 -- and so it waits with the same entry, resource and record
@@ -242,3 +245,17 @@ pub moved-and-accepted : over-moving (opening-alone ∷ entry-alone ∷ packet-a
 moved-and-accepted =
     sym (moving-memory-reads-only (asking 1 .state) (guest 1 ∷ guest 1 ∷ guest 1 ∷ []) (opening-alone ∷ entry-alone ∷ packet-alone ∷ []) read-alone)
     ∙ two-guests .by-units
+
+-- ---- its packet once more, 8 bytes longer than its row: whatever two words are appended, the same record is made
+
+unfoldable pub longer-stream : ℕ → ℕ → List ℕ
+longer-stream a b = in-bytes (stream-magic ∷ version ∷ 72 ∷ 0 ∷ 0 ∷ 0 ∷ create-buffer ∷ 48 ∷ 1 ∷ 0 ∷ 32 ∷ 0 ∷ 5 ∷ 16 ∷ 0 ∷ 0 ∷ a ∷ b ∷ [])
+
+abbrev pub longer : Stream
+longer = record { gpa = 0; size = 72 }
+
+pub appended-and-accepted : (a b : ℕ)
+    → judge-packets (the-entry ∷ []) (at-first []) (packets-of (longer-stream a b) longer) ≡ record { verdict = Fine; held = held; count = 1 }
+unfolding longer-stream held the-entry in-bytes le bytesOf lookup buffer-fields known least-size frame-rules frame-of packet-of cut apply on-buffer-packet create create-backed judge-packets
+appended-and-accepted a b =
+    appended-bytes-cannot-matter (longer-stream a b) (longer-stream 0 0) longer longer refl (packet create-buffer 48 refl refl refl stream-ends) (the-entry ∷ []) (at-first [])

@@ -1,5 +1,5 @@
 -- 01, "Open" 16, and the framing of "Packet": the command stream.
-use mathlib.Core.Bool.{Bool, not, _&&_}
+use mathlib.Core.Bool.{not}
 use mathlib.Core.List.{List, [], _∷_}
 use Prim.Native.Nat.{ℕ, zero, suc, _%_}
 use lib.Dec.{ltb, eqb}
@@ -52,7 +52,7 @@ known op =
     (pick (eqb op dirty-range) (row dirty-range-size (λ b. Dirty (dirty-fields b)))
     (pick (eqb op copy-buffer) (row copy-buffer-size (λ b. Copy (copy-fields b))) none))))
 
--- the bytes of a row, 0 where there is none; and what a packet's own bytes say. "Unknown opcodes are skipped."
+-- the bytes of a row, 0 where there is none, which are the least that its packet has; and what a packet's own bytes say. "Unknown opcodes are skipped."
 abbrev pub bytes-in : Found Known → ℕ
 bytes-in none = 0
 bytes-in (found k) = k .size
@@ -61,17 +61,14 @@ abbrev pub says-in : Found Known → List ℕ → Packet
 says-in none b = Unknown
 says-in (found k) b = k .fields b
 
-unfoldable pub known-size : ℕ → ℕ
-known-size op = bytes-in (known op)
+unfoldable pub least-size : ℕ → ℕ
+least-size op = bytes-in (known op)
 
 unfoldable pub packet-of : ℕ → List ℕ → Packet
 packet-of op b = says-in (known op) b
 
--- "a known opcode whose size is not exactly its table size"
-unfoldable pub wrong-size : ℕ → ℕ → Bool
-wrong-size op size = not (eqb (known-size op) 0) && not (eqb (known-size op) size)
-
--- "17: 1 to 7 bytes left; size below 8, not a multiple of 4, or past the end; a known opcode whose size is not exactly its table size."
+-- "17: 1 to 7 bytes left; size below 8, not a multiple of 4, or past the end"; and by wish 2: "A known packet is good from its table size
+-- upward, still a multiple of 4 and inside the stream, and the extra bytes are ignored. Shorter ones keep 17."
 -- Put to the bytes that are left of a stream.
 unfoldable pub frame-rules : List ℕ → Verdict
 frame-rules b =
@@ -79,7 +76,7 @@ frame-rules b =
     ▹ rule bad-packet (ltb (word b 4) packet-header-size)
     ▹ rule bad-packet (not (eqb (word b 4 % 4) 0))
     ▹ rule bad-packet (ltb (length b) (word b 4))
-    ▹ rule bad-packet (wrong-size (word b 0) (word b 4))
+    ▹ rule bad-packet (ltb (word b 4) (least-size (word b 0)))
 
 abbrev pub framed : Verdict → ℕ → ℕ → Frame
 framed Fine op size = Whole op size

@@ -1,17 +1,17 @@
 -- The table of opcodes by its rows, and what the readers of a packet's fields ask for. Assumes nothing.
 use mathlib.Core.Path.{_≡_, refl, sym, _∙_}
-use mathlib.Core.Bool.{Bool, true, false, not, and-false}
+use mathlib.Core.Bool.{Bool, true, false}
 use mathlib.Core.List.{List}
-use Prim.Native.Nat.{ℕ}
+use Prim.Native.Nat.{ℕ, _≤_, _<_}
 use native.Mathlib.Omega.{arith}
 use borrow.Author.Needs.{needs}
-use borrow.Author.Tests.{eq-eqb, ne-eqb}
-use lib.Dec.{eqb}
+use borrow.Author.Tests.{ne-eqb, lt-ltb, le-ltb}
+use lib.Dec.{ltb}
 use lib.ListN.{length}
 use Rattle.machine.specs.Machine.{pick}
 use Rattle.rules.specs.Numbers.{create-buffer, create-texture, destroy, dirty-range, copy-buffer, create-buffer-size, create-texture-size, destroy-size, dirty-range-size, copy-buffer-size}
 use Rattle.rules.specs.Layouts.{word, long, buffer-fields, texture-fields, destroy-fields, dirty-fields, copy-fields}
-use Rattle.rules.specs.Stream.{known, known-size, wrong-size, packet-of}
+use Rattle.rules.specs.Stream.{known, least-size, packet-of}
 use Rattle.rules.specs.Lists.Found.{none}
 use Rattle.rules.specs.declared.Shape.{Shape}
 use Rattle.rules.specs.declared.CreateBuffer.{CreateBuffer}
@@ -20,7 +20,7 @@ use Rattle.rules.specs.declared.DestroyResource.{DestroyResource}
 use Rattle.rules.specs.declared.DirtyRange.{DirtyRange}
 use Rattle.rules.specs.declared.CopyBuffer.{CopyBuffer}
 use Rattle.stream_packets.specs.declared.fields.Reading.{Reading}
-use Rattle.stream_packets.specs.declared.fields.Reading.the-variants.{WrongSize, Says}
+use Rattle.stream_packets.specs.declared.fields.Reading.the-variants.{TooShort, Says}
 use Rattle.rules.specs.declared.Packet.{Packet}
 use Rattle.rules.specs.declared.Packet.the-variants.{Buffer, Texture, Destroy, Dirty, Copy, Unknown}
 
@@ -60,9 +60,9 @@ pub ruleset reading-fields = (buffer-is, shape-is, texture-is, destroy-is, dirty
 
 -- ---- the table of opcodes
 
--- what a packet's own bytes say, if it has the size of its opcode
+-- what a packet's own bytes say, if they are no fewer than its opcode asks for
 unfoldable pub reading : ℕ → List ℕ → Reading
-reading op b = pick (wrong-size op (length b)) WrongSize (Says (packet-of op b))
+reading op b = pick (ltb (length b) (least-size op)) TooShort (Says (packet-of op b))
 
 -- an opcode that is in none of its rows
 module _ (op : ℕ) (n₁ : op ≡ create-buffer → ⊥) (n₂ : op ≡ create-texture → ⊥) (n₃ : op ≡ destroy → ⊥) (n₄ : op ≡ dirty-range → ⊥)
@@ -71,8 +71,8 @@ module _ (op : ℕ) (n₁ : op ≡ create-buffer → ⊥) (n₂ : op ≡ create-
   unfolding known
   none-known = rw (ne-eqb op create-buffer n₁, ne-eqb op create-texture n₂, ne-eqb op destroy n₃, ne-eqb op dirty-range n₄, ne-eqb op copy-buffer n₅)
 
-  pub known-none : 0 ≡ known-size op
-  unfolding known-size
+  pub known-none : 0 ≡ least-size op
+  unfolding least-size
   known-none = rw none-known
 
   pub says-nothing : (b : List ℕ) → Unknown ≡ packet-of op b
@@ -80,24 +80,24 @@ module _ (op : ℕ) (n₁ : op ≡ create-buffer → ⊥) (n₂ : op ≡ create-
   says-nothing b = rw none-known
 
 module _ (op : ℕ) where
-  pub known-buffer : op ≡ create-buffer → create-buffer-size ≡ known-size op
-  unfolding known-size known
+  pub known-buffer : op ≡ create-buffer → create-buffer-size ≡ least-size op
+  unfolding least-size known
   known-buffer p = rw p
 
-  pub known-texture : op ≡ create-texture → create-texture-size ≡ known-size op
-  unfolding known-size known
+  pub known-texture : op ≡ create-texture → create-texture-size ≡ least-size op
+  unfolding least-size known
   known-texture p = rw p
 
-  pub known-destroy : op ≡ destroy → destroy-size ≡ known-size op
-  unfolding known-size known
+  pub known-destroy : op ≡ destroy → destroy-size ≡ least-size op
+  unfolding least-size known
   known-destroy p = rw p
 
-  pub known-dirty : op ≡ dirty-range → dirty-range-size ≡ known-size op
-  unfolding known-size known
+  pub known-dirty : op ≡ dirty-range → dirty-range-size ≡ least-size op
+  unfolding least-size known
   known-dirty p = rw p
 
-  pub known-copy : op ≡ copy-buffer → copy-buffer-size ≡ known-size op
-  unfolding known-size known
+  pub known-copy : op ≡ copy-buffer → copy-buffer-size ≡ least-size op
+  unfolding least-size known
   known-copy p = rw p
 
   module _ (b : List ℕ) where
@@ -121,23 +121,22 @@ module _ (op : ℕ) where
     unfolding packet-of known
     says-copy p f q = rw (p, q)
 
-    -- a known packet of another size says nothing; one of its own size, and an unknown one, say what stands there
-    pub other-size : (size : ℕ) → size ≡ known-size op → eqb size 0 ≡ false → (length b ≡ size → ⊥) → WrongSize ≡ reading op b
-    unfolding reading wrong-size
-    other-size size is some other = rw (← is, some, ne-eqb size (length b) (λ e. other (sym e)))
+    -- a known packet that is too short says nothing; one from its own size upward, and an unknown one, say what stands there
+    pub short-part : (size : ℕ) → size ≡ least-size op → length b < size → TooShort ≡ reading op b
+    unfolding reading
+    short-part size is short = rw (← is, lt-ltb (length b) size short)
 
-    pub own-size : (size : ℕ) → size ≡ known-size op → length b ≡ size → (p : Packet) → p ≡ packet-of op b → Says p ≡ reading op b
-    unfolding reading wrong-size
-    own-size size is own p says = rw (← is, own, eq-eqb size size refl, and-false (not (eqb size 0)), says)
+    pub long-part : (size : ℕ) → size ≡ least-size op → size ≤ length b → (p : Packet) → p ≡ packet-of op b → Says p ≡ reading op b
+    unfolding reading
+    long-part size is long p says = rw (← is, le-ltb (length b) size long, says)
 
-    pub any-size : 0 ≡ known-size op → (p : Packet) → p ≡ packet-of op b → Says p ≡ reading op b
-    unfolding reading wrong-size
-    any-size is p says = rw (← is, says)
+    pub any-part : 0 ≡ least-size op → (p : Packet) → p ≡ packet-of op b → Says p ≡ reading op b
+    any-part is p says = long-part 0 is (omega arith) p says
 
 pub ruleset reading-part = (
-  other-size,
-  own-size,
-  any-size,
+  short-part,
+  long-part,
+  any-part,
   says-buffer,
   says-texture,
   says-destroy,
@@ -157,13 +156,13 @@ pub ruleset reading-part = (
 
 module _ (op : ℕ) (b : List ℕ) (x : Reading) (is : x ≡ reading op b) where
   abbrev by-size : Bool → Reading
-  by-size w = pick w WrongSize (Says (packet-of op b))
+  by-size w = pick w TooShort (Says (packet-of op b))
 
-  pub size-wrong : x ≡ WrongSize → wrong-size op (length b) ≡ true
+  pub part-short : x ≡ TooShort → ltb (length b) (least-size op) ≡ true
   unfolding reading
-  size-wrong e = by-test (wrong-size op (length b)) (sym is ∙ e)
+  part-short e = by-test (ltb (length b) (least-size op)) (sym is ∙ e)
     where
-      by-test : (w : Bool) → by-size w ≡ WrongSize → w ≡ true
+      by-test : (w : Bool) → by-size w ≡ TooShort → w ≡ true
       by-test true h = refl
       by-test false h = absurd (let z : _≡_ {A = ℕ} 0 1 = cc in omega arith)
 
@@ -172,6 +171,6 @@ module _ (op : ℕ) (b : List ℕ) (x : Reading) (is : x ≡ reading op b) where
     right true h = absurd (let z : _≡_ {A = ℕ} 0 1 = cc in omega arith)
     right false h = let same : p ≡ packet-of op b = cc in (refl, same)
 
-    pub size-right : (wrong-size op (length b) ≡ false) × (p ≡ packet-of op b)
+    pub part-says : (ltb (length b) (least-size op) ≡ false) × (p ≡ packet-of op b)
     unfolding reading
-    size-right = right (wrong-size op (length b)) (sym is ∙ e)
+    part-says = right (ltb (length b) (least-size op)) (sym is ∙ e)

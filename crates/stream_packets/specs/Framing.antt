@@ -1,22 +1,20 @@
 -- A packet of the stream: what the reader asks for, and what a whole packet is known by. Assumes nothing.
 use mathlib.Core.Path.{_≡_, refl, sym, _∙_}
-use mathlib.Core.Bool.{Bool, true, false, not, _&&_, _||_}
+use mathlib.Core.Bool.{Bool, true, false, not, _||_}
 use mathlib.Core.List.{List}
-use mathlib.Core.Logic.{⊎-elim}
 use Prim.Native.Nat.{ℕ, _+_, _-_, _/_, _%_, _≤_, _<_}
 use native.Mathlib.Omega.{arith}
 use borrow.Author.Needs.{needs}
-use borrow.Author.Tests.{eq-eqb, ne-eqb, lt-ltb, le-ltb, ltb-false, eqb-true, not-false}
+use borrow.Author.Tests.{eq-eqb, lt-ltb, le-ltb, ltb-false, eqb-true, not-false}
 use lib.Dec.{ltb, eqb}
 use lib.ListN.{length, take, drop, length-drop}
 use lib.Seq.{drop-drop, length-take-le}
-use Rattle.rows.specs.Keys.{same-or-not}
-use Rattle.stream_packets.specs.Fields.{reading, known-none, says-nothing, size-wrong, size-right}
+use Rattle.stream_packets.specs.Fields.{reading, known-none, says-nothing, part-short, part-says}
 use Rattle.rules.specs.Numbers.{bad-packet}
 use Rattle.rule_laws.specs.Fine.{all-kept}
 use Rattle.rules.specs.Judging.{refusal, rule, _▹_}
 use Rattle.rules.specs.Layouts.{word, packet-header-size}
-use Rattle.rules.specs.Stream.{known-size, wrong-size, frame-rules, framed, frame-of, packet-of}
+use Rattle.rules.specs.Stream.{least-size, frame-rules, framed, frame-of, packet-of}
 use Rattle.rules.specs.declared.Refusal.{Refusal}
 use Rattle.rules.specs.declared.Verdict.{Verdict}
 use Rattle.rules.specs.declared.Verdict.the-variants.{Fine, Broken}
@@ -25,7 +23,7 @@ use Rattle.rules.specs.declared.Packet.the-variants.{Unknown}
 use Rattle.rules.specs.declared.Frame.{Frame}
 use Rattle.rules.specs.declared.Frame.the-variants.{Whole, Misframed}
 use Rattle.stream_packets.specs.declared.fields.Reading.{Reading}
-use Rattle.stream_packets.specs.declared.fields.Reading.the-variants.{WrongSize, Says}
+use Rattle.stream_packets.specs.declared.fields.Reading.the-variants.{TooShort, Says}
 use Rattle.stream_packets.specs.declared.framing.PacketRead.{PacketRead}
 use Rattle.stream_packets.specs.declared.framing.PacketRead.the-variants.{Whole as WholePacket, Misframed as NoPacket}
 
@@ -36,7 +34,7 @@ frame-by left op size =
     (rule bad-packet (ltb size packet-header-size)
     ▹ rule bad-packet (not (eqb (size % 4) 0))
     ▹ rule bad-packet (ltb left size)
-    ▹ rule bad-packet (wrong-size op size))
+    ▹ rule bad-packet (ltb size (least-size op)))
     op
     size
 
@@ -73,7 +71,7 @@ module _ (left op size : ℕ) where
 
   pub frame-bad : misframed left size ≡ true → frame-by left op size ≡ Misframed (refusal bad-packet)
   unfolding misframed frame-by
-  frame-bad h = by-tests (ltb size packet-header-size) (ltb left size) (not (eqb (size % 4) 0)) (wrong-size op size) h
+  frame-bad h = by-tests (ltb size packet-header-size) (ltb left size) (not (eqb (size % 4) 0)) (ltb size (least-size op)) h
 
   by-none : (a b c w : Bool) → b || (a || c) ≡ false
       → framed (rule bad-packet a ▹ rule bad-packet c ▹ rule bad-packet b ▹ rule bad-packet w) op size ≡ framed (rule bad-packet w) op size
@@ -83,9 +81,9 @@ module _ (left op size : ℕ) where
   by-none false false true w h = absurd (let z : _≡_ {A = ℕ} 0 1 = cc in omega arith)
   by-none false false false w h = refl
 
-  pub frame-rest : misframed left size ≡ false → frame-by left op size ≡ framed (rule bad-packet (wrong-size op size)) op size
+  pub frame-rest : misframed left size ≡ false → frame-by left op size ≡ framed (rule bad-packet (ltb size (least-size op))) op size
   unfolding misframed frame-by
-  frame-rest h = by-none (ltb size packet-header-size) (ltb left size) (not (eqb (size % 4) 0)) (wrong-size op size) h
+  frame-rest h = by-none (ltb size packet-header-size) (ltb left size) (not (eqb (size % 4) 0)) (ltb size (least-size op)) h
 
   inside-of : (b c : Bool) → b || c ≡ false → b ≡ false
   inside-of true c h = h
@@ -112,24 +110,14 @@ framed-fine : (v : Verdict) (o s op size : ℕ) → framed v o s ≡ Whole op si
 framed-fine Fine o s op size e = (refl, (cc, cc))
 framed-fine (Broken r) o s op size e = let z : _≡_ {A = ℕ} 0 1 = cc in absurd (omega arith)
 
-one-of : (a b : Bool) → not a && not b ≡ false → a ≡ false → b ≡ true
-one-of true b e f = let z : _≡_ {A = ℕ} 0 1 = cc in absurd (omega arith)
-one-of false true e f = refl
-one-of false false e f = let z : _≡_ {A = ℕ} 0 1 = cc in absurd (omega arith)
-
 pub record FrameFits (b : List ℕ) (op size : ℕ) : Type 0 where
   pub opcode : op ≡ word b 0
   pub stated : size ≡ word b 4
   pub header : packet-header-size ≤ size
   pub inside : size ≤ length b
   pub fours : size % 4 ≡ 0
-  -- "a known opcode whose size is exactly its table size"
-  pub exact : (known-size op ≡ 0 → ⊥) → known-size op ≡ size
-  pub known : known-size op ≤ size
-
-right-size : (op size : ℕ) → wrong-size op size ≡ false → (known-size op ≡ 0 → ⊥) → known-size op ≡ size
-unfolding wrong-size
-right-size op size w n = eqb-true _ _ (one-of (eqb (known-size op) 0) (eqb (known-size op) size) w (ne-eqb _ _ n))
+  -- "A known packet is good from its table size upward"
+  pub known : least-size op ≤ size
 
 -- a whole packet has a header, ends within the bytes left, and has room for the fields of its opcode
 pub frame-sound : (b : List ℕ) (op size : ℕ) → frame-of b ≡ Whole op size → FrameFits b op size
@@ -138,19 +126,18 @@ frame-sound b op size e =
     let f = framed-fine (frame-rules b) (word b 0) (word b 4) op size e in
     let k =
     all-kept bad-packet (ltb (length b) packet-header-size) (ltb (word b 4) packet-header-size) (not (eqb (word b 4 % 4) 0)) (ltb (length b) (word b 4))
-    (wrong-size (word b 0) (word b 4)) (f .0) in
+    (ltb (word b 4) (least-size (word b 0))) (f .0) in
     let head : packet-header-size ≤ word b 4 = ltb-false (word b 4) packet-header-size (k .1 .0) in
     let end : word b 4 ≤ length b = ltb-false (length b) (word b 4) (k .1 .1 .1 .0) in
     let four : word b 4 % 4 ≡ 0 = eqb-true (word b 4 % 4) 0 (not-false _ (k .1 .1 .0)) in
-    let right : (known-size op ≡ 0 → ⊥) → known-size op ≡ size = right-size op size (rw (f .1 .0, f .1 .1) at (k .1 .1 .1 .1)) in
+    let least : least-size (word b 0) ≤ word b 4 = ltb-false (word b 4) (least-size (word b 0)) (k .1 .1 .1 .1) in
     record {
       opcode = sym (f .1 .0);
       stated = sym (f .1 .1);
       header = rw (f .1 .1) at head;
       inside = rw (f .1 .1) at end;
       fours = rw (f .1 .1) at four;
-      exact = right;
-      known = ⊎-elim (λ z. omega arith) (λ n. let s : known-size op ≡ size = right n in omega arith) (same-or-not (known-size op) 0);
+      known = rw (f .1 .0, f .1 .1) at least;
     }
 
 -- ---- packet_part, packet_at
@@ -197,23 +184,23 @@ module _ (m : List ℕ) (at : ℕ) where
           long-as : length p ≡ size
           long-as = rw own (length-take-le room (drop at m) (rw length-drop (omega (arith, inside)))) ∙ same
 
-          frame : frame-of (drop at m) ≡ framed (rule bad-packet (wrong-size op size)) op size
+          frame : frame-of (drop at m) ≡ framed (rule bad-packet (ltb size (least-size op))) op size
           frame = header ∙ frame-rest (length m - at) op size (sym is ∙ good)
 
-          pub wrong-known : x ≡ WrongSize → NoPacket (refusal bad-packet) ≡ packetAt (drop at m)
-          wrong-known h =
-              let wrong : wrong-size op size ≡ true = rw long-as at (size-wrong op p x says h) in
-              no-packet (refusal bad-packet) (rw wrong at frame)
+          pub short-packet : x ≡ TooShort → NoPacket (refusal bad-packet) ≡ packetAt (drop at m)
+          short-packet h =
+              let short : ltb size (least-size op) ≡ true = rw long-as at (part-short op p x says h) in
+              no-packet (refusal bad-packet) (rw short at frame)
 
           pub whole-packet : (k : Packet) → x ≡ Says k → WholePacket size k ≡ packetAt (drop at m)
           unfolding packetAt
           whole-packet k h =
-              let r : (wrong-size op (length p) ≡ false) × (k ≡ packet-of op p) = size-right op p x says k h in
-              let right : wrong-size op size ≡ false = rw long-as at (r .0) in
+              let r : (ltb (length p) (least-size op) ≡ false) × (k ≡ packet-of op p) = part-says op p x says k h in
+              let right : ltb size (least-size op) ≡ false = rw long-as at (r .0) in
               let whole : frame-of (drop at m) ≡ Whole op size = rw right at frame in
               rw (whole, r .1, own, same)
 
-pub ruleset packet-reading = (part-is, short-stream, last-bytes, bad-size, part-room, wrong-known, whole-packet, needs)
+pub ruleset packet-reading = (part-is, short-stream, last-bytes, bad-size, part-room, short-packet, whole-packet, needs)
 
 -- ---- what a packet that was read says of the frame
 
@@ -260,13 +247,13 @@ module _ (b : List ℕ) (at room : ℕ) where
     not-that k h e = other (rw e h)
 
     pub passes : Passed b at room long
-    unfolding misframed wrong-size
+    unfolding misframed
     passes =
-        let none : 0 ≡ known-size op = known-none op (not-that _ refl) (not-that _ refl) (not-that _ refl) (not-that _ refl) (not-that _ refl) in
+        let none : 0 ≡ least-size op = known-none op (not-that _ refl) (not-that _ refl) (not-that _ refl) (not-that _ refl) (not-that _ refl) in
         let fits : misframed (length b - at) size ≡ false = rw (le-ltb (length b - at) size (omega arith), le-ltb size packet-header-size (omega arith), eq-eqb (size % 4) 0 fours) in
-        let is : frame-of (drop at b) ≡ framed (rule bad-packet (wrong-size op size)) op size = frame-read b at op size (omega arith) po ps ∙ frame-rest (length b - at) op size fits in
+        let is : frame-of (drop at b) ≡ framed (rule bad-packet (ltb size (least-size op))) op size = frame-read b at op size (omega arith) po ps ∙ frame-rest (length b - at) op size fits in
         record {
-          whole = λ _. is ∙ rw (← none, po, same);
+          whole = λ _. is ∙ rw (← none, le-ltb size 0 (omega arith), po, same);
           nothing = λ _. rw (← po) (says-nothing op (not-that _ refl) (not-that _ refl) (not-that _ refl) (not-that _ refl) (not-that _ refl) (take long (drop at b)));
           within = λ _. below;
         }

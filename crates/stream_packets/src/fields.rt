@@ -20,7 +20,7 @@ use rules::numbers::DIRTY_RANGE;
 use words::u32_at;
 use words::u64_at;
 
-// The bytes of each packet that we know.
+// The least bytes of each packet that we know.
 const CREATE_BUFFER_SIZE: usize = rules::numbers::CREATE_BUFFER_SIZE as usize;
 
 const CREATE_TEXTURE_SIZE: usize = rules::numbers::CREATE_TEXTURE_SIZE as usize;
@@ -103,46 +103,46 @@ fn copy_fields(part: &[u8]) -> CopyBuffer
     }
 }
 
-// What a packet says: nothing, if we know its opcode and it has another size than its own.
+// What a packet says: nothing, if we know its opcode and it is shorter than the table of opcodes has it.
 pub enum Reading {
-    WrongSize,
+    TooShort,
     Says(Packet),
 }
 
-// The table of opcodes: what a packet with an opcode says, from its own part of the stream. One whose opcode we do not know is skipped,
-// whatever its size.
+// The table of opcodes: what a packet with an opcode says, from the beginning of its own part of the stream. Newer drivers append
+// fields, which are not read. A packet whose opcode we do not know is skipped, whatever its size.
 pub fn read_part(op: u32, part: &[u8]) -> Reading
     ensures { λ r. ⌜ r ≡ reading op (now (part .entry)) ⌝ }
 {
     let size = part.len();
     match op {
         CREATE_BUFFER => {
-            if size != CREATE_BUFFER_SIZE {
-                return Reading::WrongSize;
+            if size < CREATE_BUFFER_SIZE {
+                return Reading::TooShort;
             }
             Reading::Says(Packet::Buffer(buffer_fields(part)))
         }
         CREATE_TEXTURE => {
-            if size != CREATE_TEXTURE_SIZE {
-                return Reading::WrongSize;
+            if size < CREATE_TEXTURE_SIZE {
+                return Reading::TooShort;
             }
             Reading::Says(Packet::Texture(texture_fields(part)))
         }
         DESTROY => {
-            if size != DESTROY_SIZE {
-                return Reading::WrongSize;
+            if size < DESTROY_SIZE {
+                return Reading::TooShort;
             }
             Reading::Says(Packet::Destroy(destroy_fields(part)))
         }
         DIRTY_RANGE => {
-            if size != DIRTY_RANGE_SIZE {
-                return Reading::WrongSize;
+            if size < DIRTY_RANGE_SIZE {
+                return Reading::TooShort;
             }
             Reading::Says(Packet::Dirty(dirty_fields(part)))
         }
         COPY_BUFFER => {
-            if size != COPY_BUFFER_SIZE {
-                return Reading::WrongSize;
+            if size < COPY_BUFFER_SIZE {
+                return Reading::TooShort;
             }
             Reading::Says(Packet::Copy(copy_fields(part)))
         }

@@ -91,7 +91,7 @@ pub fn packet_at(stream: &[u8], at: usize) -> PacketRead
         return PacketRead::Misframed(Refusal { code: BAD_PACKET });
     }
     match read_part(op, packet_part(stream, at, u32_to_usize(size))) {
-        Reading::WrongSize => PacketRead::Misframed(Refusal { code: BAD_PACKET }),
+        Reading::TooShort => PacketRead::Misframed(Refusal { code: BAD_PACKET }),
         Reading::Says(packet) => PacketRead::Whole(size, packet),
     }
 }

@@ -120,7 +120,7 @@ fn add_unknown(draft: &mut Draft, count: u64) {
 fn packet_twist(draft: &mut Draft, scale: Scale) -> Option<Aim> {
     (0..8).find_map(|_| {
         let first = draft.packets.is_empty();
-        let twists: &[PacketTwist] = match draft.random.within(0..=19) {
+        let twists: &[PacketTwist] = match draft.random.within(0..=22) {
             0..=7 if scale == Scale::Full => limits::TWISTS,
             0..=3 => twists::framing::TWISTS,
             4..=7 => twists::create::TWISTS,
@@ -128,7 +128,8 @@ fn packet_twist(draft: &mut Draft, scale: Scale) -> Option<Aim> {
             11..=13 if first => twists::dirty::FIRST_TWISTS,
             11..=14 => twists::dirty::TWISTS,
             15..=17 if first => twists::copy::FIRST_TWISTS,
-            _ => twists::copy::TWISTS,
+            15..=19 => twists::copy::TWISTS,
+            _ => twists::grown::TWISTS,
         };
         let twist = draft.random.pick(twists);
         if draft.has_room(6 * 56) {

@@ -1,11 +1,14 @@
 //! A submission being written: its table's entries, its packets, and what the guest believes of its resources meanwhile.
 //! Packets put in here are believed to pass; one that is to be refused is put in last, and the belief thrown away.
 
-use crate::image::Entry;
+use crate::image::{blank, put32, Entry};
 use crate::numbers::{READ_ONLY, WRITEBACK};
 use crate::packet::{self, Backing, Copying};
 use crate::random::Random;
 use crate::shape::Shape;
+
+/// How often, of a hundred times, a known packet is grown.
+const GROWN: u64 = 12;
 
 #[derive(Clone, Copy, Debug)]
 pub struct Resource {
@@ -108,9 +111,52 @@ impl Draft<'_> {
         self.packets.push(packet);
     }
 
+    /// Puts a known packet in, now and then grown: what is appended is ignored.
+    fn push_known(&mut self, packet: Vec<u8>) {
+        self.push(packet);
+        if self.random.percent(GROWN) {
+            let bytes = 4 * self.random.within(1..=16) as usize;
+            if self.has_room(bytes) {
+                self.grow_last(bytes);
+            }
+        }
+    }
+
+    /// Appends so many bytes to the last packet, and lets its size say so.
+    pub fn grow_last(&mut self, bytes: usize) {
+        let appended = self.appended(bytes);
+        if let Some(last) = self.packets.last_mut() {
+            last.extend(appended);
+            let size = last.len() as u32;
+            put32(last, 4, size);
+            self.used += bytes;
+        }
+    }
+
+    /// Leaves so many bytes of the last packet, and lets its size say so.
+    pub fn cut_last(&mut self, bytes: usize) {
+        if let Some(last) = self.packets.last_mut() {
+            self.used -= last.len() - bytes;
+            last.truncate(bytes);
+            put32(last, 4, bytes as u32);
+        }
+    }
+
+    /// Bytes behind a packet's own: zeros, noise, or what would be a good packet if it stood by itself.
+    fn appended(&mut self, length: usize) -> Vec<u8> {
+        let mut bytes = blank(self.random, length);
+        if self.random.percent(30) {
+            let handle = self.live.first().map_or(0, |resource| resource.handle);
+            let packet = packet::destroy(self.random, handle);
+            let common = length.min(packet.len());
+            bytes[..common].copy_from_slice(&packet[..common]);
+        }
+        bytes
+    }
+
     pub fn create_buffer(&mut self, handle: u32, size: u64, backing: Backing) {
         let packet = packet::create_buffer(self.random, handle, size, backing);
-        self.push(packet);
+        self.push_known(packet);
         self.created(Resource {
             handle,
             texture: false,
@@ -121,7 +167,7 @@ impl Draft<'_> {
 
     pub fn create_texture(&mut self, handle: u32, shape: Shape, backing: Backing) {
         let packet = packet::create_texture(self.random, handle, shape, backing);
-        self.push(packet);
+        self.push_known(packet);
         let bytes = if backing.id == 0 { 0 } else { shape.packed() };
         self.created(Resource {
             handle,
@@ -142,19 +188,19 @@ impl Draft<'_> {
 
     pub fn destroy(&mut self, handle: u32) {
         let packet = packet::destroy(self.random, handle);
-        self.push(packet);
+        self.push_known(packet);
         self.live.retain(|resource| resource.handle != handle);
     }
 
     pub fn dirty(&mut self, handle: u32, offset: u64, size: u64) {
         let packet = packet::dirty(self.random, handle, offset, size);
-        self.push(packet);
+        self.push_known(packet);
         self.records += usize::from(size > 0);
     }
 
     pub fn copy(&mut self, copying: Copying) {
         let packet = packet::copy(self.random, copying);
-        self.push(packet);
+        self.push_known(packet);
         self.records += usize::from(copying.flags & WRITEBACK != 0 && copying.size > 0);
     }
 

@@ -18,6 +18,8 @@ pub enum Event {
     Overlap,
     /// A packet may have several faults at once.
     SeveralFaults,
+    /// A known packet of the stream is longer than its table size, and another packet follows.
+    GrownPacket,
     KeptOverwritten,
     KeptChanged,
     AheadOverwritten,
@@ -31,7 +33,7 @@ pub enum Event {
     Raving,
 }
 
-pub const EVENTS: [Event; 24] = [
+pub const EVENTS: [Event; 25] = [
     Event::NoFencePage,
     Event::FencePageAtTheEnd,
     Event::FencePageOutside,
@@ -46,6 +48,7 @@ pub const EVENTS: [Event; 24] = [
     Event::FullTable,
     Event::Overlap,
     Event::SeveralFaults,
+    Event::GrownPacket,
     Event::KeptOverwritten,
     Event::KeptChanged,
     Event::AheadOverwritten,

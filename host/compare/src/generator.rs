@@ -146,6 +146,9 @@ impl Author {
             self.targets
                 .extend(submission.aim.map(|aim| Target { aim, head }));
             self.events.extend(submission.event);
+            if submission.goes_on_after_a_grown_packet() {
+                self.events.push(Event::GrownPacket);
+            }
             self.put(head, &submission);
             submissions.push((submission, good));
         }

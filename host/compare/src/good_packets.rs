@@ -122,7 +122,7 @@ impl Draft<'_> {
         self.live.last().copied()
     }
 
-    fn any_destroy(&mut self) -> Option<Resource> {
+    pub fn any_destroy(&mut self) -> Option<Resource> {
         let resource = self.find(|_, _| true)?;
         self.destroy(resource.handle);
         Some(resource)
@@ -141,7 +141,7 @@ impl Draft<'_> {
         Some(resource)
     }
 
-    fn any_copy(&mut self) -> Option<Resource> {
+    pub fn any_copy(&mut self) -> Option<Resource> {
         let to = self.find(|_, resource| !resource.texture)?;
         let from = self.find(|_, resource| !resource.texture && resource.handle != to.handle)?;
         let may_write = self.covered(&to).filter(|_| self.writable(&to));

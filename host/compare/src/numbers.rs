@@ -31,7 +31,7 @@ pub const CREATE_TEXTURE: u32 = 257;
 pub const DESTROY: u32 = 258;
 pub const DIRTY_RANGE: u32 = 259;
 pub const COPY_BUFFER: u32 = 261;
-/// The size that a packet of a known opcode must have.
+/// The least size of a packet of a known opcode.
 pub const KNOWN_PACKETS: [(u32, u32); 5] = [
     (CREATE_BUFFER, 40),
     (CREATE_TEXTURE, 56),

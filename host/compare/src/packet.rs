@@ -1,7 +1,9 @@
 //! The packets of document 01 as bytes.
 
 use crate::image::{blank, put32, put64};
-use crate::numbers::{COPY_BUFFER, CREATE_BUFFER, CREATE_TEXTURE, DESTROY, DIRTY_RANGE};
+use crate::numbers::{
+    COPY_BUFFER, CREATE_BUFFER, CREATE_TEXTURE, DESTROY, DIRTY_RANGE, KNOWN_PACKETS,
+};
 use crate::random::Random;
 use crate::shape::Shape;
 
@@ -28,6 +30,13 @@ pub fn any(random: &mut Random, opcode: u32, size: u32) -> Vec<u8> {
     put32(&mut bytes, 0, opcode);
     put32(&mut bytes, 4, size);
     bytes
+}
+
+/// Whether a known packet has more bytes than its table size.
+pub fn is_grown(packet: &[u8]) -> bool {
+    KNOWN_PACKETS.iter().any(|(opcode, least)| {
+        packet.len() > *least as usize && packet[..4] == opcode.to_le_bytes()
+    })
 }
 
 pub fn create_buffer(random: &mut Random, handle: u32, size: u64, backing: Backing) -> Vec<u8> {

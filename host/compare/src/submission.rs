@@ -6,6 +6,7 @@ use crate::event::Event;
 use crate::floor::Floor;
 use crate::image::{flags, Descriptor, Entry, Range, Stream, Table};
 use crate::numbers::DESCRIPTOR;
+use crate::packet::is_grown;
 use crate::random::Random;
 use crate::twists::frame::{Frame, FrameTwist};
 use crate::twists::{self, kept, Aim};
@@ -57,6 +58,18 @@ impl Submission {
         [stream, table]
             .iter()
             .any(|range| range.size > 0 && range.gpa + u64::from(range.size) == memory)
+    }
+
+    /// Whether a known packet is longer than its table size, and not the last.
+    pub fn goes_on_after_a_grown_packet(&self) -> bool {
+        self.stream.as_ref().map_or(false, |stream| {
+            stream
+                .packets
+                .iter()
+                .rev()
+                .skip(1)
+                .any(|packet| is_grown(packet))
+        })
     }
 
     /// The units until it waits, if it does.

@@ -7,6 +7,7 @@ pub mod dirty;
 pub mod entries;
 pub mod frame;
 pub mod framing;
+pub mod grown;
 pub mod limits;
 pub mod muddle;
 pub mod ring;

@@ -1,6 +1,8 @@
 //! A plain device front: registers, ring, table and packet checks, records
-//! for the host, fences. Written from `01-scope.md` alone; see `NOTES.md` for
-//! the points where that page was read one way out of several.
+//! for the host, fences. Written from `01-scope.md` alone, then amended from
+//! `02-change-requests.md` and `WISHES.md` alone, wish by wish; see `NOTES.md`
+//! for the wishes in it and for the points where those pages were read one way
+//! out of several.
 
 #![forbid(unsafe_code)]
 #![warn(missing_docs)]

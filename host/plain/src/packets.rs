@@ -6,6 +6,9 @@ use crate::resources::{Resource, Resources};
 use crate::shapes::{Shape, Texture};
 use crate::table::{self, Entry, MAX_ENTRIES};
 
+/// The size of a packet's header.
+pub(crate) const PACKET_HEADER: u32 = 8;
+
 const CREATE_BUFFER: u32 = 256;
 const CREATE_TEXTURE: u32 = 257;
 const DESTROY: u32 = 258;
@@ -35,15 +38,17 @@ pub struct Record {
     pub length: u64,
 }
 
-/// The exact size of a known opcode's packet.
-pub(crate) fn exact_size(opcode: u32) -> Option<u32> {
+/// The least size of a packet with this opcode: its table size if the opcode
+/// is known, else the header. Newer drivers append fields; no byte past the
+/// least size is read.
+pub(crate) fn least_size(opcode: u32) -> u32 {
     match opcode {
-        CREATE_BUFFER => Some(40),
-        CREATE_TEXTURE => Some(56),
-        DESTROY => Some(16),
-        DIRTY => Some(32),
-        COPY => Some(48),
-        _ => None,
+        CREATE_BUFFER => 40,
+        CREATE_TEXTURE => 56,
+        DESTROY => 16,
+        DIRTY => 32,
+        COPY => 48,
+        _ => PACKET_HEADER,
     }
 }
 
@@ -153,7 +158,8 @@ impl Kept {
     }
 
     /// Judges one packet, as the packet reader handed it back, and does what
-    /// it says. Unknown opcodes are skipped.
+    /// it says. It has at least its opcode's least size. Unknown opcodes are
+    /// skipped.
     pub(crate) fn take(&mut self, packet: &[u8]) -> Result<(), Error> {
         match u32_at(packet, 0) {
             CREATE_BUFFER => self.create(&Create::buffer(packet)),

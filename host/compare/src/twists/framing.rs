@@ -1,4 +1,4 @@
-//! Twists of a packet's frame, its size and what is left of the stream: 17.
+//! Twists of a packet's frame, its size and what is left of the stream: 17. Sizes of known packets are in `grown`.
 
 use super::{broken, judged, kept, Aim, PacketTwist};
 use crate::draft::Draft;
@@ -13,7 +13,6 @@ pub const TWISTS: &[PacketTwist] = &[
     size_not_of_fours,
     past_the_end,
     far_past_the_end,
-    known_size,
     smallest_unknown,
 ];
 
@@ -76,18 +75,6 @@ fn far_past_the_end(draft: &mut Draft) -> Option<Aim> {
     put32(&mut bytes, 4, size);
     draft.push(bytes);
     broken("packet: size far past the end", PACKET)
-}
-
-fn known_size(draft: &mut Draft) -> Option<Aim> {
-    let (opcode, size) = draft.random.pick(&KNOWN_PACKETS);
-    let size = if draft.random.coin() {
-        size + 4
-    } else {
-        size - 4
-    };
-    let bytes = packet::any(draft.random, opcode, size);
-    draft.push(bytes);
-    broken("packet: size of a known opcode", PACKET)
 }
 
 fn smallest_unknown(draft: &mut Draft) -> Option<Aim> {

@@ -32,9 +32,28 @@ impl Random {
     }
 
     fn packet(&mut self) -> Vec<u8> {
+        match self.below(12) {
+            0 => packet(self.below(300) as u32, 4 * self.below(12) as u32),
+            1..=3 => {
+                let known = self.known_packet();
+                self.grow(known)
+            }
+            _ => self.known_packet(),
+        }
+    }
+
+    /// The packet with up to 16 words of anything appended.
+    fn grow(&mut self, packet: Vec<u8>) -> Vec<u8> {
+        let bytes = 4 * self.below(17);
+        let extra: Vec<u8> = (0..bytes).map(|_| self.next() as u8).collect();
+        grown(packet, &extra)
+    }
+
+    /// A packet of a known opcode and its table size.
+    fn known_packet(&mut self) -> Vec<u8> {
         let handle = self.below(6) as u32;
         let id = self.below(5) as u32;
-        match self.below(12) {
+        match self.below(11) {
             0..=2 => create_buffer(handle, 1 + self.below(256), id, self.below(64) as u32),
             3 => create_buffer(handle, self.number(), id, self.number() as u32),
             4 => {
@@ -57,18 +76,17 @@ impl Random {
                 self.below(64),
                 self.below(2) as u32,
             ),
-            10 => copy(
+            _ => copy(
                 (handle, self.number()),
                 (self.below(6) as u32, self.number()),
                 self.number(),
                 self.below(3) as u32,
             ),
-            _ => packet(self.below(300) as u32, 4 * self.below(12) as u32),
         }
     }
 
-    fn submission(&mut self, scene: &mut Scene) {
-        let entries: Vec<Entry> = (0..self.below(4))
+    fn entries(&mut self) -> Vec<Entry> {
+        (0..self.below(4))
             .map(|i| {
                 let id = if self.below(20) == 0 { 1 } else { i as u32 + 1 };
                 (
@@ -78,7 +96,11 @@ impl Random {
                     200 + self.below(600),
                 )
             })
-            .collect();
+            .collect()
+    }
+
+    fn submission(&mut self, scene: &mut Scene) {
+        let entries = self.entries();
         let packets: Vec<Vec<u8>> = (0..self.below(8)).map(|_| self.packet()).collect();
         let fence = self.below(50);
         scene.submit(&entries, &packets, fence);
@@ -144,6 +166,44 @@ fn slices_do_not_matter() {
     assert!(waits > 500, "waits {}", waits);
     let seen = errors.iter().filter(|count| **count > 0).count();
     assert!(seen > 14, "errors {:?}", errors);
+}
+
+#[test]
+fn grown_packets_do_what_those_of_table_size_do() {
+    let mut waits = 0;
+    let mut errors = [0; 28];
+    for seed in 200..260 {
+        let mut random = Random(seed);
+        let mut short = Scene::new();
+        let mut long = Scene::new();
+        for fence in 1..=200 {
+            let entries = random.entries();
+            let packets: Vec<Vec<u8>> = (0..random.below(8))
+                .map(|_| random.known_packet())
+                .collect();
+            let longer: Vec<Vec<u8>> = packets
+                .iter()
+                .map(|packet| random.grow(packet.clone()))
+                .collect();
+            short.submit(&entries, &packets, fence);
+            long.submit(&entries, &longer, fence);
+            let verdict = short.verdict();
+            assert_eq!(long.verdict(), verdict);
+            assert_eq!(long.records(), short.records());
+            if verdict.0 == 0 {
+                let good = random.below(4) != 0;
+                assert_eq!((short.answer(good), long.answer(good)), (0, 0));
+                waits += 1;
+            }
+            // Nothing is in work: the devices hold registers and resources.
+            assert_eq!(long.desk, short.desk);
+            errors[verdict.0 as usize] += 1;
+        }
+    }
+    assert!(waits > 500, "waits {}", waits);
+    assert_eq!(errors[17], 0);
+    let seen = errors.iter().filter(|count| **count > 0).count();
+    assert!(seen > 9, "errors {:?}", errors);
 }
 
 #[test]

@@ -1,6 +1,7 @@
 //! Tests of the front through its public interface.
 
 mod entries;
+mod grown;
 mod hostile;
 mod night_log;
 mod opening;

@@ -78,6 +78,20 @@ pub fn packet(opcode: u32, size: u32) -> Vec<u8> {
     bytes
 }
 
+/// This packet with `extra` appended, its size grown by as much.
+pub fn grown(mut packet: Vec<u8>, extra: &[u8]) -> Vec<u8> {
+    let size = get32(&packet, 4);
+    put32(&mut packet, 4, size + extra.len() as u32);
+    packet.extend_from_slice(extra);
+    packet
+}
+
+/// This packet with another size in its header, its bytes as they were.
+pub fn sized(mut packet: Vec<u8>, size: u32) -> Vec<u8> {
+    put32(&mut packet, 4, size);
+    packet
+}
+
 pub fn create_buffer(handle: u32, size: u64, id: u32, offset: u32) -> Vec<u8> {
     let mut bytes = packet(256, 40);
     put32(&mut bytes, 8, handle);

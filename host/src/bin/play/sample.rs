@@ -1,7 +1,8 @@
-//! The sample night: five submissions of one guest, each line of the transcript with what it means.
+//! The sample night: five submissions of one guest, written as a desk script and played like one, each line of the transcript
+//! with what it means.
 use std::io::{self, Write};
 use zelezmut::guest::{self, Backing, Descriptor, Entry, Packet, Part, Shape};
-use zelezmut::script::{Operation, Player};
+use zelezmut::script::{self, Operation};
 use zelezmut::{registers, HostAnswer};
 
 const MEMORY: u32 = 16_384;
@@ -75,10 +76,13 @@ fn answer(answer: HostAnswer, meaning: &'static str) -> Step {
 
 /// The guest writes submission `fence` into its slot, moves the tail and rings. Fences count from 1, and slots from 0.
 fn submit(fence: u32, packets: &[Packet], meaning: &'static str) -> Vec<Step> {
+    submit_stream(fence, &guest::stream(packets), meaning)
+}
+
+fn submit_stream(fence: u32, stream: &[u8], meaning: &'static str) -> Vec<Step> {
     let table = guest::table(&[PICTURES, RESULTS]);
-    let stream = guest::stream(packets);
     let slot = Descriptor {
-        commands: Part::of(STREAM.into(), &stream),
+        commands: Part::of(STREAM.into(), stream),
         table: Part::of(TABLE.into(), &table),
         fence: fence.into(),
         silent: false,
@@ -86,7 +90,7 @@ fn submit(fence: u32, packets: &[Packet], meaning: &'static str) -> Vec<Step> {
     let head = fence - 1;
     let place = RING + guest::slot_offset(head % SLOTS) as u32;
     vec![
-        poke(STREAM, &stream, meaning),
+        poke(STREAM, stream, meaning),
         poke(
             place,
             &slot.to_bytes(),
@@ -140,24 +144,25 @@ fn set_up() -> Scene {
 }
 
 fn shared_texture() -> Scene {
-    let mut steps = submit(
+    let create = Packet::CreateTexture {
+        handle: TEXTURE,
+        shape: WALLPAPER,
+        backing: Some(Backing {
+            id: PICTURES.id,
+            offset: 256,
+        }),
+    };
+    let dirty = Packet::DirtyRange {
+        handle: TEXTURE,
+        offset: 0,
+        size: 2048,
+    };
+    // A newer driver's packet: what its last two fields mean is no business of the front's.
+    let stream = guest::stream_of(&[create.grown(&[7, 77]), dirty.to_bytes()]);
+    let mut steps = submit_stream(
         1,
-        &[
-            Packet::CreateTexture {
-                handle: TEXTURE,
-                shape: WALLPAPER,
-                backing: Some(Backing {
-                    id: PICTURES.id,
-                    offset: 256,
-                }),
-            },
-            Packet::DirtyRange {
-                handle: TEXTURE,
-                offset: 0,
-                size: 2048,
-            },
-        ],
-        "a stream: create texture 1 of 32 by 16 in entry 5; it is dirty",
+        &stream,
+        "a stream: create texture 1 (32 by 16, entry 5; two fields appended); it is dirty",
     );
     steps.extend([
         run(2, "two units: the opening, and the table's first entry"),
@@ -333,6 +338,16 @@ fn night() -> Vec<Scene> {
     ]
 }
 
+/// The night as the file of a desk script has it.
+fn written(night: &[Scene]) -> Vec<u8> {
+    let operations: Vec<Operation> = night
+        .iter()
+        .flat_map(|scene| &scene.steps)
+        .map(|(operation, _)| operation.clone())
+        .collect();
+    script::encode(MEMORY, &operations)
+}
+
 /// A line's room before its meaning; a longer line has its meaning below.
 const LINE: usize = 26;
 
@@ -347,11 +362,12 @@ pub fn play(out: &mut impl Write) -> io::Result<()> {
         out,
         "After each call's name stands its answer (0: done), then what the call gives."
     )?;
-    let mut player = Player::new(MEMORY);
-    for scene in night() {
+    let night = night();
+    let transcript = script::transcript(&script::decode(&written(&night)));
+    let mut lines = transcript.lines();
+    for scene in night {
         writeln!(out, "\n{}", scene.heading)?;
-        for (operation, meaning) in scene.steps {
-            let line = player.play(&operation);
+        for ((_, meaning), line) in scene.steps.iter().zip(&mut lines) {
             if line.len() < LINE {
                 writeln!(out, "  {:LINE$}{}", line, meaning)?;
             } else {
