@@ -58,7 +58,7 @@ unfoldable pub under : List Registers → Registers → World → World
 under [] q x = step (registering q x)
 under (r ∷ rs) q x = under rs q (step (registering r x))
 
-goes-on : (e r : Bool) (k : Work) → e ≡ true → midst k ≡ true → e && busy r k ≡ true
+pub goes-on : (e r : Bool) (k : Work) → e ≡ true → midst k ≡ true → e && busy r k ≡ true
 goes-on e r resting h m = absurd (let z : _≡_ {A = ℕ} 0 1 = cc in omega arith)
 goes-on e r (entries o kept) h m = rw h
 goes-on e r (packets j s at es held) h m = rw h

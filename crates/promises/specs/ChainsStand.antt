@@ -6,17 +6,15 @@ use mathlib.Core.List.{List, [], _∷_, _++_, append-assoc, append-nil}
 use Prim.Native.Nat.{ℕ, suc, _+_, _<_}
 use native.Mathlib.Omega.{arith}
 use Rattle.machine.specs.Machine.{Out}
-use Rattle.rules.specs.State.{Work, World, working, registering}
-use Rattle.rules.specs.State.Work.{resting, entries, packets, waiting}
-use Rattle.rules.specs.Settle.{settled}
-use Rattle.rules.specs.Steps.{step, go, waits-on, answer-on, answered}
+use Rattle.rules.specs.State.{World, working, registering}
+use Rattle.rules.specs.State.Work.{resting}
+use Rattle.rules.specs.Steps.{step, go, answered}
 use Rattle.rules.specs.Unsliced.{submitted}
 use Rattle.rules.specs.declared.Registers.{Registers}
 use Rattle.rule_laws.specs.Fine.{both-left}
 use Rattle.promises.specs.Whole.{midst, Course, course-none}
-use Rattle.promises.specs.Slices.{waiting-stands-still}
 use Rattle.promises.specs.Writes.{resets, registers-written}
-use Rattle.promises.specs.Night.{Clear}
+use Rattle.promises.specs.Night.{Clear, rests, waits-clear, answered-clear}
 use Rattle.promises.specs.Called.{Call, after-all, units-of-all, taken-by-all}
 use Rattle.promises.specs.Acts.{Act, acts-of-all, units-in, answers-in, registers-after, units-in-both, answers-in-both, acts-units, acts-answers, Led, NoReset, calls-lead}
 use Rattle.promises.specs.Acts.Act.{unit, write, answer}
@@ -29,28 +27,7 @@ use Rattle.promises.specs.Chains.Served.{begun, submission, written, ans
 use Rattle.promises.specs.Chains.Next.{none-begun, opened}
 use Rattle.promises.specs.Chains.Stands.{in-the-first, past-the-first}
 
--- ---- what is clear, and what goes
-
--- what is clear and goes is at rest
-rests : (w : World) → Clear w → go w ≡ true → w .state .work ≡ resting
-rests w c g = by-work (w .state .work) refl
-  where
-    by-work : (k : Work) → w .state .work ≡ k → k ≡ resting
-    by-work resting e = refl
-    by-work (entries o kept) e = clash (ap midst e) c
-    by-work (packets j s at es held) e = clash (ap midst e) c
-    by-work (waiting j es held) e = clash g (waiting-stands-still w (ap waits-on e))
-
--- what waits is clear, and so is what an answer leaves
-answer-clear : (good : Bool) (w : World) (k : Work) → waits-on k ≡ true → (midst k ≡ false) × Clear (answer-on good w k)
-unfolding settled
-answer-clear good w resting h = clash h refl
-answer-clear good w (entries o kept) h = clash h refl
-answer-clear good w (packets j s at es held) h = clash h refl
-answer-clear true w (waiting j es held) h = (refl, refl)
-answer-clear false w (waiting j es held) h = (refl, refl)
-
--- ---- one act more, at the front
+-- ---- one act more, before the others
 
 -- between submissions, and a whole submission of one unit
 act-between : {w x v : World} {xs : List Act} (a : Act) → Clear w → Clear x → ((ys : List Act) (y : World) → Served x ys y → Served w (a ∷ ys) y)
@@ -168,8 +145,7 @@ led-stands {w} {v} (writes-one {xs = xs} offset n h later) = by-test (midst (w .
     by-test true m s = write-inside w m offset n h s
     by-test false c s = act-between (write offset n) c c (λ ys y t. written offset n c h t) s
 led-stands {w} (takes good h later) =
-    let clear : (midst (w .state .work) ≡ false) × Clear (answer-on good w (w .state .work)) = answer-clear good w (w .state .work) h in
-    act-between (answer good) (clear .0) (clear .1) (λ ys y t. answers good h t) (led-stands later)
+    act-between (answer good) (waits-clear (w .state .work) h) (answered-clear good w h) (λ ys y t. answers good h t) (led-stands later)
 
 -- from any world, whatever is in work there, calls of which none is a reset stand in the midst of what was in work at the start; or at its
 -- end, and whole submissions of the unsliced rules after it, and some units into the next one

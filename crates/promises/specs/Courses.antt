@@ -1,7 +1,7 @@
 -- A submission's units one by one: all but the last change the work alone, whatever the registers are, and with any registers that enable
 -- they end where the unsliced rules end, after their count of units. Assumes nothing.
 use mathlib.Core.Path.{_≡_, refl, sym, ap, subst, _∙_}
-use mathlib.Core.Bool.{Bool, true, false, _&&_}
+use mathlib.Core.Bool.{Bool, true, false}
 use mathlib.Core.List.{List}
 use Prim.Native.Nat.{ℕ, zero, suc, _≤_, _<_}
 use native.Mathlib.Omega.{arith}
@@ -16,8 +16,8 @@ use Rattle.rules.specs.Packets.{Holdings, at-first, take-packet}
 use Rattle.rules.specs.State.{Work, World, working, registering}
 use Rattle.rules.specs.State.Work.{resting, entries, packets, waiting}
 use Rattle.rules.specs.Settle.{settled}
-use Rattle.rules.specs.Steps.{after-opening, open-step, after-entry, entry-step, after-packet, next-place, packet-step, step-on, step, busy, go, run-for}
-use Rattle.rules.specs.Unsliced.{submission, finished, submitted-on, submitted}
+use Rattle.rules.specs.Steps.{after-opening, open-step, after-entry, entry-step, after-packet, next-place, packet-step, step-on, step, go, run-for}
+use Rattle.rules.specs.Unsliced.{submission, submitted-on, submitted}
 use Rattle.rules.specs.declared.Entry.{Entry}
 use Rattle.rules.specs.declared.Job.{Job}
 use Rattle.rules.specs.declared.Registers.{Registers}
@@ -29,7 +29,8 @@ use Rattle.rules.specs.declared.Opening.{Opening}
 use Rattle.rules.specs.declared.Opening.the-variants.{BadRing, NoWork, Refused, Started}
 use Rattle.promises.specs.Whole.{midst, Course, course-join}
 use Rattle.promises.specs.Submission.{LiesOn, opening-lies, later-units, table-judged, packets-judged, course-started, submission-units, submits}
-use Rattle.promises.specs.Night.{Clear}
+use Rattle.promises.specs.AnyRegisters.{goes-on}
+use Rattle.promises.specs.Night.{Clear, finished-clear}
 use Rattle.promises.specs.Chains.{submitted-under}
 
 -- no test comes out both ways
@@ -68,12 +69,6 @@ module _ (x : World) (q : Registers) where
   unit-alone m h = on-alone (x .state .work) m h
 
 -- ---- courses: in the midst until the end
-
-goes-on : (e r : Bool) (k : Work) → e ≡ true → midst k ≡ true → e && busy r k ≡ true
-goes-on e r resting h m = clash m refl
-goes-on e r (entries o kept) h m = rw h
-goes-on e r (packets j s at es held) h m = rw h
-goes-on e r (waiting j es held) h m = clash m refl
 
 -- one unit of it
 pub course-one : (w : World) → w .state .regs .enabled ≡ true → midst (w .state .work) ≡ true → Course 1 w (step w)
@@ -129,11 +124,6 @@ pub record Opens (w : World) (q : Registers) (o : Out World) : Type 0 where
   pub units : suc count ≡ o .units
   pub course : Course count (registering q (step w)) (o .state)
   pub clear : Clear (o .state)
-
-finished-clear : (w : World) (j : Job) (es : List Entry) (h : Holdings) (v : Verdict) → Clear (finished w j es h v)
-unfolding settled
-finished-clear w j es h Fine = refl
-finished-clear w j es h (Broken r) = refl
 
 module _ (w : World) (rest : w .state .work ≡ resting) (m : midst (step w .state .work) ≡ true) (q : Registers) (on : q .enabled ≡ true) where
   opens-on : (v : Opening) → LiesOn (w .mem) v → step w ≡ after-opening w v → Opens w q (submitted-on (registering q w) v)

@@ -3,19 +3,17 @@
 use mathlib.Core.Path.{_≡_, refl, ap, subst, _∙_}
 use mathlib.Core.Bool.{Bool, true, false}
 use mathlib.Core.List.{List, [], _∷_, _++_}
-use Prim.Native.Nat.{ℕ, zero, suc, _≤_}
+use Prim.Native.Nat.{ℕ, zero, suc}
 use native.Mathlib.Omega.{arith}
-use borrow.Author.Tests.{eqb-true}
-use lib.Dec.{eqb}
 use Rattle.machine.specs.Machine.{pick, run-none, run-stop, run-go}
 use Rattle.rules.specs.Numbers.{done, other-memory, nothing-waits, host-failed}
-use Rattle.rules.specs.Lists.{Found, pushed, lookup}
+use Rattle.rules.specs.Lists.{Found, pushed}
 use Rattle.rules.specs.Lists.Found.{none, found}
 use Rattle.rules.specs.Judging.{refusal}
 use Rattle.rules.specs.Packets.{Holdings}
 use Rattle.rules.specs.State.{Work, State, World, made, with-regs, with-state, registering}
 use Rattle.rules.specs.State.Work.{resting, entries, packets, waiting}
-use Rattle.rules.specs.Registers.{Write, with-enabled, bit-of, reset, controlled, writable, write-offset, write-of}
+use Rattle.rules.specs.Registers.{Write, bit-of, reset, write-of}
 use Rattle.rules.specs.Steps.{step, go, run-for, waits-on, waits, answered}
 use Rattle.rules.specs.Calls.{lent-another, wrote, call-write, ran, call-run, Answered, call-answer}
 use Rattle.rules.specs.declared.Ended.the-variants.{Idle}
@@ -25,8 +23,8 @@ use Rattle.rules.specs.declared.Job.{Job}
 use Rattle.rules.specs.declared.Registers.{Registers}
 use Rattle.rules.specs.declared.Verdict.{Verdict}
 use Rattle.rules.specs.declared.Verdict.the-variants.{Fine, Broken}
-use Rattle.packet_apply.specs.Held.{Every}
-use Rattle.promises.specs.Writes.{resets}
+use Rattle.promises.specs.Writes.{resets, Written, write-keeps-or-drops}
+use Rattle.promises.specs.Writes.Written.{keeps, drops}
 use Rattle.promises.specs.Refused.{refused-run-changes-nothing, refused-answer-changes-nothing, refused-write-changes-nothing}
 use Rattle.promises.specs.Called.{Call, after, after-all, Called}
 use Rattle.promises.specs.Called.Called.{makes, calls}
@@ -101,52 +99,20 @@ run-has-events (suc n) w = by-test (go w) refl (run-has-events n (step w))
     by-test true g q = (events-of-unit (unit w) ++ q .0, rw (run-go go step n w g) (one g (unit w) (q .1)))
     by-test false g q = ([], rw (run-stop go step (suc n) w g) stop)
 
--- what a register write gives, where there is such a register
-data Gives (s : State) (offset v : ℕ) : State → Type 0 where
-  other-registers : (r : Registers) → resets offset v ≡ false → r .completed ≡ s .regs .completed → r .error ≡ s .regs .error → Gives s offset v (with-regs r s)
-  reset-state : resets offset v ≡ true → Gives s offset v (reset (bit-of 0 v) s)
-
-abbrev GivesOf : State → ℕ → Write → Type 0
-GivesOf s v x = Gives s (x .offset) v (x .state)
-
-abbrev GivesFound : State → ℕ → ℕ → Found Write → Type 0
-GivesFound s offset v none = 0 ≤ 0
-GivesFound s offset v (found x) = Gives s offset v (x .state)
-
-found-gives : (s : State) (offset v : ℕ) (xs : List Write) → Every (GivesOf s v) xs → GivesFound s offset v (lookup write-offset offset xs)
-unfolding lookup Every
-found-gives s offset v [] h = omega arith
-found-gives s offset v (x ∷ xs) h = by-test (eqb (x .offset) offset) refl (found-gives s offset v xs (h .1))
-  where
-    by-test : (b : Bool) → eqb (x .offset) offset ≡ b → GivesFound s offset v (lookup write-offset offset xs) → GivesFound s offset v (pick b (found x) (lookup write-offset offset xs))
-    by-test true e k = subst (λ o. Gives s o v (x .state)) (eqb-true (x .offset) offset e) (h .0)
-    by-test false e k = k
-
-control-gives : (s : State) (v : ℕ) → Gives s 0x10c v (controlled v s)
-unfolding controlled
-control-gives s v = by-bit (bit-of 1 v) refl
-  where
-    by-bit : (b : Bool) → bit-of 1 v ≡ b → Gives s 0x10c v (pick b (reset (bit-of 0 v) s) (with-regs (with-enabled (bit-of 0 v) (s .regs)) s))
-    by-bit true h = reset-state h
-    by-bit false h = other-registers _ h refl refl
-
-each-gives : (s : State) (v : ℕ) → Every (GivesOf s v) (writable s v)
-unfolding Every
-each-gives s v =
-    let plain : (offset : ℕ) (r : Registers) → resets offset v ≡ false → r .completed ≡ s .regs .completed → r .error ≡ s .regs .error → Gives s offset v (with-regs r s) = λ o r. other-registers r in
-    (plain _ _ refl refl refl, (plain _ _ refl refl refl, (plain _ _ refl refl refl, (control-gives s v, (plain _ _ refl refl refl, (plain _ _ refl refl refl, (plain _ _ refl refl refl, (plain _ _ refl refl refl, (plain _ _ refl refl refl, omega arith)))))))))
-
 write-has-events : (offset v : ℕ) (w : World) → (es : List Event) × Happens w (writes offset v) es (with-state (call-write (w .state) offset v .state) w)
-unfolding call-write write-of
-write-has-events offset v w = by-found (write-of (w .state) offset v) refl (found-gives (w .state) offset v (writable (w .state) v) (each-gives (w .state) v))
+unfolding call-write
+write-has-events offset v w = by-found (write-of (w .state) offset v) refl (write-keeps-or-drops (w .state) offset v)
   where
-    by-state : (s : State) → wrote (w .state) (write-of (w .state) offset v) .state ≡ s → Gives (w .state) offset v s → (es : List Event) × Happens w (writes offset v) es (with-state s w)
-    by-state s q (other-registers r n c e) = ([], changes-registers offset v r n q c e)
-    by-state s q (reset-state h) = (resetting ∷ [], resets-all offset v h q)
+    by-written : (s : State) → call-write (w .state) offset v .state ≡ s → Written (w .state) offset v s
+        → (es : List Event) × Happens w (writes offset v) es (with-state s w)
+    by-written s q (keeps r n c e) = ([], changes-registers offset v r n q c e)
+    by-written s q (drops h) = (resetting ∷ [], resets-all offset v h q)
 
-    by-found : (f : Found Write) → write-of (w .state) offset v ≡ f → GivesFound (w .state) offset v f → (es : List Event) × Happens w (writes offset v) es (with-state (wrote (w .state) f .state) w)
+    by-found : (f : Found Write) → write-of (w .state) offset v ≡ f → Written (w .state) offset v (wrote (w .state) (write-of (w .state) offset v) .state)
+        → (es : List Event) × Happens w (writes offset v) es (with-state (wrote (w .state) f .state) w)
     by-found none e k = ([], refused-write offset v (λ d. absurd (let z : _≡_ {A = ℕ} 0 1 = cc in omega arith)))
-    by-found (found x) e k = by-state (x .state) (ap (λ f. wrote (w .state) f .state) e) k
+    by-found (found x) e k =
+        by-written (x .state) (ap (λ f. wrote (w .state) f .state) e) (subst (λ f. Written (w .state) offset v (wrote (w .state) f .state)) e k)
 
 run-call-has-events : (n : ℕ) (w : World) → (es : List Event) × Happens w (runs n) es (call-run w n .world)
 unfolding call-run

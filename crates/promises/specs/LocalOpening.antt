@@ -11,7 +11,7 @@ use Rattle.machine.specs.Machine.{pick}
 use Rattle.rules.specs.Numbers.{bad-table, bad-stream}
 use Rattle.rules.specs.Judging.{refusal, only, _▹_}
 use Rattle.rules.specs.Layouts.{ring-header, ring-header-size, descriptor, descriptor-size, table-header, table-header-size, stream-header, stream-header-size}
-use Rattle.rules.specs.Headers.{wrong-front}
+use Rattle.rules.specs.Headers.{wrong-header}
 use Rattle.rules.specs.Table.{header-rules, table-of, no-table}
 use Rattle.rules.specs.Stream.{stream-rules, stream-of, no-stream}
 use Rattle.rules.specs.Ring.{present, descriptor-rules, range-rules, submission-rules, job-of, opened-of, concluded, slot-place, submission-opening, good-header, good-ring, ring-opening, opening-of}
@@ -72,11 +72,11 @@ module _ {H : Type 0} (rules : H → Verdict) (code least size : ℕ) (small : l
       by-tests false true t k = refl
 
 small-table : (size : ℕ) → ltb size table-header-size ≡ true → (h : TableHeader) → header-rules size h ≡ Broken (refusal bad-table)
-unfolding header-rules wrong-front
+unfolding header-rules wrong-header
 small-table size t h = rw t
 
 small-stream : (size : ℕ) → ltb size stream-header-size ≡ true → (h : StreamHeader) → stream-rules size h ≡ Broken (refusal bad-stream)
-unfolding stream-rules wrong-front
+unfolding stream-rules wrong-header
 small-stream size t h = rw t
 
 -- ---- a submission

@@ -4,13 +4,13 @@
 use mathlib.Core.Path.{_≡_, refl, ap, _∙_}
 use mathlib.Core.Bool.{true, false}
 use mathlib.Core.List.{List, []}
-use mathlib.Core.Bool.{Bool, true, false}
+use mathlib.Core.Bool.{true, false}
 use mathlib.Core.Logic.{_⊎_}
 use native.Mathlib.Omega.{arith}
-use Rattle.machine.specs.Machine.{pick, run-stop}
+use Rattle.machine.specs.Machine.{run-stop}
 use Prim.Native.Nat.{ℕ, _≤_}
 use lib.ListN.{length}
-use Rattle.rules.specs.Numbers.{done, other-memory, no-record, host-failed}
+use Rattle.rules.specs.Numbers.{done, no-record, host-failed}
 use Rattle.rules.specs.Ring.{opening-of}
 use Rattle.rules.specs.Table.{entries-of}
 use Rattle.rules.specs.Packets.{Holdings, at-first}
@@ -19,9 +19,9 @@ use Rattle.rules.specs.Registers.{Read, register}
 use Rattle.rules.specs.State.{State, World, working, registering}
 use Rattle.rules.specs.State.Work.{resting, waiting}
 use Rattle.rules.specs.Settle.{settled, settled-keeping}
-use Rattle.rules.specs.Steps.{go, step, run-for, waits-on, waits}
+use Rattle.rules.specs.Steps.{go, step, waits-on, waits}
 use Rattle.rules.specs.Unsliced.{Submission, submission, finished, submitted-on}
-use Rattle.rules.specs.Calls.{lent-another, ending, Ran, ran, Answered, valued, record-read, handed-out, no-range, call-write, call-read, call-run, call-record, call-answer}
+use Rattle.rules.specs.Calls.{lent-another, ending, Ran, Answered, valued, record-read, handed-out, no-range, call-write, call-read, call-run, call-record, call-answer}
 use Rattle.rules.specs.Lists.{Found, nth}
 use Rattle.rules.specs.Lists.Found.{none, found}
 use Rattle.rules.specs.declared.Ended.the-variants.{Idle, Paused}
@@ -47,7 +47,7 @@ use Rattle.promises.specs.Units.{Unit, unit}
 use Rattle.promises.specs.Chains.{submitted-under, Stands}
 use Rattle.promises.specs.ChainsStand.{calls-stand, same-acts}
 use Rattle.promises.specs.Slicing.{NoWrite, same-units-same-answers}
-use Rattle.promises.specs.Runs.{never-more-than-allowed, run-spends-all-or-is-done, paused-spent-all}
+use Rattle.promises.specs.Runs.{of-run, never-more-than-allowed, run-spends-all-or-is-done, paused-spent-all}
 use Rattle.promises.specs.Events.{Event, History, calls-have-events}
 use Rattle.promises.specs.Changes.{Says, calls-say}
 use Rattle.promises.specs.Bytes.{WrittenBy, calls-write}
@@ -80,21 +80,14 @@ pub record SaysNothing (w : World) : Type 0 where
   pub range : (i : ℕ) → (call-record (w .state) i .answer ≡ done → ⊥) → call-record (w .state) i .range ≡ no-range
 
 pub refused-call-says-nothing : (w : World) → SaysNothing w
-unfolding call-run call-read call-record
+unfolding call-read call-record
 refused-call-says-nothing w =
     record {
-      run = λ n. by-length n (lent-another w);
+      run = λ n. of-run (λ (r : Ran). (r .answer ≡ done → ⊥) → (r .units ≡ 0) × (r .ended ≡ Idle)) w n (λ e h. (refl, refl)) (λ e h. absurd (h refl));
       read = λ offset. by-register (register (w .state .regs) offset);
       range = λ i. by-record (nth (handed-out (w .state .work)) i);
     }
   where
-    of-run : ℕ → Bool → Ran
-    of-run n b = pick b (record { answer = other-memory; units = 0; ended = Idle; world = w }) (ran (run-for n w))
-
-    by-length : (n : ℕ) (b : Bool) → (of-run n b .answer ≡ done → ⊥) → (of-run n b .units ≡ 0) × (of-run n b .ended ≡ Idle)
-    by-length n true h = (refl, refl)
-    by-length n false h = absurd (h refl)
-
     by-register : (f : Found Read) → (valued f .answer ≡ done → ⊥) → valued f .value ≡ 0
     by-register none h = refl
     by-register (found x) h = absurd (h refl)
@@ -238,25 +231,14 @@ pub record Allowed (w : World) (n : ℕ) : Type 0 where
   pub still : go w ≡ false → (call-run w n .units ≡ 0) × (call-run w n .world ≡ w)
 
 pub a-run-spends-its-allowance : (w : World) (n : ℕ) → Allowed w n
-unfolding call-run
 a-run-spends-its-allowance w n =
     record {
       most = never-more-than-allowed w n;
       all-or-done = run-spends-all-or-is-done w n;
       paused = paused-spent-all w n;
-      ends = run-ends;
-      still = run-still (lent-another w);
+      ends = λ l. of-run (λ (r : Ran). r .ended ≡ ending (r .world .state)) w n (λ e. absurd (let z : _≡_ {A = ℕ} 0 1 = cc in omega arith)) (λ e. refl);
+      still = λ g. of-run (λ (r : Ran). (r .units ≡ 0) × (r .world ≡ w)) w n (λ e. (refl, refl)) (λ e. rw (run-stop go step n w g) (refl, refl));
     }
-  where
-    run-ends : lent-another w ≡ false → call-run w n .ended ≡ ending (call-run w n .world .state)
-    run-ends l = rw l
-
-    of-run : Bool → Ran
-    of-run b = pick b (record { answer = other-memory; units = 0; ended = Idle; world = w }) (ran (run-for n w))
-
-    run-still : (b : Bool) → go w ≡ false → (of-run b .units ≡ 0) × (of-run b .world ≡ w)
-    run-still true g = (refl, refl)
-    run-still false g = rw (run-stop go step n w g) (refl, refl)
 
 -- each unit is one of the rules' units: it works on; or finds a bad ring or no work; or settles with a rule that is broken there
 pub a-unit-is-the-rules : (w : World) → Unit w (step w)

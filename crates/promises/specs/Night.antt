@@ -41,7 +41,7 @@ pub data Night : World → List Bool → ℕ → World → Type 0 where
 
 -- ---- a submission's end, and an answer's, is clear
 
-finished-clear : (w : World) (j : Job) (es : List Entry) (h : Holdings) (v : Verdict) → Clear (finished w j es h v)
+pub finished-clear : (w : World) (j : Job) (es : List Entry) (h : Holdings) (v : Verdict) → Clear (finished w j es h v)
 unfolding settled
 finished-clear w j es h Fine = refl
 finished-clear w j es h (Broken r) = refl
@@ -66,7 +66,7 @@ answer-on-clear good w (packets j s at es held) h = absurd (let z : _≡_ {A = �
 answer-on-clear true w (waiting j es held) h = refl
 answer-on-clear false w (waiting j es held) h = refl
 
-answered-clear : (good : Bool) (w : World) → waits (w .state) ≡ true → Clear (answered good w)
+pub answered-clear : (good : Bool) (w : World) → waits (w .state) ≡ true → Clear (answered good w)
 unfolding answered
 answered-clear good w h = answer-on-clear good w (w .state .work) h
 
@@ -80,11 +80,11 @@ rests-on e r (waiting j es held) c h =
     let y : false ≡ true = sym (and-false e) ∙ h in
     absurd (let z : _≡_ {A = ℕ} 0 1 = cc in omega arith)
 
-rests : (w : World) → Clear w → go w ≡ true → w .state .work ≡ resting
+pub rests : (w : World) → Clear w → go w ≡ true → w .state .work ≡ resting
 unfolding go
 rests w c h = rests-on (w .state .regs .enabled) (w .state .regs .doorbell) (w .state .work) c h
 
-waits-clear : (k : Work) → waits-on k ≡ true → midst k ≡ false
+pub waits-clear : (k : Work) → waits-on k ≡ true → midst k ≡ false
 waits-clear resting h = refl
 waits-clear (entries o kept) h = absurd (let z : _≡_ {A = ℕ} 0 1 = cc in omega arith)
 waits-clear (packets j s at es held) h = absurd (let z : _≡_ {A = ℕ} 0 1 = cc in omega arith)

@@ -11,7 +11,7 @@ use Rattle.rules.specs.Bytes.{le, bytesOf}
 use Rattle.rules.specs.Lists.{over, nth, lookup}
 use Rattle.rules.specs.Judging.{refusal}
 use Rattle.rules.specs.Layouts.{word, long, ring-header, descriptor, table-header, entry, stream-header, buffer-fields, page-bytes}
-use Rattle.rules.specs.Headers.{wrong-front}
+use Rattle.rules.specs.Headers.{wrong-header}
 use Rattle.rules.specs.Table.{header-rules, entry-id, entry-rules, take-entry, entries-from, entries-of, judge-entries}
 use Rattle.rules.specs.Stream.{known, stream-rules, least-size, frame-rules, frame-of, packet-of, cut, packets-of}
 use Rattle.rules.specs.Ring.{descriptor-rules, range-rules, submission-rules, submission-opening, power-of-two, good-header, good-ring, ring-opening, opening-of}
@@ -148,7 +148,7 @@ pub record TwoGuests : Type 0 where
   pub by-units : over-moving (guest 1 ∷ guest 1 ∷ guest 1 ∷ []) (asking 1 .state) ≡ awaiting .state
 
 pub two-guests : TwoGuests
-unfolding zeros in-bytes ring-words slot-words table-words entry-words stream-words guest asking begun held the-entry awaiting ringing rewriting rewritten le bytesOf over lookup nth ring-header descriptor table-header entry stream-header buffer-fields page-bytes power-of-two good-header good-ring ring-opening opening-of descriptor-rules range-rules submission-rules submission-opening wrong-front header-rules stream-rules entry-rules take-entry entries-from judge-entries known least-size frame-rules frame-of packet-of cut apply take-packet on-buffer-packet create create-backed judge-packets submission submitted faulted signalled ended-by written head-written page-written marked settled write-of open-step entry-step packet-step step go runFor call-write call-run call-record after after-all units-of units-of-all over-moving
+unfolding zeros in-bytes ring-words slot-words table-words entry-words stream-words guest asking begun held the-entry awaiting ringing rewriting rewritten le bytesOf over lookup nth ring-header descriptor table-header entry stream-header buffer-fields page-bytes power-of-two good-header good-ring ring-opening opening-of descriptor-rules range-rules submission-rules submission-opening wrong-header header-rules stream-rules entry-rules take-entry entries-from judge-entries known least-size frame-rules frame-of packet-of cut apply take-packet on-buffer-packet create create-backed judge-packets submission submitted faulted signalled ended-by written head-written page-written marked settled write-of open-step entry-step packet-step step go runFor call-write call-run call-record after after-all units-of units-of-all over-moving
 two-guests =
     record {
       one-starts = refl;
@@ -231,7 +231,7 @@ unfoldable pub packet-alone : List ℕ
 packet-alone = in-bytes (zeros 52 ++ drop 6 stream-words)
 
 pub read-alone : SameWhenRead (asking 1 .state) (guest 1 ∷ guest 1 ∷ guest 1 ∷ []) (opening-alone ∷ entry-alone ∷ packet-alone ∷ [])
-unfolding opening-alone entry-alone packet-alone zeros in-bytes ring-words slot-words table-words entry-words stream-words guest asking le bytesOf lookup ring-header descriptor table-header entry stream-header power-of-two good-header good-ring ring-opening opening-of descriptor-rules range-rules submission-rules submission-opening wrong-front header-rules stream-rules entry-rules take-entry known least-size frame-rules frame-of open-step entry-step step go runFor call-run
+unfolding opening-alone entry-alone packet-alone zeros in-bytes ring-words slot-words table-words entry-words stream-words guest asking le bytesOf lookup ring-header descriptor table-header entry stream-header power-of-two good-header good-ring ring-opening opening-of descriptor-rules range-rules submission-rules submission-opening wrong-header header-rules stream-rules entry-rules take-entry known least-size frame-rules frame-of open-step entry-step step go runFor call-run
 read-alone =
     unit {s = asking 1 .state} (guest 1) opening-alone refl
     (λ _. record { header = λ _ _. refl; pending = λ _ _. record { slot = refl; ranges = λ _ _. record { table = λ _. refl; stream = λ _ _. refl } } })

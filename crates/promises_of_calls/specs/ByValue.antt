@@ -50,9 +50,11 @@ gives-world d m c r d′ m′ (run-gives n x n′ k) = ap (λ (y : RanBy). y .wo
 gives-world d m c r d′ m′ (record-gives i x k) = refl
 gives-world d m c r d′ m′ (answer-gives good t n′ k) = ap (λ (y : AnsweredBy). y .world) k
 
--- the layer
-abbrev pub by-value : Layer
-by-value =
+-- a layer whose devices are such structs and whose calls are calls of the device by value: what was made, what was called, and why both are so
+abbrev pub layer-of : (Made : ℕ → Device → Type 0) (Called : Device → List ℕ → Call → Reply → Device → List ℕ → Type 0)
+    → ((memory : ℕ) (d : Device) → Made memory d → Makes memory d)
+    → ((d : Device) (m : List ℕ) (c : Call) (r : Reply) (d′ : Device) (m′ : List ℕ) → Called d m c r d′ m′ → Gives d m c r d′ m′) → Layer
+layer-of Made Called is-made is-called =
     record {
       Device = Device;
       state = stateOf;
@@ -61,12 +63,16 @@ by-value =
       units = λ c r. r .units;
       answered = λ r. r .answer;
       record-read = λ r. record { answer = r .answer; range = r .range };
-      Makes = Makes;
-      Gives = Gives;
+      Makes = Made;
+      Gives = Called;
       units-read = λ c w. refl;
       answered-as = λ good r. refl;
       record-read-as = λ i r. refl;
-      makes-made = λ memory d k. k;
-      gives-reply = gives-reply;
-      gives-world = gives-world;
+      makes-made = is-made;
+      gives-reply = λ d m c r d′ m′ k. gives-reply d m c r d′ m′ (is-called d m c r d′ m′ k);
+      gives-world = λ d m c r d′ m′ k. gives-world d m c r d′ m′ (is-called d m c r d′ m′ k);
     }
+
+-- the layer
+abbrev pub by-value : Layer
+by-value = layer-of Makes Gives (λ memory d k. k) (λ d m c r d′ m′ k. k)

@@ -11,7 +11,7 @@ use Rattle.machine.specs.Machine.{runFor}
 use Rattle.rules.specs.Bytes.{le, bytesOf}
 use Rattle.rules.specs.Lists.{over, nth, lookup}
 use Rattle.rules.specs.Layouts.{ring-header, descriptor, table-header, entry, stream-header, buffer-fields, page-bytes}
-use Rattle.rules.specs.Headers.{wrong-front}
+use Rattle.rules.specs.Headers.{wrong-header}
 use Rattle.rules.specs.Table.{header-rules, entry-rules, take-entry, entries-from, judge-entries}
 use Rattle.rules.specs.Stream.{known, stream-rules, least-size, frame-rules, frame-of, packet-of, cut}
 use Rattle.rules.specs.Ring.{descriptor-rules, range-rules, submission-rules, submission-opening, power-of-two, good-header, good-ring, ring-opening, opening-of}
@@ -136,12 +136,12 @@ module _ (n : ℕ) where
 
 -- a run of up to 65535 units ends waiting (1) after 3
 pub runs-to-waiting : SaysRun 65535 (lent-of (asking-device 1) (guest 1)) (0 + (256 * 1 + 65536 * 3)) (lent-of waiting-device (guest 1))
-unfolding asking-device waiting-device worldIn countIn tab rowAt table zeros in-bytes ring-words slot-words table-words entry-words stream-words guest le bytesOf over lookup nth ring-header descriptor table-header entry stream-header buffer-fields page-bytes power-of-two good-header good-ring ring-opening opening-of descriptor-rules range-rules submission-rules submission-opening wrong-front header-rules stream-rules entry-rules take-entry known least-size frame-rules frame-of packet-of apply take-packet on-buffer-packet create create-backed open-step entry-step packet-step step go runFor call-run ending
+unfolding asking-device waiting-device worldIn countIn tab rowAt table zeros in-bytes ring-words slot-words table-words entry-words stream-words guest le bytesOf over lookup nth ring-header descriptor table-header entry stream-header buffer-fields page-bytes power-of-two good-header good-ring ring-opening opening-of descriptor-rules range-rules submission-rules submission-opening wrong-header header-rules stream-rules entry-rules take-entry known least-size frame-rules frame-of packet-of apply take-packet on-buffer-packet create create-backed open-step entry-step packet-step step go runFor call-run ending
 runs-to-waiting = record { spent = refl; world = refl; still = λ z. absurd (z refl) }
 
 -- and one of 3 units over the guest with its entry twice ends paused (2), having refused it
 pub runs-to-refusal : SaysRun 3 (lent-of (asking-device 2) (guest 2)) (0 + (256 * 2 + 65536 * 3)) (lent-of refused-device (submitted (asking 2) .state .mem))
-unfolding asking asking-device refused-device worldIn countIn tab rowAt table zeros in-bytes ring-words slot-words table-words entry-words stream-words guest le bytesOf over lookup nth ring-header descriptor table-header entry stream-header buffer-fields page-bytes power-of-two good-header good-ring ring-opening opening-of descriptor-rules range-rules submission-rules submission-opening wrong-front header-rules stream-rules entry-rules take-entry known least-size frame-rules frame-of packet-of apply take-packet on-buffer-packet create create-backed open-step entry-step packet-step step go runFor call-run ending faulted signalled ended-by written head-written page-written marked settled submitted submission judge-entries entries-from judge-packets cut
+unfolding asking asking-device refused-device worldIn countIn tab rowAt table zeros in-bytes ring-words slot-words table-words entry-words stream-words guest le bytesOf over lookup nth ring-header descriptor table-header entry stream-header buffer-fields page-bytes power-of-two good-header good-ring ring-opening opening-of descriptor-rules range-rules submission-rules submission-opening wrong-header header-rules stream-rules entry-rules take-entry known least-size frame-rules frame-of packet-of apply take-packet on-buffer-packet create create-backed open-step entry-step packet-step step go runFor call-run ending faulted signalled ended-by written head-written page-written marked settled submitted submission judge-entries entries-from judge-packets cut
 runs-to-refusal = record { spent = refl; world = refl; still = λ z. absurd (z refl) }
 
 -- the record
@@ -249,11 +249,11 @@ unfoldable pub opened-device : Device
 opened-device = bare (words-of 1 128 1 0 0 0 0 0 0 1 1 (0 ∷ 0 ∷ 7 ∷ 0 ∷ 128 ∷ 1 ∷ 32 ∷ 184 ∷ 64 ∷ zeros 9))
 
 pub opens : SaysRun 1 (lent-of (asking-device 1) (guest 1)) (0 + (256 * 2 + 65536 * 1)) (lent-of opened-device (guest 1))
-unfolding asking-device opened-device worldIn countIn tab rowAt table zeros in-bytes ring-words slot-words table-words entry-words stream-words guest le bytesOf ring-header descriptor table-header stream-header power-of-two good-header good-ring ring-opening opening-of descriptor-rules range-rules submission-rules submission-opening wrong-front header-rules stream-rules open-step step go runFor call-run ending
+unfolding asking-device opened-device worldIn countIn tab rowAt table zeros in-bytes ring-words slot-words table-words entry-words stream-words guest le bytesOf ring-header descriptor table-header stream-header power-of-two good-header good-ring ring-opening opening-of descriptor-rules range-rules submission-rules submission-opening wrong-header header-rules stream-rules open-step step go runFor call-run ending
 opens = record { spent = refl; world = refl; still = λ z. absurd (z refl) }
 
 pub opens-alone : SaysRun 1 (lent-of scrawled-device opening-alone) (0 + (256 * 2 + 65536 * 1)) (lent-of opened-device opening-alone)
-unfolding scrawled-device opened-device worldIn countIn tab rowAt table zeros in-bytes ring-words slot-words table-words entry-words stream-words opening-alone le bytesOf ring-header descriptor table-header stream-header power-of-two good-header good-ring ring-opening opening-of descriptor-rules range-rules submission-rules submission-opening wrong-front header-rules stream-rules open-step step go runFor call-run ending
+unfolding scrawled-device opened-device worldIn countIn tab rowAt table zeros in-bytes ring-words slot-words table-words entry-words stream-words opening-alone le bytesOf ring-header descriptor table-header stream-header power-of-two good-header good-ring ring-opening opening-of descriptor-rules range-rules submission-rules submission-opening wrong-header header-rules stream-rules open-step step go runFor call-run ending
 opens-alone = record { spent = refl; world = refl; still = λ z. absurd (z refl) }
 
 the-first : {s : State} {m m′ : List ℕ} {ms ms′ : List (List ℕ)} → SameWhenRead s (m ∷ ms) (m′ ∷ ms′) → go (lent s m) ≡ true → SameWhereRead s m m′

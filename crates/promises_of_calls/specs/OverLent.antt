@@ -3,7 +3,6 @@
 use mathlib.Core.List.{List}
 use mathlib.Core.Bool.{Bool}
 use Prim.Native.Nat.{ℕ}
-use mathlib.Core.Path.{refl}
 use Rattle.run_state.specs.Views.{Lent, lent as lending}
 use Rattle.registers.specs.Views.{Writes}
 use Rattle.device_calls.specs.Views.{Makes, Reads, GivesRecord}
@@ -11,13 +10,12 @@ use Rattle.device_calls.specs.declared.ValueRead.{ValueRead}
 use Rattle.device_calls.specs.declared.RecordRead.{RecordRead}
 use Rattle.device_memory_calls.specs.Views.{Runs, Answers}
 use Rattle.device_memory_calls.specs.declared.Spent.{Spent}
-use Rattle.device.specs.Views.{stateOf}
 use Rattle.device.specs.Calling.{is-made, wrote, read, record-read, ran, answered}
 use Rattle.device.specs.declared.Device.{Device}
 use Rattle.promises.specs.Called.{Call}
 use Rattle.promises.specs.Called.Call.{writes, reads, runs, records, answers}
 use Rattle.promises_of_calls.specs.Layers.{Reply, answering, showing, spending, handing, Layer}
-use Rattle.promises_of_calls.specs.ByValue.{Gives as GivesByValue, gives-reply, gives-world}
+use Rattle.promises_of_calls.specs.ByValue.{Gives as GivesByValue, layer-of}
 use Rattle.promises_of_calls.specs.ByValue.Gives.{write-gives, read-gives, run-gives, record-gives, answer-gives}
 
 -- the same tables under other words
@@ -50,20 +48,5 @@ is-by-value {d} {m} (lent-answer good answer s′ m′ k) =
 -- the layer
 abbrev pub over-lent : Layer
 over-lent =
-    record {
-      Device = Device;
-      state = stateOf;
-      Said = Reply;
-      said = λ c r. r;
-      units = λ c r. r .units;
-      answered = λ r. r .answer;
-      record-read = λ r. record { answer = r .answer; range = r .range };
-      Makes = λ memory d. Makes memory (d .words);
-      Gives = Gives;
-      units-read = λ c w. refl;
-      answered-as = λ good r. refl;
-      record-read-as = λ i r. refl;
-      makes-made = λ memory d k. is-made memory (d .words) (d .entries) (d .first) (d .second) (d .records) k;
-      gives-reply = λ d m c r d′ m′ k. gives-reply d m c r d′ m′ (is-by-value k);
-      gives-world = λ d m c r d′ m′ k. gives-world d m c r d′ m′ (is-by-value k);
-    }
+    layer-of (λ memory d. Makes memory (d .words)) Gives
+    (λ memory d k. is-made memory (d .words) (d .entries) (d .first) (d .second) (d .records) k) (λ d m c r d′ m′ k. is-by-value k)

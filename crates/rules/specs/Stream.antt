@@ -8,7 +8,7 @@ use Rattle.machine.specs.Machine.{pick}
 use Rattle.rules.specs.Numbers.{bad-stream, bad-packet, stream-magic, create-buffer, create-texture, destroy, dirty-range, copy-buffer, create-buffer-size, create-texture-size, destroy-size, dirty-range-size, copy-buffer-size}
 use Rattle.rules.specs.Judging.{rule, _▹_}
 use Rattle.rules.specs.Layouts.{word, stream-header-size, packet-header-size, buffer-fields, texture-fields, destroy-fields, dirty-fields, copy-fields}
-use Rattle.rules.specs.Headers.{wrong-front}
+use Rattle.rules.specs.Headers.{wrong-header}
 use Rattle.rules.specs.Lists.{Found}
 use Rattle.rules.specs.Lists.Found.{none, found}
 use Rattle.rules.specs.declared.StreamHeader.{StreamHeader}
@@ -24,7 +24,7 @@ use Rattle.rules.specs.declared.Frame.the-variants.{Whole, Misframed}
 -- "16: cmd size below 24; magic; version; stream size below 24 or above cmd size."
 unfoldable pub stream-rules : ℕ → StreamHeader → Verdict
 stream-rules cmdsize h =
-    rule bad-stream (wrong-front stream-magic stream-header-size cmdsize (h .magic) (h .version) (h .size))
+    rule bad-stream (wrong-header stream-magic stream-header-size cmdsize (h .magic) (h .version) (h .size))
 
 -- the numbers kept of it
 abbrev pub stream-of : ℕ → StreamHeader → Stream

@@ -10,7 +10,7 @@ use Rattle.rules.specs.Lists.{Found, lookup, pushed}
 use Rattle.rules.specs.Lists.Found.{none, found}
 use Rattle.rules.specs.Judging.{refusal, rule, _▹_, number}
 use Rattle.rules.specs.Layouts.{table-header, table-header-size, entry, entry-size}
-use Rattle.rules.specs.Headers.{wrong-front}
+use Rattle.rules.specs.Headers.{wrong-header}
 use Rattle.rules.specs.declared.TableHeader.{TableHeader}
 use Rattle.rules.specs.declared.Entry.{Entry}
 use Rattle.rules.specs.declared.Table.{Table}
@@ -21,7 +21,7 @@ use Rattle.rules.specs.declared.Verdict.the-variants.{Fine, Broken}
 -- 24 + count*stride above header size. Then 19: count above 64."
 unfoldable pub header-rules : ℕ → TableHeader → Verdict
 header-rules tablesize h =
-    rule bad-table (wrong-front table-magic table-header-size tablesize (h .magic) (h .version) (h .size))
+    rule bad-table (wrong-header table-magic table-header-size tablesize (h .magic) (h .version) (h .size))
     ▹ rule bad-table (ltb (h .stride) entry-size)
     ▹ rule bad-table (ltb (h .size) (table-header-size + h .count * h .stride))
     ▹ rule too-many (ltb most (h .count))

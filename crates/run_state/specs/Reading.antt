@@ -6,8 +6,8 @@ use Prim.Native.Nat.{ℕ, _≤_, _<_}
 use native.Mathlib.Omega.{arith}
 use native.Mathlib.Nat.{mod-eq-of-lt}
 use borrow.Author.Needs.{needs}
-use borrow.Author.Tests.{eq-eqb, ne-eqb, lt-ltb, le-ltb, ltb-false}
-use lib.Dec.{eqb, ltb}
+use borrow.Author.Tests.{eq-eqb, ne-eqb, lt-ltb, le-ltb}
+use lib.Dec.{eqb}
 use lib.ListN.{getD}
 use Rattle.machine.specs.Machine.{pick}
 use Rattle.rules.specs.Numbers.{most}
@@ -65,14 +65,6 @@ pub ruleset reading-word = (unset, is-set, set-test, flagged, unflagged, many, f
 -- a count that was stored is read
 pub count-as : (x n : ℕ) → (x ≡ n) × (x < 18446744073709551616) → n ≤ most → countIn x ≡ n
 count-as x n p h = sym (few x (omega arith) .0) ∙ p .0
-
-pub count-low : (x : ℕ) → countIn x ≤ most
-unfolding countIn
-count-low x = by-test (ltb most x) refl
-  where
-    by-test : (v : Bool) → ltb most x ≡ v → pick v most x ≤ most
-    by-test true h = omega arith
-    by-test false h = ltb-false most x h
 
 -- a count of 0 is no row
 module _ (l : List ℕ) where

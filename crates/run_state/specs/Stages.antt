@@ -18,14 +18,6 @@ module _ (s e r h c m : List ℕ) where
   unfolding worldIn
   rests-in i = rw i
 
-  pub reads-in : tagIn s ≡ 1 → worldIn s e r h c m .state .work ≡ entries (openedIn s) (keptIn s e)
-  unfolding worldIn
-  reads-in i = rw i
-
-  pub plays-in : tagIn s ≡ 2 → worldIn s e r h c m .state .work ≡ packets (jobIn s) (streamIn s) (placeIn s) (keptIn s e) (heldIn s r h c)
-  unfolding worldIn
-  plays-in i = rw i
-
   pub waits-in : 3 ≤ tagIn s → worldIn s e r h c m .state .work ≡ waiting (jobIn s) (keptIn s e) (heldIn s r h c)
   unfolding worldIn
   waits-in i = rw (ne-eqb (tagIn s) 0 (λ q. omega arith), ne-eqb (tagIn s) 1 (λ q. omega arith), ne-eqb (tagIn s) 2 (λ q. omega arith))

@@ -10,7 +10,7 @@ use lib.ListN.{length}
 use Rattle.rules.specs.Numbers.{bad-stream, stream-magic}
 use Rattle.rules.specs.Judging.{refusal}
 use Rattle.rules.specs.Layouts.{word, stream-header, stream-header-size}
-use Rattle.rules.specs.Headers.{wrong-front}
+use Rattle.rules.specs.Headers.{wrong-header}
 use Rattle.rules.specs.Stream.{stream-rules, stream-of}
 use Rattle.rules.specs.declared.Refusal.{Refusal}
 use Rattle.rules.specs.declared.Stream.{Stream}
@@ -18,7 +18,7 @@ use Rattle.rules.specs.declared.StreamHeader.{StreamHeader}
 use Rattle.rules.specs.declared.Verdict.{Verdict}
 use Rattle.rules.specs.declared.Verdict.the-variants.{Fine, Broken}
 use Rattle.rule_laws.specs.Fine.{kept-rule}
-use Rattle.headers.specs.Front.{GoodFront, front-good}
+use Rattle.headers.specs.Header.{GoodHeader, header-good}
 use Rattle.stream_header.specs.declared.header.CheckedStream.{CheckedStream}
 use Rattle.stream_header.specs.declared.header.CheckedStream.the-variants.{Good, Bad}
 
@@ -38,10 +38,10 @@ header-is m at k v s p q r = rw (p, q, r)
 
 module _ (cmdsize : ℕ) (h : StreamHeader) where
   pub range-short : cmdsize < stream-header-size → Broken (refusal bad-stream) ≡ stream-rules cmdsize h
-  unfolding stream-rules wrong-front
+  unfolding stream-rules wrong-header
   range-short p = rw (lt-ltb cmdsize stream-header-size p)
 
-  module _ (wrong : Bool) (front : wrong ≡ wrong-front stream-magic stream-header-size cmdsize (h .magic) (h .version) (h .size)) where
+  module _ (wrong : Bool) (front : wrong ≡ wrong-header stream-magic stream-header-size cmdsize (h .magic) (h .version) (h .size)) where
     pub stream-wrong : wrong ≡ true → Broken (refusal bad-stream) ≡ stream-rules cmdsize h
     unfolding stream-rules
     stream-wrong p = rw (← front, p)
@@ -69,11 +69,11 @@ pub ruleset heading = (header-is, stream-wrong, stream-good, begins-short, begin
 -- ---- what a good stream is known by
 
 abbrev pub GoodStreamHeader : ℕ → StreamHeader → Type 0
-GoodStreamHeader cmdsize h = GoodFront stream-magic stream-header-size cmdsize (h .magic) (h .version) (h .size)
+GoodStreamHeader cmdsize h = GoodHeader stream-magic stream-header-size cmdsize (h .magic) (h .version) (h .size)
 
 pub stream-sound : (cmdsize : ℕ) (h : StreamHeader) → stream-rules cmdsize h ≡ Fine → GoodStreamHeader cmdsize h
 unfolding stream-rules
-stream-sound cmdsize h e = front-good stream-magic stream-header-size cmdsize (h .magic) (h .version) (h .size) (kept-rule bad-stream _ e)
+stream-sound cmdsize h e = header-good stream-magic stream-header-size cmdsize (h .magic) (h .version) (h .size) (kept-rule bad-stream _ e)
 
 begun-good : (v : Verdict) (s s′ : Stream) → begun v s ≡ Good s′ → (v ≡ Fine) × (s ≡ s′)
 begun-good Fine s s′ e = (refl, cc)

@@ -6,7 +6,7 @@ ghost use lib.ListN.{length};
 ghost use Rattle.rules.specs.Layouts.{stream-header, stream-header-size};
 ghost use Rattle.rules.specs.Stream.{stream-rules, stream-of};
 ghost use Rattle.stream_header.specs.Header.{begun};
-use headers::wrong_front;
+use headers::wrong_header;
 use rules::Refusal;
 use rules::Stream;
 use rules::StreamHeader;
@@ -40,7 +40,7 @@ fn header_at(mem: &[u8], at: usize) -> StreamHeader
 pub fn header_verdict(cmdsize: u64, h: StreamHeader) -> Verdict
     ensures { λ r. ⌜ r ≡ stream-rules cmdsize h ⌝ }
 {
-    if wrong_front(
+    if wrong_header(
         STREAM_MAGIC,
         STREAM_HEADER_SIZE,
         cmdsize,

@@ -10,9 +10,9 @@ use lib.Dec.{ltb}
 use Rattle.rules.specs.Numbers.{bad-table, too-many, most, table-magic}
 use Rattle.rules.specs.Judging.{refusal, rule}
 use Rattle.rules.specs.Layouts.{word, table-header, table-header-size, entry-size}
-use Rattle.rules.specs.Headers.{wrong-front}
+use Rattle.rules.specs.Headers.{wrong-header}
 use Rattle.rules.specs.Table.{header-rules, table-of}
-use Rattle.headers.specs.Front.{front-good}
+use Rattle.headers.specs.Header.{header-good}
 use Rattle.rules.specs.declared.Refusal.{Refusal}
 use Rattle.rules.specs.declared.Table.{Table}
 use Rattle.rules.specs.declared.TableHeader.{TableHeader}
@@ -40,10 +40,10 @@ pub ruleset reading-header = (header-read, needs)
 
 module _ (tablesize : ℕ) (h : TableHeader) where
   pub header-short : tablesize < table-header-size → Broken (refusal bad-table) ≡ header-rules tablesize h
-  unfolding header-rules wrong-front
+  unfolding header-rules wrong-header
   header-short p = rw (lt-ltb _ _ p)
 
-  module _ (wrong : Bool) (front : wrong ≡ wrong-front table-magic table-header-size tablesize (h .magic) (h .version) (h .size)) where
+  module _ (wrong : Bool) (front : wrong ≡ wrong-header table-magic table-header-size tablesize (h .magic) (h .version) (h .size)) where
     pub header-wrong : wrong ≡ true → Broken (refusal bad-table) ≡ header-rules tablesize h
     unfolding header-rules
     header-wrong p = rw (← front, p)
@@ -95,11 +95,11 @@ pub record Sized (tablesize : ℕ) (h : TableHeader) : Type 0 where
 pub fine-sized : (tablesize : ℕ) (h : TableHeader) → header-rules tablesize h ≡ Fine → Sized tablesize h
 unfolding header-rules
 fine-sized tablesize h fine =
-    let front = wrong-front table-magic table-header-size tablesize (h .magic) (h .version) (h .size) in
+    let front = wrong-header table-magic table-header-size tablesize (h .magic) (h .version) (h .size) in
     let l₁ = fine-later (rule bad-table front) _ fine in
     let l₂ = fine-later (rule bad-table (ltb (h .stride) entry-size)) _ l₁ in
     let l₃ = fine-later (rule bad-table (ltb (h .size) (table-header-size + h .count * h .stride))) _ l₂ in
-    let good = front-good table-magic table-header-size tablesize (h .magic) (h .version) (h .size) (kept-rule bad-table front (fine-first _ _ fine)) in
+    let good = header-good table-magic table-header-size tablesize (h .magic) (h .version) (h .size) (kept-rule bad-table front (fine-first _ _ fine)) in
     let rows = ltb-false (h .size) (table-header-size + h .count * h .stride) (kept-rule bad-table (ltb (h .size) (table-header-size + h .count * h .stride)) (fine-first _ _ l₂)) in
     record {
       few = ltb-false most (h .count) (kept-rule too-many (ltb most (h .count)) l₃);

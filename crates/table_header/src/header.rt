@@ -1,6 +1,6 @@
 // The header of an allocation table: read once, judged, and the numbers kept of it.
 // Later steps go by the numbers kept, whatever the guest writes there since.
-use headers::wrong_front;
+use headers::wrong_header;
 use rules::Refusal;
 use rules::Table;
 use rules::TableHeader;
@@ -53,7 +53,7 @@ pub fn entry_offset(stride: u32, i: u32) -> u64
 pub fn header_verdict(tablesize: u64, h: TableHeader) -> Verdict
     ensures { λ r. ⌜ r ≡ header-rules tablesize h ⌝ }
 {
-    if wrong_front(
+    if wrong_header(
         TABLE_MAGIC,
         HEADER_SIZE,
         tablesize,

@@ -14,11 +14,14 @@ fn wide32(b: u8) -> u32
     b as u32
 }
 
+// The lower half of a word.
+const LOW_32: u64 = 4294967295;
+
 // The lower four bytes of a word of eight: a small number read from a row.
 pub fn low32(v: u64) -> u32
     ensures { λ r. ⌜ r ≡ v % 4294967296 ⌝ }
 {
-    (v & 4294967295) as u32
+    (v & LOW_32) as u32
 }
 
 // Reads a field of four bytes: one load.

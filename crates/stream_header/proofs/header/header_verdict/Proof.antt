@@ -4,8 +4,8 @@ use Rattle.stream_header.specs.Header.{heading}
 use Rattle.stream_header.proofs.header.header_verdict.Statement.{statement}
 use Rattle.stream_header.proofs.header.header_verdict.Tie as tie
 
-wrong-front-requires : tie.Need-wrong-front-requires
-wrong-front-requires c κs = search needs
+wrong-header-requires : tie.Need-wrong-header-requires
+wrong-header-requires c κs = search needs
 
 returns : tie.Need-returns
 returns c = search heading
@@ -14,4 +14,4 @@ returns-2 : tie.Need-returns-2
 returns-2 c = search heading
 
 pub header-verdict-spec : {M : Type 1} → statement M
-header-verdict-spec = tie.close (tie.spec wrong-front-requires returns returns-2)
+header-verdict-spec = tie.close (tie.spec wrong-header-requires returns returns-2)

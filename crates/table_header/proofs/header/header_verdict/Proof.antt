@@ -4,8 +4,8 @@ use Rattle.table_header.specs.Header.{judging-header}
 use Rattle.table_header.proofs.header.header_verdict.Statement.{statement}
 use Rattle.table_header.proofs.header.header_verdict.Tie as tie
 
-wrong-front-requires : tie.Need-wrong-front-requires
-wrong-front-requires c κs = search needs
+wrong-header-requires : tie.Need-wrong-header-requires
+wrong-header-requires c κs = search needs
 
 returns : tie.Need-returns
 returns c = search judging-header
@@ -38,7 +38,7 @@ pub header-verdict-spec : {M : Type 1} → statement M
 header-verdict-spec =
     tie.close
     (tie.spec
-    wrong-front-requires
+    wrong-header-requires
     returns
     cast-if2
     returns-2
