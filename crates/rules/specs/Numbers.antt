@@ -57,6 +57,12 @@ bad-copy = 26
 abbrev pub host-failed : ℕ
 host-failed = 27
 
+-- ---- places
+
+-- "the entry index for 14 and 15, the packet's byte offset in the stream for packet errors, else 0" (02, wish 9)
+abbrev pub no-place : ℕ
+no-place = 0
+
 -- ---- limits
 
 -- entries of a table, live resources, records of a submission
