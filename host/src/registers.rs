@@ -49,7 +49,7 @@ pub const ERROR_FENCE_HI: u32 = 0x318;
 /// Read only: how many errors there were; it stops at 4294967295.
 pub const ERROR_COUNT: u32 = 0x31C;
 /// Read only: where the last error arose. The index of the table entry for errors 14 and 15, the packet's byte offset in the stream
-/// for an error that a packet raised, else 0.
+/// for an error that a packet raised, else 0; [`Place`](crate::Place) tells them apart.
 pub const ERROR_DETAIL: u32 = 0x320;
 
 /// Bit of [`CONTROL`]: submissions are taken.

@@ -134,7 +134,7 @@ impl Front for zelezmut::Desk {
     }
 
     fn table_error(table: &[u8], memory: u64) -> u32 {
-        zelezmut::table_error(table, memory).map_or(0, |error| error.number())
+        zelezmut::table_error(table, memory).map_or(0, |found| found.error.number())
     }
 }
 
