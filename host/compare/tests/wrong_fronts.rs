@@ -130,6 +130,10 @@ impl<const FAULT: u8> Front for Wrong<FAULT> {
     fn table_error(table: &[u8], memory: u64) -> u32 {
         plain::Desk::table_error(table, memory)
     }
+
+    fn table_place(table: &[u8], memory: u64) -> u32 {
+        plain::Desk::table_place(table, memory)
+    }
 }
 
 fn is_told_apart<const FAULT: u8>() {
@@ -205,7 +209,7 @@ fn a_front_that_reads_all_entries_at_the_first_is_right_over_still_memory() {
         let played = play::<plain::Desk, Wrong<READS_ALL_AT_OPENING>>(
             drawn.memory,
             &drawn.operations,
-            |_, _| {},
+            |_, _, _| {},
         );
         if let Err(difference) = played {
             panic!("desk of seed {}: {:?}", seed, difference);
