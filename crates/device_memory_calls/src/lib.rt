@@ -145,6 +145,10 @@ pub fn answer(words: &mut Words, mem: &mut [u8], good: bool) -> u32
         settle_accepted(words, mem);
         return DONE;
     }
-    settle_refused(words, mem, Fault { code: HOST_FAILED, place: 0 });
+    let fault = Fault {
+        code: HOST_FAILED,
+        place: 0,
+    };
+    settle_refused(words, mem, fault);
     DONE
 }

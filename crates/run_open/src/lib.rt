@@ -53,8 +53,12 @@ pub fn open_ring(words: &mut Words, mem: &mut [u8])
             words[DOORBELL] = 0;
         }
         Opening::Refused(job, why) => {
+            let fault = Fault {
+                code: why.code,
+                place: 0,
+            };
             store_job(words, job);
-            settle_refused(words, mem, Fault { code: why.code, place: 0 });
+            settle_refused(words, mem, fault);
         }
         Opening::Started(o) => {
             start(words, o);

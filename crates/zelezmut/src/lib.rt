@@ -36,6 +36,6 @@ pub extern "C" fn zelezmut_table_error(table: &[u8], memory: u64) -> u32
 pub extern "C" fn zelezmut_table_place(table: &[u8], memory: u64) -> u32
     ensures { λ r. ⌜ r ≡ table-place (now (table .entry)) memory ⌝ }
 {
-    let fault = table_whole::whole::first_fault(table, memory);
-    fault.place
+    let found = table_whole::whole::first_fault(table, memory);
+    found.place
 }
