@@ -12,6 +12,7 @@ use Rattle.machine.specs.Machine.{pick}
 use Rattle.rules.specs.Numbers.{bad-entry}
 use Rattle.rules.specs.Lists.{pushed}
 use Rattle.rules.specs.Judging.{refusal}
+use Rattle.rules.specs.Judging.Finding.{broken}
 use Rattle.rules.specs.Layouts.{entry}
 use Rattle.rules.specs.Table.{Taken, entry-place, entry-rules, keep, in-reach, take-entry}
 use Rattle.rules.specs.Ring.{opening-of}
@@ -138,14 +139,14 @@ unfolding settled
 unit-lent w w′ (works-on next h) l = l
 unit-lent w w′ (finds-bad-ring e h) l = l
 unit-lent w w′ (finds-no-work e h) l = l
-unit-lent w w′ (settles j r h) l = marked-length j (ended-by j (Broken r) (w .state .regs)) (w .mem) ∙ l
+unit-lent w w′ (settles j f h) l = marked-length j (ended-by j (broken f) (w .state .regs)) (w .mem) ∙ l
 
 unit-own : (w w′ : World) → Unit w w′ → Lent w → Owns (w .state) → Owns (w′ .state)
 unfolding settled
 unit-own w w′ (works-on next h) l own = next-own w (w .state .memory) l (w .state .work) next h own
 unit-own w w′ (finds-bad-ring e h) l own = own
 unit-own w w′ (finds-no-work e h) l own = own
-unit-own w w′ (settles j r h) l own = omega arith
+unit-own w w′ (settles j f h) l own = omega arith
 
 units-own : (w : World) (es : List Event) (w′ : World) → Units w es w′ → Lent w → Owns (w .state) → Owns (w′ .state)
 units-own w es w′ stop l own = own

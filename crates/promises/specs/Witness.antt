@@ -9,7 +9,7 @@ use Rattle.machine.specs.Machine.{runFor}
 use Rattle.rules.specs.Numbers.{ring-magic, table-magic, stream-magic, version, create-buffer}
 use Rattle.rules.specs.Bytes.{le, bytesOf}
 use Rattle.rules.specs.Lists.{over, nth, lookup}
-use Rattle.rules.specs.Judging.{refusal}
+use Rattle.rules.specs.Judging.Finding.{fine, broken}
 use Rattle.rules.specs.Layouts.{word, long, ring-header, descriptor, table-header, entry, stream-header, buffer-fields, page-bytes}
 use Rattle.rules.specs.Headers.{wrong-header}
 use Rattle.rules.specs.Table.{header-rules, entry-id, entry-rules, take-entry, entries-from, entries-of, judge-entries}
@@ -29,7 +29,6 @@ use Rattle.rules.specs.declared.Record.{Record}
 use Rattle.rules.specs.declared.Registers.{Registers}
 use Rattle.rules.specs.declared.Stream.{Stream}
 use Rattle.rules.specs.declared.Opened.{Opened}
-use Rattle.rules.specs.declared.Verdict.the-variants.{Fine, Broken}
 use Rattle.rules.specs.declared.Opening.the-variants.{Started}
 use Rattle.rows.specs.Keys.{Once}
 use Rattle.packet_apply.specs.Held.{Every, Inside}
@@ -126,21 +125,21 @@ rewritten = registers-of 4096 128 true 32 0 false false 0 no-error true
 pub record TwoGuests : Type 0 where
   -- with one entry: opened, judged fine after 3 units, and so it waits with one resource and one record
   pub one-starts : opening-of (guest 1) 0 128 ≡ Started (begun 1)
-  pub one-is-fine : submission (guest 1) (begun 1) (at-first []) ≡ record { verdict = Fine; held = held; units = 3 }
+  pub one-is-fine : submission (guest 1) (begun 1) (at-first []) ≡ record { finding = fine; held = held; units = 3 }
   pub accepted : submitted (asking 1) ≡ record { state = awaiting; units = 3 }
   pub handed-out : call-record (awaiting .state) 0 ≡ record { answer = 0; range = record { kind = 1; handle = 1; id = 5; gpa = 80; length = 32 } }
   -- with the same entry twice: opened, and refused with 15 after 3 units: error, fence and head are settled
   pub two-start : opening-of (guest 2) 0 128 ≡ Started (begun 2)
-  pub two-are-refused : submission (guest 2) (begun 2) (at-first []) ≡ record { verdict = Broken (refusal 15); held = at-first []; units = 3 }
+  pub two-are-refused : submission (guest 2) (begun 2) (at-first []) ≡ record { finding = broken (record { code = 15; place = 1 }); held = at-first []; units = 3 }
   pub refused : submitted (asking 2) .units ≡ 3
-  pub refused-registers : submitted (asking 2) .state .state .regs ≡ registers-of 0 128 true 0 7 true true 0 (record { code = 15; fence = 7; count = 1 }) true
+  pub refused-registers : submitted (asking 2) .state .state .regs ≡ registers-of 0 128 true 0 7 true true 0 (record { code = 15; fence = 7; count = 1; detail = 1 }) true
   pub refused-head : word (submitted (asking 2) .state .mem) 24 ≡ 1
   -- the same by calls, with doorbell writes between the units
   pub ringing-accepted : after-all ringing (asking 1) ≡ awaiting
   pub ringing-refused : after-all ringing (asking 2) ≡ submitted (asking 2) .state
   pub ringing-units : (units-of-all ringing (asking 1) ≡ 3) × (units-of-all ringing (asking 2) ≡ 3)
   -- and with registers that matter written: the head goes to the ring that was opened, the fence to the page as it stands at the end
-  pub rewriting-refused : after-all rewriting (asking 2) ≡ settled-keeping (begun 2 .job) (Broken (refusal 15)) (registering rewritten (asking 2))
+  pub rewriting-refused : after-all rewriting (asking 2) ≡ settled-keeping (begun 2 .job) (broken (record { code = 15; place = 1 })) (registering rewritten (asking 2))
   pub rewriting-head : word (after-all rewriting (asking 2) .mem) 24 ≡ 1
   pub rewriting-page : long (after-all rewriting (asking 2) .mem) 40 ≡ 7
   -- and by one run
@@ -204,19 +203,19 @@ its-record-lies-in-memory = waiting-ranges-in-memory (awaiting .state) (begun 1 
 module _ (r q : Registers) (on : q .enabled ≡ true) where
   under-registers : (n : ℕ) (s : Submission) → opening-of (guest n) 0 128 ≡ Started (begun n) → submission (guest n) (begun n) (at-first []) ≡ s → s .units ≡ 3
       → under (r ∷ []) q (working (entries-at (begun n) [] []) (asking n))
-      ≡ finished (registering q (asking n)) (begun n .job) (entries-of (guest n) (begun n .table)) (s .held) (s .verdict)
+      ≡ finished (registering q (asking n)) (begun n .job) (entries-of (guest n) (begun n .table)) (s .held) (s .finding)
   unfolding asking
   under-registers n s starts judged three =
       writes-between-units (asking n) (begun n) (subst (LiesOn (guest n)) starts (opening-lies (guest n) 0 128)) (r ∷ []) q on
       (sym (ap (λ (x : Submission). x .units) judged ∙ three))
-      ∙ ap (λ (x : Submission). finished (registering q (asking n)) (begun n .job) (entries-of (guest n) (begun n .table)) (x .held) (x .verdict)) judged
+      ∙ ap (λ (x : Submission). finished (registering q (asking n)) (begun n .job) (entries-of (guest n) (begun n .table)) (x .held) (x .finding)) judged
 
   pub any-registers-accepted : under (r ∷ []) q (working (entries-at (begun 1) [] []) (asking 1)) ≡ registering q awaiting
   unfolding awaiting the-entry begun guest in-bytes ring-words slot-words table-words entry-words stream-words zeros le bytesOf entry entries-from
   any-registers-accepted = under-registers 1 _ (two-guests .one-starts) (two-guests .one-is-fine) refl
 
   pub any-registers-refused : under (r ∷ []) q (working (entries-at (begun 2) [] []) (asking 2))
-      ≡ settled-keeping (begun 2 .job) (Broken (refusal 15)) (registering q (asking 2))
+      ≡ settled-keeping (begun 2 .job) (broken (record { code = 15; place = 1 })) (registering q (asking 2))
   any-registers-refused = under-registers 2 _ (two-guests .two-start) (two-guests .two-are-refused) refl
 
 -- ---- each unit of the accepted one, lent a memory that holds no byte but those that it reads
@@ -255,7 +254,7 @@ abbrev pub longer : Stream
 longer = record { gpa = 0; size = 72 }
 
 pub appended-and-accepted : (a b : ℕ)
-    → judge-packets (the-entry ∷ []) (at-first []) (packets-of (longer-stream a b) longer) ≡ record { verdict = Fine; held = held; count = 1 }
+    → judge-packets (the-entry ∷ []) (at-first []) (packets-of (longer-stream a b) longer) ≡ record { finding = fine; held = held; count = 1 }
 unfolding longer-stream held the-entry in-bytes le bytesOf lookup buffer-fields known least-size frame-rules frame-of packet-of cut apply on-buffer-packet create create-backed judge-packets
 appended-and-accepted a b =
     appended-bytes-cannot-matter (longer-stream a b) (longer-stream 0 0) longer longer refl (packet create-buffer 48 refl refl refl stream-ends) (the-entry ∷ []) (at-first [])
