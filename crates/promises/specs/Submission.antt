@@ -3,7 +3,7 @@
 use mathlib.Core.Path.{_≡_, refl, sym, ap, subst, _∙_}
 use mathlib.Core.Bool.{Bool, true, false}
 use mathlib.Core.List.{List, []}
-use Prim.Native.Nat.{ℕ, zero, suc, _+_, _-_, _*_, _≤_, _<_}
+use Prim.Native.Nat.{ℕ, zero, suc, _+_, _*_, _^_, _≤_, _<_}
 use native.Mathlib.Omega.{arith}
 use native.Mathlib.Numerals.{one-add}
 use native.Mathlib.Nat.{mul-le-mul-right}
@@ -37,6 +37,7 @@ use Rattle.rules.specs.declared.Opening.the-variants.{BadRing, NoWork, Refused,
 use Rattle.rule_laws.specs.Fine.{fine-first, fine-later, kept-rule, kept-only, both-left}
 use Rattle.table_header.specs.Header.{Sized, fine-sized}
 use Rattle.stream_header.specs.Header.{stream-sound}
+use Rattle.promises.specs.LentBytes.{OfBytes, word-fits}
 use Rattle.promises.specs.Whole.{midst, Course, course-none, course-join, reading, after-table, entries-end, placed, after-stream, packets-end}
 
 -- ---- what was opened lies within memory
@@ -45,6 +46,8 @@ pub record Lies (m : List ℕ) (o : Opened) : Type 0 where
   pub few : o .table .count ≤ most
   pub reach : (i : ℕ) → i < o .table .count → in-reach m (o .table) i ≡ true
   pub stream : length (stream-bytes m (o .stream)) ≡ o .stream .size
+  -- the size is read from four bytes
+  pub short : OfBytes m → o .stream .size < 2 ^ 32
 
 -- a range of memory is as long as it says
 part-length : (m : List ℕ) (at n : ℕ) → at + n ≤ length m → length (take n (drop at m)) ≡ n
@@ -101,12 +104,18 @@ module _ (m : List ℕ) (j : Job) (d : Descriptor) (stride : ℕ) (good : submis
       part-length m (d .cmd) (stream-header m (d .cmd) .size) (omega (arith, cmd-inside p, stream-sound (d .cmdsize) (stream-header m (d .cmd)) (kept-only (present (d .cmdsize)) _ p stream-fine) .inside))
   stream-long false p = part-length m 0 0 (omega arith)
 
+  stream-short : (t : Bool) → OfBytes m → kept-stream t .size < 2 ^ 32
+  unfolding stream-header
+  stream-short true b = word-fits m (d .cmd + 8) b
+  stream-short false b = omega arith
+
   pub started-lies : Lies m (opened-of m j d)
   started-lies =
       record {
         few = table-few (present (d .tablesize)) refl;
         reach = table-reach (present (d .tablesize)) refl;
         stream = stream-long (present (d .cmdsize)) refl;
+        short = stream-short (present (d .cmdsize));
       }
 
 -- of whatever an opening gives, what was started lies within memory
