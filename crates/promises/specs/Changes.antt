@@ -105,11 +105,14 @@ completed-by (settling j v rs s) completed = larger completed (j .signal)
 completed-by ring-refusal completed = completed
 completed-by resetting completed = 0
 
--- the error registers: a broken rule's code and place and the signal fence, or a bad ring's with fence and place 0. They are set
--- together, whatever stood there; a reset lets them stay.
+-- the error registers that a broken rule leaves: its number, its place and the signal fence, set together whatever stood there
+abbrev pub told : Job → Fault → LastError → LastError
+told j f error = record { code = f .code; fence = j .signal; count = one-more (error .count); detail = f .place }
+
+-- a broken rule tells itself, and a bad ring with fence and place 0; a reset lets the last error stay
 abbrev pub error-by : Event → LastError → LastError
 error-by (settling j fine rs s) error = error
-error-by (settling j (broken f) rs s) error = record { code = f .code; fence = j .signal; count = one-more (error .count); detail = f .place }
+error-by (settling j (broken f) rs s) error = told j f error
 error-by ring-refusal error = record { code = bad-ring; fence = 0; count = one-more (error .count); detail = no-place }
 error-by resetting error = error
 

@@ -22,6 +22,8 @@ pub mod Events
 pub mod Changes
 pub mod Kept
 pub mod Tables
+pub mod Places
+pub mod UnslicedPlaces
 pub mod Ranges
 pub mod Bytes
 pub mod LocalBytes

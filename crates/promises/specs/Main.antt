@@ -43,13 +43,17 @@ use Rattle.promises.specs.Acts.Led.{stays, spends, writes-one, takes}
 use Rattle.promises.specs.Courses.{clash}
 use Rattle.promises.specs.Slices.{waiting-stands-still}
 use Rattle.promises.specs.Fences.{good-settles, failed-settles}
-use Rattle.promises.specs.Units.{Unit, unit}
+use Rattle.promises.specs.Units.{Breaks, Unit, unit}
 use Rattle.promises.specs.Chains.{submitted-under, Stands}
 use Rattle.promises.specs.ChainsStand.{calls-stand, same-acts}
 use Rattle.promises.specs.Slicing.{NoWrite, same-units-same-answers}
 use Rattle.promises.specs.Runs.{of-run, never-more-than-allowed, run-spends-all-or-is-done, paused-spent-all}
 use Rattle.promises.specs.Events.{Event, History, calls-have-events}
-use Rattle.promises.specs.Changes.{Says, calls-say}
+use Rattle.promises.specs.Changes.{told, Says, calls-say}
+use Rattle.promises.specs.Kept.{EachLent}
+use Rattle.promises.specs.LentBytes.{OfBytes}
+use Rattle.promises.specs.Places.{OfAnEntry, OfAPacket, sizes-fit, settling-tells, TellsWhere, each-settling-tells-where}
+use Rattle.promises.specs.UnslicedPlaces.{unsliced-tells-where}
 use Rattle.promises.specs.Bytes.{WrittenBy, calls-write}
 use Rattle.promises.specs.Ranges.{InOneEntry, ranges-at-the-record-call}
 use Rattle.promises.specs.Locality.{lent, SameWhereRead, SameRun, run-of-one-reads-only}
@@ -164,6 +168,15 @@ module _ (w : World) (q : Registers) (o : Opened) (opened : opening-of (w .mem) 
     pub refused-completes : submitted-under q w .state ≡ settled-keeping (o .job) (broken f) (registering q w)
     refused-completes = rw (opened, e)
 
+    -- Wish 9, "tell me where it broke": the registers have the number and the place, "the entry index for 14 and 15, the packet's byte
+    -- offset in the stream for packet errors". Memory holds bytes.
+    pub refused-tells-where : OfBytes (w .mem)
+        → (submitted-under q w .state .state .regs .error ≡ told (o .job) f (q .error)) × (OfAnEntry (o .table) f ⊎ OfAPacket (o .stream) f)
+    refused-tells-where b = (
+      ap (λ (x : World). x .state .regs .error) refused-completes ∙ settling-tells (o .job) f (w .state .resources) (registering q w),
+      unsliced-tells-where (w .mem) (w .state .regs .ring) (w .state .regs .ringsize) o opened b (at-first (w .state .resources)) f e,
+    )
+
     -- "hands out nothing and keeps every resource as it was"
     pub refused-hands-out-nothing : (i : ℕ) → call-record (submitted-under q w .state .state) i ≡ record { answer = no-record; range = no-range }
     unfolding settled call-record nth
@@ -172,6 +185,11 @@ module _ (w : World) (q : Registers) (o : Opened) (opened : opening-of (w .mem) 
     pub refused-keeps-resources : submitted-under q w .state .state .resources ≡ w .state .resources
     unfolding settled
     refused-keeps-resources = rw refused-completes
+
+-- Wish 9 at every unit that settles: the entry's index, the packet's offset, "else 0". Of any device made and called, over any bytes.
+pub every-settling-tells-where : (s : State) (k : Called s) → EachLent OfBytes s k → (m : List ℕ) (j : Job) (f : Fault) → Breaks (lent s m) (s .work) j f
+    → TellsWhere (lent s m) j f
+every-settling-tells-where s k b = each-settling-tells-where s k (sizes-fit s k b)
 
 -- it goes on waiting until an answer is taken, and only registers are written
 pub waits-until-answered : (cs : List Call) (w : World) → NoReset cs → waits (w .state) ≡ true → taken-by-all cs w ≡ []
