@@ -1,6 +1,6 @@
--- What is promised, in the user's words and order: ten statements about the calls that a host makes. `Call`, `after` and what a call reports are
--- in Called.antt; the calls' own definitions in rules/specs/Calls.antt are what the code's contracts cite. All else in this crate serves
--- these ten. Assumes nothing.
+-- What is promised, in the user's words and order: ten statements about the calls that a host makes, and those of wishes that have landed. `Call`,
+-- `after` and what a call reports are in Called.antt; the calls' own definitions in rules/specs/Calls.antt are what the code's contracts cite. All
+-- else in this crate serves these. Assumes nothing.
 use mathlib.Core.Path.{_≡_, refl, ap, _∙_}
 use mathlib.Core.Bool.{true, false}
 use mathlib.Core.List.{List, []}
