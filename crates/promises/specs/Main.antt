@@ -168,8 +168,8 @@ module _ (w : World) (q : Registers) (o : Opened) (opened : opening-of (w .mem) 
     pub refused-completes : submitted-under q w .state ≡ settled-keeping (o .job) (broken f) (registering q w)
     refused-completes = rw (opened, e)
 
-    -- Wish 9, "tell me where it broke": the registers have the number and the place, "the entry index for 14 and 15, the packet's byte
-    -- offset in the stream for packet errors". Memory holds bytes.
+    -- Wish 9, "tell me where it broke": the registers have the number and the place that the unsliced rules give with it, and it lies in the
+    -- table or in the stream. Memory holds bytes.
     pub refused-tells-where : OfBytes (w .mem)
         → (submitted-under q w .state .state .regs .error ≡ told (o .job) f (q .error)) × (OfAnEntry (o .table) f ⊎ OfAPacket (o .stream) f)
     refused-tells-where b = (

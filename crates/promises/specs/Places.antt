@@ -9,7 +9,10 @@ use native.Mathlib.Omega.{arith}
 use lib.Dec.{ltb, eqb}
 use lib.ListN.{length}
 use Rattle.machine.specs.Machine.{pick}
-use Rattle.rules.specs.Numbers.{most, bad-ring, bad-entry, twice-in-table, host-failed, no-place}
+use Rattle.rules.specs.Lists.{lookup}
+use Rattle.rules.specs.Registers.{register, write-of}
+use Rattle.rules.specs.Calls.{call-read, call-write}
+use Rattle.rules.specs.Numbers.{done, no-register, most, bad-ring, bad-entry, twice-in-table, host-failed, no-place}
 use Rattle.rules.specs.Judging.{refusal, rule, _▹_, fault-at, at-place}
 use Rattle.rules.specs.Judging.Finding.{broken}
 use Rattle.rules.specs.Layouts.{entry, stream-header-size}
@@ -41,14 +44,14 @@ use Rattle.promises.specs.Changes.{told}
 use Rattle.promises.specs.Kept.{EachLent, KeptByUnits, called-keeps}
 use Rattle.promises.specs.Tables.{StartedOnce, OwnTable, called-has-its-own-table}
 
--- "the entry index for 14 and 15"
+-- the numbers that an entry's rules have
 abbrev pub EntryRule : ℕ → Type 0
 EntryRule n = (n ≡ bad-entry) ⊎ (n ≡ twice-in-table)
 
 abbrev pub OfAnEntry : Table → Fault → Type 0
 OfAnEntry t f = EntryRule (f .code) × (f .place < t .count)
 
--- "the packet's byte offset in the stream for packet errors": behind the stream's header
+-- within the stream, behind its header
 abbrev pub OfAPacket : Stream → Fault → Type 0
 OfAPacket t f = (stream-header-size ≤ f .place) × (f .place < t .size)
 
@@ -197,3 +200,12 @@ pub failed-has-no-place : (w : World) (j : Job) (es : List Entry) (h : Holdings)
     → (answered false w .state .regs .error .code ≡ host-failed) × (answered false w .state .regs .error .detail ≡ no-place)
 unfolding settled ended-by signalled faulted
 failed-has-no-place w j es h e = rw (failed-settles w j es h e) (refl, refl)
+
+-- "a read-only register at offset 320 (hex)": a read shows the last error's detail, a write answers 2
+pub detail-is-read : (s : State) → call-read s 0x320 ≡ record { answer = done; value = s .regs .error .detail }
+unfolding call-read register lookup
+detail-is-read s = refl
+
+pub detail-is-not-written : (s : State) (v : ℕ) → call-write s 0x320 v ≡ record { answer = no-register; state = s }
+unfolding call-write write-of lookup
+detail-is-not-written s v = refl

@@ -25,14 +25,16 @@ Broken r ▹ later = Broken r
 abbrev pub only : Bool → Verdict → Verdict
 only wanted v = pick wanted v Fine
 
--- ---- where it broke: by wish 9, "each check must answer with its place as well as its number"
+-- ---- where it broke: by wish 9, "each check must answer with its place as well as its number". A rule tells its number; the step that puts it
+-- knows the place: the opening, the entry at its index, the packet at its offset.
 
--- what leaves a phase, or an opening: no rule is broken, or this one at its place
+-- what a step comes to: no rule is broken, or this one at its place
 pub data Finding : Type 0 where
   fine : Finding
   broken : Fault → Finding
 
--- The register that shows a place has 32 bits. Neither a table's count nor a stream's size has more, so no place in them is cut.
+-- The register that shows a place has 32 bits. In memory that holds bytes neither a table's count nor a stream's size has more, so no place
+-- is cut; the cut gives a meaning to made-up states too.
 abbrev pub fault-at : ℕ → Refusal → Fault
 fault-at place r = record { code = r .code; place = place % 2 ^ 32 }
 

@@ -1,4 +1,4 @@
--- The numbers of document 01 that have a meaning of their own, each named once. Offsets of fields stand in Layouts.
+-- The numbers of document 01, and of the wishes of 02, that have a meaning of their own, each named once. Offsets of fields stand in Layouts.
 use Prim.Native.Nat.{ℕ}
 
 -- ---- errors
@@ -59,7 +59,7 @@ host-failed = 27
 
 -- ---- places
 
--- "the entry index for 14 and 15, the packet's byte offset in the stream for packet errors, else 0" (02, wish 9)
+-- "else 0" (02, wish 9): what stands for a place where no entry and no packet broke a rule
 abbrev pub no-place : ℕ
 no-place = 0
 

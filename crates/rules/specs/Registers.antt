@@ -104,7 +104,7 @@ abbrev pub acknowledged : ℕ → Registers → Registers
 acknowledged v r =
     with-reported r (r .completed) (r .fenced && not (bit-of 0 v)) (r .failed && not (bit-of 1 v)) (r .error) (r .doorbell)
 
--- "completed fence, IRQ status and doorbell flag become .. zero; error registers stay; .. other registers stay"
+-- "completed fence, IRQ status and doorbell flag become .. zero; error registers stay; .. other registers stay": the detail, too, is sticky
 unfoldable pub reset-registers : Bool → Registers → Registers
 reset-registers enabled r = with-reported (with-enabled enabled r) 0 false false (r .error) false
 

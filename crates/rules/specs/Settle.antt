@@ -23,7 +23,8 @@ use Rattle.rules.specs.declared.Fault.{Fault}
 abbrev pub one-more : ℕ → ℕ
 one-more n = pick (ltb n (2 ^ 32 - 1)) (n + 1) n
 
--- "Error: code, fence = signal fence, count + 1, status bit 1." And by wish 9, error detail: the place. "It is set with the code".
+-- "Error: code, fence = signal fence, count + 1 .., status bit 1." And by wish 9, error detail: the place. "It is set with the code and as
+-- sticky": a later error overwrites it, and nothing else does.
 unfoldable pub faulted : Fault → ℕ → Registers → Registers
 faulted f fence r =
     with-reported r (r .completed) (r .fenced) true (record { code = f .code; fence = fence; count = one-more (r .error .count); detail = f .place }) (r .doorbell)

@@ -54,7 +54,7 @@ abbrev pub after-entry : World → Opened → List Entry → Finding → World
 after-entry w o kept fine = working (entries-at o kept (w .state .resources)) w
 after-entry w o kept (broken f) = settled-keeping (o .job) (broken f) w
 
--- its place is its index, and as many are kept
+-- "the entry index for 14 and 15" (02, wish 9): as many are kept before it
 unfoldable pub entry-step : World → Opened → List Entry → World
 entry-step w o kept =
     after-entry w o (take-entry (w .mem) (o .table) kept .kept) (at-place (length kept) (take-entry (w .mem) (o .table) kept .verdict))
@@ -69,7 +69,8 @@ after-packet w j s next es h (broken f) = settled-keeping j (broken f) w
 abbrev pub next-place : ℕ → List ℕ → ℕ
 next-place at b = at + size-of (frame-of b)
 
--- its place is its offset in the stream
+-- "the packet's byte offset in the stream for packet errors" (02, wish 9): all that a packet's step raises, 17 of the last bytes and 19 of its
+-- records too
 unfoldable pub packet-step : World → Job → Stream → ℕ → List Entry → Holdings → World
 packet-step w j s at es h =
     after-packet w j s (next-place at (left (w .mem) s at)) es (take-packet es h (left (w .mem) s at) .held)

@@ -106,11 +106,12 @@ unfoldable pub judge-entries : ℕ → List Entry → List Entry → Judged
 judge-entries memory earlier [] = record { finding = fine; count = 0 }
 judge-entries memory earlier (e ∷ es) = stop-or-go (length earlier) (entry-rules memory earlier e) (judge-entries memory (pushed earlier e) es)
 
--- "a table's first error ..: takes the lent length as table size and a memory length, and finds 13, 19, 14, 15 as the steps do"
+-- the header's rules come first; theirs has no place
 abbrev pub after-header : Verdict → Finding → Finding
 after-header Fine later = later
 after-header (Broken r) later = broken (without-place r)
 
+-- "a table's first error ..: takes the lent length as table size and a memory length, and finds 13, 19, 14, 15 as the steps do"
 unfoldable pub table-finding : List ℕ → ℕ → Finding
 table-finding b memory =
     after-header (header-rules (length b) (table-header b 0))
@@ -119,6 +120,6 @@ table-finding b memory =
 unfoldable pub table-error : List ℕ → ℕ → ℕ
 table-error b memory = number (table-finding b memory)
 
--- and, by wish 9, "the entry index for 14 and 15 .., else 0"
+-- and its place, as the register would show it: the entry's index for 14 and 15, else 0
 unfoldable pub table-place : List ℕ → ℕ → ℕ
 table-place b memory = place-of (table-finding b memory)

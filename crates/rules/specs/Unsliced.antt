@@ -34,7 +34,7 @@ abbrev pub one-further : ℕ → Verdict → Holdings → Reckoned → Reckoned
 one-further at Fine h later = record { finding = later .finding; held = later .held; count = suc (later .count) }
 one-further at (Broken r) h later = record { finding = broken (fault-at at r); held = h; count = 1 }
 
--- a packet's place is its offset in the stream
+-- "the packet's byte offset in the stream for packet errors" (02, wish 9)
 unfoldable pub judge-packets : List Entry → Holdings → List Piece → Reckoned
 judge-packets es h [] = record { finding = fine; held = h; count = 0 }
 judge-packets es h (misframed at r ∷ later) = record { finding = broken (fault-at at r); held = h; count = 1 }
