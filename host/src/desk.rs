@@ -1,6 +1,8 @@
 //! The desk: the proved front with its state, as a Rust value with safe methods.
 use crate::answers::{DeviceError, Ended, HostAnswer, RecordKind, Refused};
+use crate::place::Place;
 use crate::{front, registers};
+use std::error::Error;
 use std::fmt;
 
 /// An adapter's front for one guest memory.
@@ -36,15 +38,55 @@ pub struct Record {
 }
 
 /// What the error registers say.
+///
+/// Displayed it is a line for a log: `error 18 at byte 40 of the stream, fence 3: ..`, with the error's own words behind.
 #[derive(Clone, Copy, Debug, PartialEq, Eq, Hash)]
 pub struct ErrorReport {
     /// The last error.
     pub error: DeviceError,
+    /// Where it arose: at which table entry or packet.
+    pub place: Place,
     /// The signal fence of the submission that it ended, 0 for a bad ring.
     pub fence: u64,
     /// How many errors there were.
     pub count: u32,
 }
+
+impl fmt::Display for ErrorReport {
+    fn fmt(&self, f: &mut fmt::Formatter<'_>) -> fmt::Result {
+        write!(f, "error {}", self.error.number())?;
+        if self.place != Place::Nowhere {
+            write!(f, " {}", self.place)?;
+        }
+        if self.error != DeviceError::BadRing {
+            write!(f, ", fence {}", self.fence)?;
+        }
+        write!(f, ": {}", self.error)
+    }
+}
+
+/// The first error of an allocation table, as [`table_error`] finds it.
+///
+/// Displayed it is a line for a log: `error 15 at table entry 1: ..`, with the error's own words behind.
+#[derive(Clone, Copy, Debug, PartialEq, Eq, Hash)]
+pub struct TableError {
+    /// The rule that is broken.
+    pub error: DeviceError,
+    /// The index of the entry that breaks it, from 0; `None` if it is the header that does.
+    pub entry: Option<u32>,
+}
+
+impl fmt::Display for TableError {
+    fn fmt(&self, f: &mut fmt::Formatter<'_>) -> fmt::Result {
+        write!(f, "error {}", self.error.number())?;
+        if let Some(index) = self.entry {
+            write!(f, " {}", Place::Entry(index))?;
+        }
+        write!(f, ": {}", self.error)
+    }
+}
+
+impl Error for TableError {}
 
 impl Desk {
     /// A new desk for a guest memory of so many bytes, disabled, with all registers as after power-on.
@@ -140,6 +182,7 @@ impl Desk {
         let error = DeviceError::from_front(self.known(registers::ERROR_CODE))?;
         Some(ErrorReport {
             error,
+            place: Place::of(error, self.known(registers::ERROR_DETAIL)),
             fence: self.long(registers::ERROR_FENCE_LO, registers::ERROR_FENCE_HI),
             count: self.known(registers::ERROR_COUNT),
         })
@@ -195,16 +238,26 @@ pub fn packed_size(
 /// The first error of an allocation table, for a guest memory of so many bytes; `None` if it breaks no rule.
 ///
 /// The table is judged as a submission's steps judge it: [`DeviceError::BadTable`] and [`DeviceError::TooMany`] of its header,
-/// [`DeviceError::BadEntry`] and [`DeviceError::TwiceInTable`] of its entries in order.
+/// [`DeviceError::BadEntry`] and [`DeviceError::TwiceInTable`] of its entries in order, each with the entry's index. A good table
+/// is gone through once, one with an error twice.
 ///
 /// ```
-/// use zelezmut::{guest, DeviceError};
+/// use zelezmut::{guest, DeviceError, TableError};
 ///
-/// let table = guest::table(&[guest::Entry { id: 5, gpa: 1, size: 4096, read_only: false }]);
+/// let entry = |id, gpa| guest::Entry { id, gpa, size: 4096, read_only: false };
+/// let table = guest::table(&[entry(5, 0), entry(6, 1)]);
 /// assert_eq!(zelezmut::table_error(&table, 4097), None);
-/// assert_eq!(zelezmut::table_error(&table, 4096), Some(DeviceError::BadEntry));
+/// assert_eq!(
+///     zelezmut::table_error(&table, 4096),
+///     Some(TableError { error: DeviceError::BadEntry, entry: Some(1) })
+/// );
 /// ```
 #[inline]
-pub fn table_error(table: &[u8], memory: u64) -> Option<DeviceError> {
-    DeviceError::from_front(front::table_error(table, memory))
+pub fn table_error(table: &[u8], memory: u64) -> Option<TableError> {
+    let error = DeviceError::from_front(front::table_error(table, memory))?;
+    let entry = match Place::of(error, front::table_place(table, memory)) {
+        Place::Entry(index) => Some(index),
+        Place::Nowhere | Place::Packet(_) => None,
+    };
+    Some(TableError { error, entry })
 }

@@ -48,6 +48,7 @@ mod library {
             pitch: u32,
         ) -> u64;
         pub fn zelezmut_table_error(table: *const u8, len: usize, memory: u64) -> u32;
+        pub fn zelezmut_table_place(table: *const u8, len: usize, memory: u64) -> u32;
         pub fn zelezmut_make(words: &mut Words, memory: u64);
         pub fn zelezmut_write(words: &mut Words, offset: u32, value: u32) -> u32;
         /// The value, and 2^32 times the answer.
@@ -92,6 +93,13 @@ pub(crate) fn packed_size(
 pub(crate) fn table_error(table: &[u8], memory: u64) -> u32 {
     // SAFETY: the table's own pointer and length; it is only read.
     unsafe { library::zelezmut_table_error(table.as_ptr(), table.len(), memory) }
+}
+
+/// Where a table's first error is: the entry's index for 14 and 15, else 0.
+#[inline]
+pub(crate) fn table_place(table: &[u8], memory: u64) -> u32 {
+    // SAFETY: the table's own pointer and length; it is only read.
+    unsafe { library::zelezmut_table_place(table.as_ptr(), table.len(), memory) }
 }
 
 /// The state of a new device for a memory of so many bytes. It is made where it stays, not copied there.
@@ -176,6 +184,7 @@ pub(crate) fn answer(state: &mut State, memory: &mut [u8], good: bool) -> u32 {
 #[cfg(test)]
 mod tests {
     use super::*;
+    use crate::guest::{self, Entry};
     use std::mem::size_of;
 
     const MEMORY: usize = 4096;
@@ -185,6 +194,38 @@ mod tests {
     #[test]
     fn the_state_takes_at_most_16_500_bytes() {
         assert!(size_of::<State>() <= 16_500);
+    }
+
+    /// Entries that a memory of 64 bytes has room for, with ids from 1.
+    fn entries(count: u32) -> Vec<Entry> {
+        let entry = |id| Entry {
+            id,
+            gpa: 0,
+            size: 64,
+            read_only: false,
+        };
+        (1..=count).map(entry).collect()
+    }
+
+    fn error_and_place(table: &[u8]) -> (u32, u32) {
+        (table_error(table, 64), table_place(table, 64))
+    }
+
+    #[test]
+    fn a_table_breaks_at_an_entry_or_nowhere() {
+        let good = guest::table(&entries(64));
+        assert_eq!(error_and_place(&good), (0, 0));
+        assert_eq!(error_and_place(&good[..good.len() - 1]), (13, 0));
+        assert_eq!(error_and_place(&guest::table(&entries(65))), (19, 0));
+        for (index, at) in (0..64).zip(0..) {
+            let mut bad = entries(64);
+            bad[index].size = 65;
+            assert_eq!(error_and_place(&guest::table(&bad)), (14, at));
+            let mut twice = entries(64);
+            twice[index].id = 1;
+            let expected = if index == 0 { (0, 0) } else { (15, at) };
+            assert_eq!(error_and_place(&guest::table(&twice)), expected);
+        }
     }
 
     /// Numbers of few bits and of many, the same in every run.

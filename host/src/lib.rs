@@ -61,6 +61,7 @@
 //!
 //! - Memory is lent to [`Desk::run`] and [`Desk::answer`] as `&mut [u8]`: nobody else, no virtual processor either, may touch
 //!   it during such a call. Between calls the guest may write anywhere; what was checked is kept, not read again.
+//! - A submission that breaks a rule ends within the run. [`Desk::last_error`] says which rule, and at which table entry or packet.
 //! - A call ends. One unit is one step (an opening, a table entry or a packet), and a run takes no more than its allowance.
 //! - No call panics on what a guest wrote, and none allocates once the desk is made.
 //! - The static library is x86-64 code. `rt staticlib zelezmut` in the project's root builds it, and so does `./play` there;
@@ -72,8 +73,10 @@ mod answers;
 mod desk;
 mod front;
 pub mod guest;
+mod place;
 pub mod registers;
 pub mod script;
 
 pub use answers::{DeviceError, Ended, HostAnswer, RecordKind, Refused};
-pub use desk::{packed_size, table_error, Desk, ErrorReport, Ran, Record};
+pub use desk::{packed_size, table_error, Desk, ErrorReport, Ran, Record, TableError};
+pub use place::Place;

@@ -48,6 +48,9 @@ pub const ERROR_FENCE_LO: u32 = 0x314;
 pub const ERROR_FENCE_HI: u32 = 0x318;
 /// Read only: how many errors there were; it stops at 4294967295.
 pub const ERROR_COUNT: u32 = 0x31C;
+/// Read only: where the last error arose. The index of the table entry for errors 14 and 15, the packet's byte offset in the stream
+/// for an error that a packet raised, else 0; [`Place`](crate::Place) tells them apart.
+pub const ERROR_DETAIL: u32 = 0x320;
 
 /// Bit of [`CONTROL`]: submissions are taken.
 pub const CONTROL_ENABLE: u32 = 1;
@@ -59,7 +62,7 @@ pub const IRQ_FENCE: u32 = 1;
 pub const IRQ_ERROR: u32 = 2;
 
 /// Every register that can be read, by rising offset.
-pub const READABLE: [u32; 18] = [
+pub const READABLE: [u32; 19] = [
     MAGIC,
     VERSION,
     FEATURES_LO,
@@ -78,6 +81,7 @@ pub const READABLE: [u32; 18] = [
     ERROR_FENCE_LO,
     ERROR_FENCE_HI,
     ERROR_COUNT,
+    ERROR_DETAIL,
 ];
 
 /// Every register that can be written, by rising offset.

@@ -28,7 +28,7 @@ const MAGIC_1: [u8; 4] = *b"DESK";
 const MAGIC_2: [u8; 4] = *b"DSK2";
 
 /// What [`encode`] says of itself: bit N for wish N. Nobody who plays a script asks for it.
-const WISHES: u32 = 1 << 2;
+const WISHES: u32 = 1 << 2 | 1 << 9;
 
 /// The most bytes that a script has.
 pub const LONGEST_SCRIPT: usize = 1 << 20;
@@ -417,7 +417,7 @@ mod tests {
     fn the_bytes_are_the_formats() {
         let [first, second] = both(0x1234, &[Operation::Run { allowance: 0x0506 }]);
         assert_eq!(first, b"DESK\x34\x12\x00\x00\x04\x06\x05");
-        assert_eq!(second, b"DSK2\x34\x12\x00\x00\x04\x00\x00\x00\x04\x06\x05");
+        assert_eq!(second, b"DSK2\x34\x12\x00\x00\x04\x02\x00\x00\x04\x06\x05");
     }
 
     #[test]

@@ -1,8 +1,8 @@
 //! Examples of document 01 through the Rust crate: the whole submissions 9 and 10, some of the small ones, and longer packets.
 use zelezmut::guest::{self, Backing, Descriptor, Entry, Packet, Part, Shape};
 use zelezmut::{
-    packed_size, registers, table_error, Desk, DeviceError, Ended, ErrorReport, HostAnswer, Ran,
-    Record, RecordKind, Refused,
+    packed_size, registers, table_error, Desk, DeviceError, Ended, ErrorReport, HostAnswer, Place,
+    Ran, Record, RecordKind, Refused, TableError,
 };
 
 const MEMORY: usize = 16_384;
@@ -149,6 +149,7 @@ fn a_failed_answer_is_error_27() {
         desk.last_error(),
         Some(ErrorReport {
             error: DeviceError::HostFailed,
+            place: Place::Nowhere,
             fence: 1,
             count: 1
         })
@@ -164,6 +165,7 @@ fn example_10_is_refused_with_15_after_3_units() {
     assert_eq!(desk.run(&mut memory, 1), ran(1, Ended::Paused));
     let error = desk.last_error().unwrap();
     assert_eq!(error.error, DeviceError::TwiceInTable);
+    assert_eq!(error.place, Place::Entry(1));
     assert_eq!((error.fence, error.count), (1, 1));
     assert_eq!(desk.completed_fence(), 1);
 
@@ -286,22 +288,33 @@ fn examples_1_to_4_packed_sizes() {
     assert_eq!(packed_size(1, 1, 1, 2, 1, 4), None);
 }
 
+fn at_entry(error: DeviceError, index: u32) -> Option<TableError> {
+    let entry = Some(index);
+    Some(TableError { error, entry })
+}
+
+fn of_the_header(error: DeviceError) -> Option<TableError> {
+    Some(TableError { error, entry: None })
+}
+
 #[test]
 fn example_8_a_table_that_fits_and_one_that_does_not() {
     let fits = guest::table(&[entry(1, 0, 4096)]);
     let past = guest::table(&[entry(1, 1, 4096)]);
     assert_eq!(table_error(&fits, 4096), None);
-    assert_eq!(table_error(&past, 4096), Some(DeviceError::BadEntry));
+    let expected = at_entry(DeviceError::BadEntry, 0);
+    assert_eq!(table_error(&past, 4096), expected);
 }
 
 #[test]
 fn a_table_of_any_length_is_judged() {
     let table = guest::table(&[entry(1, 0, 16), entry(1, 0, 16)]);
-    assert_eq!(table_error(&table, 64), Some(DeviceError::TwiceInTable));
+    let expected = at_entry(DeviceError::TwiceInTable, 1);
+    assert_eq!(table_error(&table, 64), expected);
     for cut in 0..table.len() {
         assert_eq!(
             table_error(&table[..cut], 64),
-            Some(DeviceError::BadTable),
+            of_the_header(DeviceError::BadTable),
             "cut at {}",
             cut
         );
@@ -310,6 +323,6 @@ fn a_table_of_any_length_is_judged() {
     assert_eq!(table_error(&guest::table(&entries[..64]), 64), None);
     assert_eq!(
         table_error(&guest::table(&entries), 64),
-        Some(DeviceError::TooMany)
+        of_the_header(DeviceError::TooMany)
     );
 }

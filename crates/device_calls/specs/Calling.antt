@@ -29,10 +29,10 @@ use Rattle.device_calls.specs.declared.RecordRead.{RecordRead}
 -- ---- make
 
 abbrev made-words : ℕ → List ℕ → List ℕ
-made-words n w = set (set (set (set (set (set (set (set (set (set (set (set (set (set (set w 0 n) 1 0) 2 0) 3 0) 4 0) 5 0) 6 0) 7 0) 8 0) 9 0) 10 0) 11 0) 12 0) 13 0) 25 0
+made-words n w = set (set (set (set (set (set (set (set (set (set (set (set (set (set (set (set w 0 n) 1 0) 2 0) 3 0) 4 0) 5 0) 6 0) 7 0) 8 0) 9 0) 10 0) 11 0) 30 0) 12 0) 13 0) 25 0
 
 pub makes : (s : List ℕ) (memory n : ℕ) → length s ≡ 32 → (n ≡ memory) × (n < 18446744073709551616)
-    → Makes memory (set (set (set (set (set (set (set (set (set (set (set (set (set (set (set s 0 n) 1 0) 2 0) 3 0) 4 0) 5 0) 6 0) 7 0) 8 0) 9 0) 10 0) 11 0) 12 0) 13 0) 25 0)
+    → Makes memory (set (set (set (set (set (set (set (set (set (set (set (set (set (set (set (set s 0 n) 1 0) 2 0) 3 0) 4 0) 5 0) 6 0) 7 0) 8 0) 9 0) 10 0) 11 0) 30 0) 12 0) 13 0) 25 0)
 unfolding worldIn
 makes s memory n long p =
     record { new = λ e a b c. spell (λ w. stateIn (made-words n w) e a b c) s long ∙ rw (p .0, none-live (pick (sideIn s) b a)) }

@@ -12,6 +12,7 @@ use run_state::DOORBELL;
 use run_state::ENABLED;
 use run_state::ERROR_CODE;
 use run_state::ERROR_COUNT;
+use run_state::ERROR_DETAIL;
 use run_state::ERROR_FENCE;
 use run_state::FAILED;
 use run_state::FENCE_PAGE;
@@ -62,6 +63,7 @@ pub fn make(words: &mut Words, memory: usize)
     words[ERROR_CODE] = 0;
     words[ERROR_FENCE] = 0;
     words[ERROR_COUNT] = 0;
+    words[ERROR_DETAIL] = 0;
     words[DOORBELL] = 0;
     words[TAG] = NOTHING;
     words[LIVE] = 0;

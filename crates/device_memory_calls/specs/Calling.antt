@@ -8,14 +8,14 @@ use borrow.Author.Tests.{eq-eqb, ne-eqb}
 use lib.ListN.{length, getD}
 use Rattle.machine.specs.Machine.{pick}
 use Rattle.rules.specs.Numbers.{done, other-memory, nothing-waits, host-failed}
-use Rattle.rules.specs.Judging.{refusal}
+use Rattle.rules.specs.Judging.{refusal, without-place}
+use Rattle.rules.specs.Judging.Finding.{fine, broken}
 use Rattle.rules.specs.State.{World}
 use Rattle.rules.specs.Steps.{run-for, answer-on, answered}
 use Rattle.rules.specs.Settle.{settled, settled-keeping}
 use Rattle.rules.specs.Calls.{ending, ran, call-run, call-answer}
 use Rattle.rules.specs.declared.Ended.{Ended}
 use Rattle.rules.specs.declared.Ended.the-variants.{Idle, Waiting, Paused}
-use Rattle.rules.specs.declared.Verdict.the-variants.{Fine, Broken}
 use Rattle.run_state.specs.Views.{setIn, tagIn, jobIn, heldIn, worldIn, bareIn, sideIn, deskIn, lent}
 use Rattle.kept_resources.specs.Views.{tables}
 use Rattle.run_state.specs.Reading.{unset, is-set}
@@ -115,11 +115,11 @@ pub ruleset running = (runs-other, runs-done, needs)
 
 -- the rules' answer to what waits
 module _ (s e r h c m : List ℕ) (asked : 3 ≤ tagIn s) where
-  good-answer : answered true (worldIn s e r h c m) ≡ settled (jobIn s) Fine (heldIn s r h c .resources) (bareIn s r m)
+  good-answer : answered true (worldIn s e r h c m) ≡ settled (jobIn s) fine (heldIn s r h c .resources) (bareIn s r m)
   unfolding answered settled worldIn
   good-answer = ap (answer-on true (worldIn s e r h c m)) (waits-in s e r h c m asked)
 
-  failed-answer : answered false (worldIn s e r h c m) ≡ settled-keeping (jobIn s) (Broken (refusal host-failed)) (bareIn s r m)
+  failed-answer : answered false (worldIn s e r h c m) ≡ settled-keeping (jobIn s) (broken (without-place (refusal host-failed))) (bareIn s r m)
   unfolding answered settled worldIn
   failed-answer = ap (answer-on false (worldIn s e r h c m)) (waits-in s e r h c m asked)
 
@@ -152,7 +152,7 @@ module _ (s m : List ℕ) (good : Bool) (memory : ℕ) (is : memory ≡ getD s 0
             still = λ q. absurd (q refl);
           }
 
-      pub answers-failed : good ≡ false → Refuses s m (refusal host-failed) s′ m′ → Answers s m good done s′ m′
+      pub answers-failed : good ≡ false → Refuses s m (record { code = host-failed; place = 0 }) s′ m′ → Answers s m good done s′ m′
       answers-failed g x =
           record {
             answered = λ e a b c.

@@ -4,7 +4,7 @@ use kept_entries::Entries;
 use kept_records::Records;
 use kept_resources::resources::Resources;
 use rules::Ended;
-use rules::Refusal;
+use rules::Fault;
 use rules::numbers::DONE;
 use rules::numbers::HOST_FAILED;
 use rules::numbers::NOTHING_WAITS;
@@ -145,6 +145,10 @@ pub fn answer(words: &mut Words, mem: &mut [u8], good: bool) -> u32
         settle_accepted(words, mem);
         return DONE;
     }
-    settle_refused(words, mem, Refusal { code: HOST_FAILED });
+    let fault = Fault {
+        code: HOST_FAILED,
+        place: 0,
+    };
+    settle_refused(words, mem, fault);
     DONE
 }

@@ -26,7 +26,8 @@ fn entry_line(example: u32, memory: u64, gpa: u64, size: u64) {
     say_named(b", gpa ", gpa);
     say_named(b", size ", size);
     say(b": ");
-    say_judged(table_whole::whole::first_error(&bytes, memory));
+    let fault = table_whole::whole::first_fault(&bytes, memory);
+    say_judged(fault.code);
     say(b"\n");
 }
 

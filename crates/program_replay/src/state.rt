@@ -6,7 +6,7 @@ use rules::numbers::DONE;
 use std::num::wrapping_add_u64;
 
 // Past the last register.
-const REGISTERS_END: u32 = 800;
+const REGISTERS_END: u32 = 804;
 
 // ---- registers
 

@@ -7,6 +7,8 @@ use Prim.Native.Nat.{ℕ, suc, _<_}
 use native.Mathlib.Omega.{arith}
 use lib.ListN.{length}
 use Rattle.machine.specs.Machine.{Out, run-none, run-go}
+use Rattle.rules.specs.Judging.{Finding, at-place}
+use Rattle.rules.specs.Judging.Finding.{fine, broken}
 use Rattle.rules.specs.Table.{entries-of, take-entry}
 use Rattle.rules.specs.Stream.{left}
 use Rattle.rules.specs.Packets.{Holdings, at-first, take-packet}
@@ -20,32 +22,30 @@ use Rattle.rules.specs.declared.Job.{Job}
 use Rattle.rules.specs.declared.Registers.{Registers}
 use Rattle.rules.specs.declared.Stream.{Stream}
 use Rattle.rules.specs.declared.Opened.{Opened}
-use Rattle.rules.specs.declared.Verdict.{Verdict}
-use Rattle.rules.specs.declared.Verdict.the-variants.{Fine, Broken}
 use Rattle.promises.specs.Whole.{midst, Course}
 use Rattle.promises.specs.Submission.{Lies, later-units, table-judged, packets-judged, course-started, submission-units}
 
 -- ---- a unit that is not a submission's last takes no heed of the registers
 
 module _ (x : World) (q r : Registers) where
-  entry-heedless : (o : Opened) (kept : List Entry) (v : Verdict) → midst (after-entry (registering q x) o kept v .state .work) ≡ true
+  entry-heedless : (o : Opened) (kept : List Entry) (v : Finding) → midst (after-entry (registering q x) o kept v .state .work) ≡ true
       → after-entry (registering r x) o kept v ≡ registering r (after-entry (registering q x) o kept v)
   unfolding settled
-  entry-heedless o kept Fine h = refl
-  entry-heedless o kept (Broken f) h = absurd (let z : _≡_ {A = ℕ} 0 1 = cc in omega arith)
+  entry-heedless o kept fine h = refl
+  entry-heedless o kept (broken f) h = absurd (let z : _≡_ {A = ℕ} 0 1 = cc in omega arith)
 
-  packet-heedless : (j : Job) (t : Stream) (next : ℕ) (es : List Entry) (held : Holdings) (v : Verdict) → midst (after-packet (registering q x) j t next es held v .state .work) ≡ true
+  packet-heedless : (j : Job) (t : Stream) (next : ℕ) (es : List Entry) (held : Holdings) (v : Finding) → midst (after-packet (registering q x) j t next es held v .state .work) ≡ true
       → after-packet (registering r x) j t next es held v ≡ registering r (after-packet (registering q x) j t next es held v)
   unfolding settled
-  packet-heedless j t next es held Fine h = refl
-  packet-heedless j t next es held (Broken f) h = absurd (let z : _≡_ {A = ℕ} 0 1 = cc in omega arith)
+  packet-heedless j t next es held fine h = refl
+  packet-heedless j t next es held (broken f) h = absurd (let z : _≡_ {A = ℕ} 0 1 = cc in omega arith)
 
   on-heedless : (k : Work) → midst k ≡ true → midst (step-on (registering q x) k .state .work) ≡ true → step-on (registering r x) k ≡ registering r (step-on (registering q x) k)
   unfolding entry-step packet-step
   on-heedless resting m h = absurd (let z : _≡_ {A = ℕ} 0 1 = cc in omega arith)
-  on-heedless (entries o kept) m h = entry-heedless o (take-entry (x .mem) (o .table) kept .kept) (take-entry (x .mem) (o .table) kept .verdict) h
+  on-heedless (entries o kept) m h = entry-heedless o (take-entry (x .mem) (o .table) kept .kept) (at-place (length kept) (take-entry (x .mem) (o .table) kept .verdict)) h
   on-heedless (packets j t at es held) m h =
-      packet-heedless j t (next-place at (left (x .mem) t at)) es (take-packet es held (left (x .mem) t at) .held) (take-packet es held (left (x .mem) t at) .verdict) h
+      packet-heedless j t (next-place at (left (x .mem) t at)) es (take-packet es held (left (x .mem) t at) .held) (at-place at (take-packet es held (left (x .mem) t at) .verdict)) h
   on-heedless (waiting j es held) m h = absurd (let z : _≡_ {A = ℕ} 0 1 = cc in omega arith)
 
   heedless : midst (x .state .work) ≡ true → midst (step (registering q x) .state .work) ≡ true → step (registering r x) ≡ registering r (step (registering q x))
@@ -99,8 +99,8 @@ module _ (q : Registers) (on : q .enabled ≡ true) where
 pub writes-between-units : (w : World) (o : Opened) → Lies (w .mem) o → (rs : List Registers) (q : Registers) → q .enabled ≡ true
     → suc (suc (length rs)) ≡ submission (w .mem) o (at-first (w .state .resources)) .units
     → under rs q (working (entries-at o [] (w .state .resources)) w)
-    ≡ finished (registering q w) (o .job) (entries-of (w .mem) (o .table)) (submission (w .mem) o (at-first (w .state .resources)) .held) (submission (w .mem) o (at-first (w .state .resources)) .verdict)
-writes-between-units w o lies rs q on e = by-count (later-units (table-judged (registering q w) on o lies .verdict) (table-judged (registering q w) on o lies .count) (packets-judged (registering q w) on o lies .count)) (course-started (registering q w) on o lies) (e ∙ submission-units (registering q w) on o lies)
+    ≡ finished (registering q w) (o .job) (entries-of (w .mem) (o .table)) (submission (w .mem) o (at-first (w .state .resources)) .held) (submission (w .mem) o (at-first (w .state .resources)) .finding)
+writes-between-units w o lies rs q on e = by-count (later-units (table-judged (registering q w) on o lies .finding) (table-judged (registering q w) on o lies .count) (packets-judged (registering q w) on o lies .count)) (course-started (registering q w) on o lies) (e ∙ submission-units (registering q w) on o lies)
   where
     by-count : (n : ℕ) {v : World} → Course n (registering q (working (entries-at o [] (w .state .resources)) w)) v → suc (suc (length rs)) ≡ suc n
         → under rs q (working (entries-at o [] (w .state .resources)) w) ≡ v

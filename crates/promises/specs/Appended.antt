@@ -1,5 +1,5 @@
 -- Wish 2: appended bytes cannot matter. Two streams that are the same packet by packet, in opcode, size and the bytes that the table of
--- opcodes gives the packet, come to the same verdict, records and resources, whatever stands past those bytes. Assumes nothing.
+-- opcodes gives the packet, come to the same finding, records and resources, whatever stands past those bytes. Assumes nothing.
 use mathlib.Core.Path.{_≡_, refl, sym, ap, _∙_}
 use mathlib.Core.List.{List, [], _++_}
 use Prim.Native.Nat.{ℕ, zero, suc, _+_, _≤_, _<_}
@@ -39,22 +39,22 @@ whole-some b op size e =
     omega (arith, fits .header, fits .inside)
 
 -- the packets of two such streams are the same
-pub same-pieces : (k : ℕ) (b b′ : List ℕ) → SameButAppended b b′ → cut k b ≡ cut k b′
+pub same-pieces : (k at : ℕ) (b b′ : List ℕ) → SameButAppended b b′ → cut k at b ≡ cut k at b′
 unfolding cut
-same-pieces zero b b′ same = refl
-same-pieces (suc k) b b′ ends = refl
-same-pieces (suc k) b b′ (packet op size e e′ same later) =
-    rw (cut-packet k b (whole-some b op size e), cut-packet k b′ (whole-some b′ op size e′), e, e′)
-    (rw (same-packet b b′ op size (frame-sound b op size e .known) same, same-pieces k (drop size b) (drop size b′) later))
-same-pieces (suc k) b b′ (misframed r len e e′) = rw (len, e, e′)
+same-pieces zero at b b′ same = refl
+same-pieces (suc k) at b b′ ends = refl
+same-pieces (suc k) at b b′ (packet op size e e′ same later) =
+    rw (cut-packet k at b (whole-some b op size e), cut-packet k at b′ (whole-some b′ op size e′), e, e′)
+    (rw (same-packet b b′ op size (frame-sound b op size e .known) same, same-pieces k (at + size) (drop size b) (drop size b′) later))
+same-pieces (suc k) at b b′ (misframed r len e e′) = rw (len, e, e′)
 
--- and so is what they come to: the first broken rule, the resources and records held, and how many were judged. The streams may stand in
+-- and so is what they come to: the first broken rule and its place, the resources and records held, and how many were judged. The streams may stand in
 -- two memories, and at two places.
 pub appended-bytes-cannot-matter : (m m′ : List ℕ) (s s′ : Stream) → s .size ≡ s′ .size
     → SameButAppended (left m s stream-header-size) (left m′ s′ stream-header-size)
     → (es : List Entry) (h : Holdings) → judge-packets es h (packets-of m s) ≡ judge-packets es h (packets-of m′ s′)
 appended-bytes-cannot-matter m m′ s s′ size same es h =
-    ap (judge-packets es h) (same-pieces (s .size) _ _ same ∙ ap (λ (k : ℕ). cut k (left m′ s′ stream-header-size)) size)
+    ap (judge-packets es h) (same-pieces (s .size) stream-header-size _ _ same ∙ ap (λ (k : ℕ). cut k stream-header-size (left m′ s′ stream-header-size)) size)
 
 -- ---- a submission, of what was opened
 
@@ -75,7 +75,7 @@ module _ (m m′ : List ℕ) (len : length m ≡ length m′) (o : Opened) (same
   pub same-table : entries-of m (o .table) ≡ entries-of m′ (o .table)
   same-table = same-entries m m′ (o .table) (o .table .count) 0 (λ k h l. same .table k h (omega arith))
 
-  -- the unsliced rules come to the same verdict, resources, records and units
+  -- the unsliced rules come to the same finding, resources, records and units
   pub appended-bytes-same-submission : (h : Holdings) → submission m o h ≡ submission m′ o h
   unfolding submission
   appended-bytes-same-submission h =

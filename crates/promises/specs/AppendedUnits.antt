@@ -10,7 +10,8 @@ use lib.Dec.{ltb}
 use lib.ListN.{length, drop, length-append}
 use lib.Seq.{drop-drop}
 use Rattle.machine.specs.Machine.{pick, Out, run-none, run-stop, run-go}
-use Rattle.rules.specs.Judging.{refusal}
+use Rattle.rules.specs.Judging.{refusal, Finding, fault-at, at-place, without-place}
+use Rattle.rules.specs.Judging.Finding.{fine, broken}
 use Rattle.rules.specs.Layouts.{entry, stream-header-size}
 use Rattle.rules.specs.Numbers.{bad-entry, other-memory}
 use Rattle.rules.specs.Table.{entry-place, entry-rules, entries-of, keep, in-reach, take-entry}
@@ -25,6 +26,7 @@ use Rattle.rules.specs.Unsliced.{Submission, submission, finished, submitted-on
 use Rattle.rules.specs.Calls.{lent-another, ending, Ran, ran, call-run}
 use Rattle.rules.specs.declared.Entry.{Entry}
 use Rattle.rules.specs.declared.Job.{Job}
+use Rattle.rules.specs.declared.Fault.{Fault}
 use Rattle.rules.specs.declared.Refusal.{Refusal}
 use Rattle.rules.specs.declared.Registers.{Registers}
 use Rattle.rules.specs.declared.Resource.{Resource}
@@ -99,9 +101,9 @@ module _ (s : State) (m m′ : List ℕ) where
   goes-on k same = record { end = same-unwritten m m′ _; ahead = λ _. (refl, (refl, same)) }
 
   -- and one that settles, after which no submission is in work
-  stops : (j : Job) (r : Refusal) → Onward m m′ (settled-keeping j (Broken r) (lent s m)) (settled-keeping j (Broken r) (lent s m′))
+  stops : (j : Job) (f : Fault) → Onward m m′ (settled-keeping j (broken f) (lent s m)) (settled-keeping j (broken f) (lent s m′))
   unfolding settled
-  stops j r = at-rest m m′ _ _ refl (record { state = refl; writes = settles j })
+  stops j f = at-rest m m′ _ _ refl (record { state = refl; writes = settles j })
 
   packets-ahead : (j : Job) (t : Stream) (at : ℕ) (es : List Entry) (h : Holdings) → SameButAppended (left m t at) (left m′ t at)
       → SameAhead (s .regs) (packets-at j t at es h) m m′
@@ -124,18 +126,18 @@ module _ (s : State) (m m′ : List ℕ) where
       → Onward m m′ (after-opening (lent s m) v) (after-opening (lent s m′) v)
   opening-onward rest BadRing same = at-rest m m′ _ _ (ap midst rest) (same-unwritten m m′ _)
   opening-onward rest NoWork same = at-rest m m′ _ _ (ap midst rest) (same-unwritten m m′ _)
-  opening-onward rest (Refused j r) same = stops j r
+  opening-onward rest (Refused j r) same = stops j (without-place r)
   opening-onward rest (Started o) same = goes-on (entries-at o [] (s .resources)) (entries-ahead o [] (s .resources) (same o refl))
 
-  entry-onward : (o : Opened) (kept : List Entry) (v : Verdict) → (v ≡ Fine → SameSubmission m m′ o (length kept))
+  entry-onward : (o : Opened) (kept : List Entry) (v : Finding) → SameSubmission m m′ o (length kept)
       → Onward m m′ (after-entry (lent s m) o kept v) (after-entry (lent s m′) o kept v)
-  entry-onward o kept Fine same = goes-on (entries-at o kept (s .resources)) (entries-ahead o kept (s .resources) (same refl))
-  entry-onward o kept (Broken r) same = stops (o .job) r
+  entry-onward o kept fine same = goes-on (entries-at o kept (s .resources)) (entries-ahead o kept (s .resources) same)
+  entry-onward o kept (broken f) same = stops (o .job) f
 
-  packet-onward : (j : Job) (t : Stream) (next : ℕ) (es : List Entry) (h : Holdings) (v : Verdict) → (v ≡ Fine → SameButAppended (left m t next) (left m′ t next))
-      → Onward m m′ (after-packet (lent s m) j t next es h v) (after-packet (lent s m′) j t next es h v)
-  packet-onward j t next es h Fine same = goes-on (packets-at j t next es h) (packets-ahead j t next es h (same refl))
-  packet-onward j t next es h (Broken r) same = stops j r
+  packet-onward : (j : Job) (t : Stream) (at next : ℕ) (es : List Entry) (h : Holdings) (v : Verdict) → (v ≡ Fine → SameButAppended (left m t next) (left m′ t next))
+      → Onward m m′ (after-packet (lent s m) j t next es h (at-place at v)) (after-packet (lent s m′) j t next es h (at-place at v))
+  packet-onward j t at next es h Fine same = goes-on (packets-at j t next es h) (packets-ahead j t next es h (same refl))
+  packet-onward j t at next es h (Broken r) same = stops j (fault-at at r)
 
 -- behind the entries kept so far
 fewer-entries : (m m′ : List ℕ) (o : Opened) (i k : ℕ) → i ≤ k → SameSubmission m m′ o i → SameSubmission m m′ o k
@@ -162,9 +164,9 @@ packet-behind m m′ t at es h same = by-frame (frame-of (left m t at)) refl
   where
     by-frame : (f : Frame) → frame-of (left m t at) ≡ f → apply-frame es h (left m t at) f .verdict ≡ Fine
         → SameButAppended (left m t (at + size-of f)) (left m′ t (at + size-of f))
-    by-frame (Whole op size) e fine =
+    by-frame (Whole op size) e good =
         rw (← drop-drop size at (stream-bytes m t), ← drop-drop size at (stream-bytes m′ t)) (same-behind op size (left m t at) (left m′ t at) same e)
-    by-frame (Misframed r) e fine = absurd (broken-not-fine r fine)
+    by-frame (Misframed r) e good = absurd (broken-not-fine r good)
 
 module _ (m m′ : List ℕ) (len : length m ≡ length m′) where
   unit-on : (s : State) (k : Work) → s .work ≡ k → SameAhead (s .regs) k m m′ → Onward m m′ (step-on (lent s m) k) (step-on (lent s m′) k)
@@ -174,14 +176,14 @@ module _ (m m′ : List ℕ) (len : length m ≡ length m′) where
       (opening-onward s m m′ e (opening-of m (s .regs .ring) (s .regs .ringsize)) (same .1))
   unit-on s (entries o kept) e same =
       rw (← same-taken-entry m m′ len (o .table) kept (same .1 .table (length kept) (omega arith) (same .0)))
-      (entry-onward s m m′ o (take-entry m (o .table) kept .kept) (take-entry m (o .table) kept .verdict)
-      (λ _. fewer-entries m m′ o (length kept) _ (kept-no-fewer m o kept) (same .1)))
+      (entry-onward s m m′ o (take-entry m (o .table) kept .kept) (at-place (length kept) (take-entry m (o .table) kept .verdict))
+      (fewer-entries m m′ o (length kept) _ (kept-no-fewer m o kept) (same .1)))
   unit-on s (packets j t at es h) e same =
       let frames : frame-of (left m t at) ≡ frame-of (left m′ t at) = same-frames (left m t at) (left m′ t at) same in
       let taken : take-packet es h (left m t at) ≡ take-packet es h (left m′ t at) =
       same-taken (left m t at) (left m′ t at) es h frames (λ op size. same-row op size (left m t at) (left m′ t at) same) in
       rw (← frames, ← taken)
-      (packet-onward s m m′ j t (next-place at (left m t at)) es (take-packet es h (left m t at) .held) (take-packet es h (left m t at) .verdict)
+      (packet-onward s m m′ j t at (next-place at (left m t at)) es (take-packet es h (left m t at) .held) (take-packet es h (left m t at) .verdict)
       (packet-behind m m′ t at es h same))
   unit-on s (waiting j es h) e same = at-rest m m′ _ _ (ap midst e) (same-unwritten m m′ _)
 
@@ -247,25 +249,25 @@ module _ (m m′ : List ℕ) (len : length m ≡ length m′) where
       by-test false run = record { answer = refl; units = run .units; ended = ap ending (run .end .state); end = run .end }
 
   module _ (s : State) (same : SameAhead (s .regs) resting m m′) where
-    -- a whole submission by the unsliced rules: as many units, and the same error and fence, or the same resources and records that wait
+    -- a whole submission by the unsliced rules: as many units, and the same error, place and fence, or the same resources and records that wait
     pub appended-bytes-same-outcome : SameOut m m′ (submitted (lent s m)) (submitted (lent s m′))
     unfolding submitted settled
     appended-bytes-same-outcome =
         rw (← same-opening m m′ len (s .regs .ring) (s .regs .ringsize) (same .0)) (by-opening (opening-of m (s .regs .ring) (s .regs .ringsize)) (same .1))
       where
-        finished-same : (j : Job) (es : List Entry) (h : Holdings) (v : Verdict) → SameEnd m m′ (finished (lent s m) j es h v) (finished (lent s m′) j es h v)
-        finished-same j es h Fine = same-unwritten m m′ _
-        finished-same j es h (Broken r) = record { state = refl; writes = settles j }
+        finished-same : (j : Job) (es : List Entry) (h : Holdings) (v : Finding) → SameEnd m m′ (finished (lent s m) j es h v) (finished (lent s m′) j es h v)
+        finished-same j es h fine = same-unwritten m m′ _
+        finished-same j es h (broken f) = record { state = refl; writes = settles j }
 
         by-opening : (v : Opening) → ((o : Opened) → v ≡ Started o → SameSubmission m m′ o 0) → SameOut m m′ (submitted-on (lent s m) v) (submitted-on (lent s m′) v)
         by-opening BadRing ahead = record { units = refl; end = same-unwritten m m′ _ }
         by-opening NoWork ahead = record { units = refl; end = same-unwritten m m′ _ }
-        by-opening (Refused j r) ahead = record { units = refl; end = finished-same j [] (at-first (s .resources)) (Broken r) }
+        by-opening (Refused j r) ahead = record { units = refl; end = finished-same j [] (at-first (s .resources)) (broken (without-place r)) }
         by-opening (Started o) ahead =
             let held : Holdings = at-first (s .resources) in
             let judged : Submission = submission m o held in
             rw (← same-table m m′ len o (ahead o refl), ← appended-bytes-same-submission m m′ len o (ahead o refl) held)
-            (record { units = refl; end = finished-same (o .job) (entries-of m (o .table)) (judged .held) (judged .verdict) })
+            (record { units = refl; end = finished-same (o .job) (entries-of m (o .table)) (judged .held) (judged .finding) })
 
     -- and each of its units, from the opening on
     pub appended-bytes-at-each-unit : s .work ≡ resting → go (lent s m) ≡ true → (n : ℕ) → n ≤ submitted (lent s m) .units

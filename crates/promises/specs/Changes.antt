@@ -4,8 +4,9 @@ use mathlib.Core.Path.{_≡_, refl, sym, ap, _∙_}
 use mathlib.Core.Bool.{Bool, true, false}
 use mathlib.Core.List.{List, [], _∷_, _++_}
 use Prim.Native.Nat.{ℕ}
-use Rattle.rules.specs.Numbers.{bad-ring, host-failed}
-use Rattle.rules.specs.Judging.{refusal}
+use Rattle.rules.specs.Numbers.{bad-ring, host-failed, no-place}
+use Rattle.rules.specs.Judging.{refusal, without-place}
+use Rattle.rules.specs.Judging.Finding.{fine, broken}
 use Rattle.rules.specs.Shapes.{larger}
 use Rattle.rules.specs.Packets.{Holdings}
 use Rattle.rules.specs.State.{Work, State, World, with-state, working, registering}
@@ -15,16 +16,15 @@ use Rattle.rules.specs.Settle.{one-more, faulted, signalled, doorbell-cleared, 
 use Rattle.rules.specs.Steps.{answered}
 use Rattle.rules.specs.declared.Entry.{Entry}
 use Rattle.rules.specs.declared.Job.{Job}
+use Rattle.rules.specs.declared.Fault.{Fault}
 use Rattle.rules.specs.declared.LastError.{LastError}
 use Rattle.rules.specs.declared.Registers.{Registers}
-use Rattle.rules.specs.declared.Refusal.{Refusal}
 use Rattle.rules.specs.declared.Resource.{Resource}
-use Rattle.rules.specs.declared.Verdict.the-variants.{Fine, Broken}
 use Rattle.promises.specs.Fences.{good-settles, failed-settles}
 use Rattle.promises.specs.Called.{Call}
 use Rattle.promises.specs.Units.{Unit}
 use Rattle.promises.specs.Units.Unit.{works-on, finds-bad-ring, finds-no-work, settles}
-use Rattle.promises.specs.Events.{Event, verdict-of, events-of-unit, Units, Happens, History, Life}
+use Rattle.promises.specs.Events.{Event, finding-of, events-of-unit, Units, Happens, History, Life}
 use Rattle.promises.specs.Events.Event.{settling, ring-refusal, resetting}
 use Rattle.promises.specs.Events.Units.{stop, one}
 use Rattle.promises.specs.Events.Happens.{refused-write, refused-run, refused-answer, asks-register, asks-record, changes-registers, resets-all, spends, settles-answered}
@@ -47,9 +47,9 @@ pub record ChangedBy {A : Type 0} (by : Event → A → A) (part : World → A) 
   pub works : (k : Work) (w : World) → part (working k w) ≡ part w
   pub finds-nothing : (w : World) → part (found-no-work w) ≡ part w
   pub refuses-ring : (w : World) → part (ring-refused w) ≡ by ring-refusal (part w)
-  pub settles-good : (j : Job) (rs : List Resource) (w : World) → part (settled j Fine rs w) ≡ by (settling j Fine rs (settled j Fine rs w .state)) (part w)
-  pub settles-broken : (j : Job) (r : Refusal) (rs : List Resource) (w : World)
-      → part (settled-keeping j (Broken r) w) ≡ by (settling j (Broken r) rs (settled-keeping j (Broken r) w .state)) (part w)
+  pub settles-good : (j : Job) (rs : List Resource) (w : World) → part (settled j fine rs w) ≡ by (settling j fine rs (settled j fine rs w .state)) (part w)
+  pub settles-broken : (j : Job) (f : Fault) (rs : List Resource) (w : World)
+      → part (settled-keeping j (broken f) w) ≡ by (settling j (broken f) rs (settled-keeping j (broken f) w .state)) (part w)
   pub writes : (r : Registers) (w : World) → r .completed ≡ w .state .regs .completed → r .error ≡ w .state .regs .error → part (registering r w) ≡ part w
   pub resets : (enabled : Bool) (w : World) → part (with-state (reset enabled (w .state)) w) ≡ by resetting (part w)
 
@@ -59,7 +59,7 @@ module _ {A : Type 0} {by : Event → A → A} {part : World → A} (c : Changed
   unit-through w w′ (works-on next h) = c .works next w
   unit-through w w′ (finds-bad-ring e h) = c .refuses-ring w
   unit-through w w′ (finds-no-work e h) = c .finds-nothing w
-  unit-through w w′ (settles j r h) = c .settles-broken j r (w .state .resources) w
+  unit-through w w′ (settles j f h) = c .settles-broken j f (w .state .resources) w
 
   pub units-through : (w : World) (es : List Event) (w′ : World) → Units w es w′ → part w′ ≡ through by es (part w)
   unfolding through
@@ -68,9 +68,9 @@ module _ {A : Type 0} {by : Event → A → A} {part : World → A} (c : Changed
       units-through v fs w′ q ∙ (ap (through by fs) (unit-through w v u) ∙ sym (through-both by (events-of-unit u) fs (part w)))
 
   answer-through : (good : Bool) (w : World) (j : Job) (es : List Entry) (h : Holdings) → w .state .work ≡ waiting j es h
-      → part (answered good w) ≡ by (settling j (verdict-of good) (h .resources) (answered good w .state)) (part w)
+      → part (answered good w) ≡ by (settling j (finding-of good) (h .resources) (answered good w .state)) (part w)
   answer-through true w j es h e = rw (good-settles w j es h e) (c .settles-good j (h .resources) w)
-  answer-through false w j es h e = rw (failed-settles w j es h e) (c .settles-broken j (refusal host-failed) (h .resources) w)
+  answer-through false w j es h e = rw (failed-settles w j es h e) (c .settles-broken j (without-place (refusal host-failed)) (h .resources) w)
 
   call-through : (w : World) (k : Call) (es : List Event) (w′ : World) → Happens w k es w′ → part w′ ≡ through by es (part w)
   unfolding through
@@ -105,17 +105,21 @@ completed-by (settling j v rs s) completed = larger completed (j .signal)
 completed-by ring-refusal completed = completed
 completed-by resetting completed = 0
 
--- the error registers: a broken rule's code and the signal fence, or a bad ring's with fence 0; a reset lets them stay
+-- the error registers that a broken rule leaves: its number, its place and the signal fence, set together whatever stood there
+abbrev pub told : Job → Fault → LastError → LastError
+told j f error = record { code = f .code; fence = j .signal; count = one-more (error .count); detail = f .place }
+
+-- a broken rule tells itself, and a bad ring with fence and place 0; a reset lets the last error stay
 abbrev pub error-by : Event → LastError → LastError
-error-by (settling j Fine rs s) error = error
-error-by (settling j (Broken r) rs s) error = record { code = r .code; fence = j .signal; count = one-more (error .count) }
-error-by ring-refusal error = record { code = bad-ring; fence = 0; count = one-more (error .count) }
+error-by (settling j fine rs s) error = error
+error-by (settling j (broken f) rs s) error = told j f error
+error-by ring-refusal error = record { code = bad-ring; fence = 0; count = one-more (error .count); detail = no-place }
 error-by resetting error = error
 
 -- the device's resources: a good answer gives it the submission's, a reset empties them; nothing else changes them
 abbrev pub resources-by : Event → List Resource → List Resource
-resources-by (settling j Fine rs s) resources = rs
-resources-by (settling j (Broken r) rs s) resources = resources
+resources-by (settling j fine rs s) resources = rs
+resources-by (settling j (broken f) rs s) resources = resources
 resources-by ring-refusal resources = resources
 resources-by resetting resources = []
 
@@ -127,7 +131,7 @@ completed-changed =
       finds-nothing = λ w. refl;
       refuses-ring = λ w. refl;
       settles-good = λ j rs w. refl;
-      settles-broken = λ j r rs w. refl;
+      settles-broken = λ j f rs w. refl;
       writes = λ r w d e. d;
       resets = λ enabled w. refl;
     }
@@ -140,7 +144,7 @@ error-changed =
       finds-nothing = λ w. refl;
       refuses-ring = λ w. refl;
       settles-good = λ j rs w. refl;
-      settles-broken = λ j r rs w. refl;
+      settles-broken = λ j f rs w. refl;
       writes = λ r w d e. e;
       resets = λ enabled w. refl;
     }
@@ -153,7 +157,7 @@ resources-changed =
       finds-nothing = λ w. refl;
       refuses-ring = λ w. refl;
       settles-good = λ j rs w. refl;
-      settles-broken = λ j r rs w. refl;
+      settles-broken = λ j f rs w. refl;
       writes = λ r w d e. refl;
       resets = λ enabled w. refl;
     }

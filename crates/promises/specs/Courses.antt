@@ -8,7 +8,10 @@ use native.Mathlib.Omega.{arith}
 use native.Mathlib.Numerals.{one-add}
 use borrow.Author.Tests.{ltb-false, ltb-true}
 use lib.Dec.{ltb}
+use lib.ListN.{length}
 use Rattle.machine.specs.Machine.{Out, run-none, run-go}
+use Rattle.rules.specs.Judging.{Finding, at-place}
+use Rattle.rules.specs.Judging.Finding.{fine, broken}
 use Rattle.rules.specs.Ring.{opening-of}
 use Rattle.rules.specs.Table.{entries-of, take-entry}
 use Rattle.rules.specs.Stream.{left}
@@ -23,8 +26,6 @@ use Rattle.rules.specs.declared.Job.{Job}
 use Rattle.rules.specs.declared.Registers.{Registers}
 use Rattle.rules.specs.declared.Stream.{Stream}
 use Rattle.rules.specs.declared.Opened.{Opened}
-use Rattle.rules.specs.declared.Verdict.{Verdict}
-use Rattle.rules.specs.declared.Verdict.the-variants.{Fine, Broken}
 use Rattle.rules.specs.declared.Opening.{Opening}
 use Rattle.rules.specs.declared.Opening.the-variants.{BadRing, NoWork, Refused, Started}
 use Rattle.promises.specs.Whole.{midst, Course, course-join}
@@ -44,23 +45,23 @@ module _ (x : World) (q : Registers) where
   abbrev Heedless : World → World → Type 0
   Heedless y own = midst (own .state .work) ≡ true → y ≡ registering q (working (own .state .work) x)
 
-  entry-alone : (o : Opened) (kept : List Entry) (v : Verdict) → Heedless (after-entry (registering q x) o kept v) (after-entry x o kept v)
+  entry-alone : (o : Opened) (kept : List Entry) (v : Finding) → Heedless (after-entry (registering q x) o kept v) (after-entry x o kept v)
   unfolding settled
-  entry-alone o kept Fine h = refl
-  entry-alone o kept (Broken f) h = clash h refl
+  entry-alone o kept fine h = refl
+  entry-alone o kept (broken f) h = clash h refl
 
-  packet-alone : (j : Job) (t : Stream) (next : ℕ) (es : List Entry) (held : Holdings) (v : Verdict)
+  packet-alone : (j : Job) (t : Stream) (next : ℕ) (es : List Entry) (held : Holdings) (v : Finding)
       → Heedless (after-packet (registering q x) j t next es held v) (after-packet x j t next es held v)
   unfolding settled
-  packet-alone j t next es held Fine h = refl
-  packet-alone j t next es held (Broken f) h = clash h refl
+  packet-alone j t next es held fine h = refl
+  packet-alone j t next es held (broken f) h = clash h refl
 
   on-alone : (k : Work) → midst k ≡ true → Heedless (step-on (registering q x) k) (step-on x k)
   unfolding entry-step packet-step
   on-alone resting m h = clash m refl
-  on-alone (entries o kept) m h = entry-alone o (take-entry (x .mem) (o .table) kept .kept) (take-entry (x .mem) (o .table) kept .verdict) h
+  on-alone (entries o kept) m h = entry-alone o (take-entry (x .mem) (o .table) kept .kept) (at-place (length kept) (take-entry (x .mem) (o .table) kept .verdict)) h
   on-alone (packets j t at es held) m h =
-      packet-alone j t (next-place at (left (x .mem) t at)) es (take-packet es held (left (x .mem) t at) .held) (take-packet es held (left (x .mem) t at) .verdict) h
+      packet-alone j t (next-place at (left (x .mem) t at)) es (take-packet es held (left (x .mem) t at) .held) (at-place at (take-packet es held (left (x .mem) t at) .verdict)) h
   on-alone (waiting j es held) m h = clash m refl
 
   -- one that stays in the midst
@@ -134,12 +135,12 @@ module _ (w : World) (rest : w .state .work ≡ resting) (m : midst (step w .sta
   opens-on (Started o) lies e =
       record {
         alone = e ∙ ap (λ (x : World). working (x .state .work) w) (sym e);
-        count = later-units (table-judged (registering q w) on o lies .verdict)
+        count = later-units (table-judged (registering q w) on o lies .finding)
             (table-judged (registering q w) on o lies .count) (packets-judged (registering q w) on o lies .count);
         units = sym (submission-units (registering q w) on o lies);
         course = rw e (course-started (registering q w) on o lies);
         clear = finished-clear (registering q w) (o .job) (entries-of (w .mem) (o .table)) (submission (w .mem) o (at-first (w .state .resources)) .held)
-            (submission (w .mem) o (at-first (w .state .resources)) .verdict);
+            (submission (w .mem) o (at-first (w .state .resources)) .finding);
       }
 
   -- o being what the unsliced rules give

@@ -9,7 +9,8 @@ use Rattle.machine.specs.Machine.{pick, run-none, run-stop, run-go}
 use Rattle.rules.specs.Numbers.{done, other-memory, nothing-waits, host-failed}
 use Rattle.rules.specs.Lists.{Found, pushed}
 use Rattle.rules.specs.Lists.Found.{none, found}
-use Rattle.rules.specs.Judging.{refusal}
+use Rattle.rules.specs.Judging.{refusal, Finding, without-place}
+use Rattle.rules.specs.Judging.Finding.{fine, broken}
 use Rattle.rules.specs.Packets.{Holdings}
 use Rattle.rules.specs.State.{Work, State, World, made, with-regs, with-state, registering}
 use Rattle.rules.specs.State.Work.{resting, entries, packets, waiting}
@@ -21,8 +22,6 @@ use Rattle.rules.specs.declared.Entry.{Entry}
 use Rattle.rules.specs.declared.Resource.{Resource}
 use Rattle.rules.specs.declared.Job.{Job}
 use Rattle.rules.specs.declared.Registers.{Registers}
-use Rattle.rules.specs.declared.Verdict.{Verdict}
-use Rattle.rules.specs.declared.Verdict.the-variants.{Fine, Broken}
 use Rattle.promises.specs.Writes.{resets, Written, write-keeps-or-drops}
 use Rattle.promises.specs.Writes.Written.{keeps, drops}
 use Rattle.promises.specs.Refused.{refused-run-changes-nothing, refused-answer-changes-nothing, refused-write-changes-nothing}
@@ -33,25 +32,25 @@ use Rattle.promises.specs.Units.{Unit, unit}
 use Rattle.promises.specs.Units.Unit.{works-on, finds-bad-ring, finds-no-work, settles}
 
 pub data Event : Type 0 where
-  -- a submission was settled with a verdict; these resources were the submission's, where the host answered, and the device's before it,
+  -- a submission was settled with what was found; these resources were the submission's, where the host answered, and the device's before it,
   -- where a unit refused it; and this state stood after it
-  settling : Job → Verdict → List Resource → State → Event
+  settling : Job → Finding → List Resource → State → Event
   -- an opening found a bad ring
   ring-refusal : Event
   -- the guest reset the device
   resetting : Event
 
--- the verdict of a host's answer: "An answer "failed" is error 27"
-abbrev pub verdict-of : Bool → Verdict
-verdict-of true = Fine
-verdict-of false = Broken (refusal host-failed)
+-- what a host's answer comes to: "An answer "failed" is error 27", which has no place
+abbrev pub finding-of : Bool → Finding
+finding-of true = fine
+finding-of false = broken (without-place (refusal host-failed))
 
 -- the event of one unit, if it has one
 abbrev pub events-of-unit : {w w′ : World} → Unit w w′ → List Event
 events-of-unit (works-on next h) = []
 events-of-unit (finds-bad-ring e h) = ring-refusal ∷ []
 events-of-unit (finds-no-work e h) = []
-events-of-unit {w} {w′} (settles j r h) = settling j (Broken r) (w .state .resources) (w′ .state) ∷ []
+events-of-unit {w} {w′} (settles j f h) = settling j (broken f) (w .state .resources) (w′ .state) ∷ []
 
 -- units one after the other, each of a device that goes on, and their events
 pub data Units : World → List Event → World → Type 0 where
@@ -74,9 +73,9 @@ pub data Happens (w : World) : Call → List Event → World → Type 0 where
       → Happens w (writes offset v) (resetting ∷ []) (with-state (reset (bit-of 0 v) (w .state)) w)
   -- memory of the right length is lent, and units are spent
   spends : (n : ℕ) {es : List Event} → lent-another w ≡ false → Units w es (run-for n w .state) → Happens w (runs n) es (run-for n w .state)
-  -- the submission that waits is answered, and settled with the host's verdict
+  -- the submission that waits is answered, and settled with the host's word
   settles-answered : (good : Bool) (j : Job) (es : List Entry) (h : Holdings) → lent-another w ≡ false → w .state .work ≡ waiting j es h
-      → Happens w (answers good) (settling j (verdict-of good) (h .resources) (answered good w .state) ∷ []) (answered good w)
+      → Happens w (answers good) (settling j (finding-of good) (h .resources) (answered good w .state) ∷ []) (answered good w)
 
 -- calls one after the other over still memory, and their events
 pub data History : World → List Call → List Event → World → Type 0 where

@@ -6,7 +6,8 @@ use mathlib.Core.List.{List}
 use Prim.Native.Nat.{ℕ}
 use Rattle.machine.specs.Machine.{Out}
 use Rattle.rules.specs.Numbers.{host-failed, no-record}
-use Rattle.rules.specs.Judging.{refusal}
+use Rattle.rules.specs.Judging.{refusal, without-place}
+use Rattle.rules.specs.Judging.Finding.{fine, broken}
 use Rattle.rules.specs.Lists.{nth}
 use Rattle.rules.specs.Ring.{opening-of}
 use Rattle.rules.specs.Table.{entries-of}
@@ -20,8 +21,8 @@ use Rattle.rules.specs.Calls.{call-record, no-range}
 use Rattle.rules.specs.declared.Entry.{Entry}
 use Rattle.rules.specs.declared.Job.{Job}
 use Rattle.rules.specs.declared.Opened.{Opened}
+use Rattle.rules.specs.declared.Fault.{Fault}
 use Rattle.rules.specs.declared.Refusal.{Refusal}
-use Rattle.rules.specs.declared.Verdict.the-variants.{Fine, Broken}
 use Rattle.rules.specs.declared.Opening.the-variants.{Refused, Started}
 
 module _ (w : World) (o : Opened) (opened : opening-of (w .mem) (w .state .regs .ring) (w .state .regs .ringsize) ≡ Started o) where
@@ -34,26 +35,26 @@ module _ (w : World) (o : Opened) (opened : opening-of (w .mem) (w .state .regs 
   is = ap (submitted-on w) opened
 
   -- accepted: it waits, and nothing but the work has changed
-  pub accepted-waits : judged .verdict ≡ Fine → submitted w .state ≡ working (waiting (o .job) (entries-of (w .mem) (o .table)) (judged .held)) w
+  pub accepted-waits : judged .finding ≡ fine → submitted w .state ≡ working (waiting (o .job) (entries-of (w .mem) (o .table)) (judged .held)) w
   accepted-waits e = ap (λ (x : Out World). x .state) is ∙ rw e
 
   -- so the fence, the status, the head and the page stand as before the opening, and the device's resources too
-  pub waiting-keeps-registers : judged .verdict ≡ Fine → submitted w .state .state .regs ≡ w .state .regs
+  pub waiting-keeps-registers : judged .finding ≡ fine → submitted w .state .state .regs ≡ w .state .regs
   waiting-keeps-registers e = ap (λ (x : World). x .state .regs) (accepted-waits e)
 
-  pub waiting-keeps-memory : judged .verdict ≡ Fine → submitted w .state .mem ≡ w .mem
+  pub waiting-keeps-memory : judged .finding ≡ fine → submitted w .state .mem ≡ w .mem
   waiting-keeps-memory e = ap (λ (x : World). x .mem) (accepted-waits e)
 
-  pub waiting-keeps-resources : judged .verdict ≡ Fine → submitted w .state .state .resources ≡ w .state .resources
+  pub waiting-keeps-resources : judged .finding ≡ fine → submitted w .state .state .resources ≡ w .state .resources
   waiting-keeps-resources e = ap (λ (x : World). x .state .resources) (accepted-waits e)
 
-  module _ (r : Refusal) (e : judged .verdict ≡ Broken r) where
-    -- refused: settled with the first broken rule
-    pub refused-settles : submitted w .state ≡ settled-keeping (o .job) (Broken r) w
+  module _ (f : Fault) (e : judged .finding ≡ broken f) where
+    -- refused: settled with the first broken rule, and its place
+    pub refused-settles : submitted w .state ≡ settled-keeping (o .job) (broken f) w
     refused-settles = ap (λ (x : Out World). x .state) is ∙ rw e
 
     -- its error and its fence stand in the registers
-    pub refused-registers : submitted w .state .state .regs ≡ ended-by (o .job) (Broken r) (w .state .regs)
+    pub refused-registers : submitted w .state .state .regs ≡ ended-by (o .job) (broken f) (w .state .regs)
     unfolding settled
     refused-registers = ap (λ (x : World). x .state .regs) refused-settles
 
@@ -70,8 +71,8 @@ module _ (w : World) (o : Opened) (opened : opening-of (w .mem) (w .state .regs 
 -- ---- a submission that its opening refuses
 
 module _ (w : World) (j : Job) (r : Refusal) (opened : opening-of (w .mem) (w .state .regs .ring) (w .state .regs .ringsize) ≡ Refused j r) where
-  -- settled with that rule, after one unit
-  pub refused-at-opening : submitted w ≡ record { state = settled-keeping j (Broken r) w; units = 1 }
+  -- settled with that rule and place 0, after one unit
+  pub refused-at-opening : submitted w ≡ record { state = settled-keeping j (broken (without-place r)) w; units = 1 }
   unfolding submitted
   refused-at-opening = ap (submitted-on w) opened
 
@@ -87,11 +88,11 @@ module _ (w : World) (j : Job) (r : Refusal) (opened : opening-of (w .mem) (w .s
 
 module _ (w : World) (j : Job) (es : List Entry) (h : Holdings) (awaits : w .state .work ≡ waiting j es h) where
   -- good: the submission's resources become the device's
-  pub good-settles : answered true w ≡ settled j Fine (h .resources) w
+  pub good-settles : answered true w ≡ settled j fine (h .resources) w
   unfolding answered
   good-settles = rw awaits
 
   -- failed: those before it stay, and the error is 27
-  pub failed-settles : answered false w ≡ settled-keeping j (Broken (refusal host-failed)) w
+  pub failed-settles : answered false w ≡ settled-keeping j (broken (without-place (refusal host-failed))) w
   unfolding answered
   failed-settles = rw awaits

@@ -12,7 +12,8 @@ use Rattle.machine.specs.Machine.{pick, run-none, run-stop, run-go}
 use Rattle.rules.specs.Numbers.{bad-entry, other-memory, done, nothing-waits}
 use Rattle.rules.specs.Lists.{lookup}
 use Rattle.rules.specs.Lists.Found.{found}
-use Rattle.rules.specs.Judging.{refusal, rule}
+use Rattle.rules.specs.Judging.{refusal, rule, Finding, at-place}
+use Rattle.rules.specs.Judging.Finding.{fine, broken}
 use Rattle.rules.specs.Layouts.{entry}
 use Rattle.rules.specs.Table.{matching, entry-place, entry-rules, keep, in-reach, take-entry}
 use Rattle.rules.specs.Ring.{opening-of}
@@ -102,24 +103,24 @@ module _ (w : World) where
   opening-lies-in (Refused j r) k = omega arith
   opening-lies-in (Started o) k = entries-lie bytes o [] (w .state .resources) (every-none (EndsIn bytes))
 
-  entry-lies-in : (o : Opened) (kept : List Entry) (v : Verdict) → Every (EndsIn bytes) kept → LiesIn bytes (after-entry w o kept v .state .work)
+  entry-lies-in : (o : Opened) (kept : List Entry) (v : Finding) → Every (EndsIn bytes) kept → LiesIn bytes (after-entry w o kept v .state .work)
   unfolding settled
-  entry-lies-in o kept Fine e = entries-lie bytes o kept (w .state .resources) e
-  entry-lies-in o kept (Broken r) e = omega arith
+  entry-lies-in o kept fine e = entries-lie bytes o kept (w .state .resources) e
+  entry-lies-in o kept (broken f) e = omega arith
 
-  packet-lies-in : (j : Job) (t : Stream) (next : ℕ) (es : List Entry) (h : Holdings) (v : Verdict) → Every (EndsIn bytes) es → LiesIn bytes (after-packet w j t next es h v .state .work)
+  packet-lies-in : (j : Job) (t : Stream) (next : ℕ) (es : List Entry) (h : Holdings) (v : Finding) → Every (EndsIn bytes) es → LiesIn bytes (after-packet w j t next es h v .state .work)
   unfolding settled
-  packet-lies-in j t next es h Fine e = packets-lie bytes j t next es h e
-  packet-lies-in j t next es h (Broken r) e = omega arith
+  packet-lies-in j t next es h fine e = packets-lie bytes j t next es h e
+  packet-lies-in j t next es h (broken f) e = omega arith
 
   step-on-lies : (k : Work) → w .state .work ≡ k → LiesIn bytes k → LiesIn bytes (step-on w k .state .work)
   unfolding open-step entry-step packet-step
   step-on-lies resting e h =
       opening-lies-in (opening-of (w .mem) (w .state .regs .ring) (w .state .regs .ringsize)) (subst (LiesIn bytes) (sym e) h)
   step-on-lies (entries o kept) e h =
-      entry-lies-in o (take-entry (w .mem) (o .table) kept .kept) (take-entry (w .mem) (o .table) kept .verdict) (take-lies (w .mem) (o .table) kept h)
+      entry-lies-in o (take-entry (w .mem) (o .table) kept .kept) (at-place (length kept) (take-entry (w .mem) (o .table) kept .verdict)) (take-lies (w .mem) (o .table) kept h)
   step-on-lies (packets j t at es held) e h =
-      packet-lies-in j t (next-place at (left (w .mem) t at)) es (take-packet es held (left (w .mem) t at) .held) (take-packet es held (left (w .mem) t at) .verdict) h
+      packet-lies-in j t (next-place at (left (w .mem) t at)) es (take-packet es held (left (w .mem) t at) .held) (at-place at (take-packet es held (left (w .mem) t at) .verdict)) h
   step-on-lies (waiting j es held) e h = subst (LiesIn bytes) (sym e) h
 
   answer-on-lies : (good : Bool) (n : ℕ) (k : Work) → w .state .work ≡ k → LiesIn n k → LiesIn n (answer-on good w k .state .work)
@@ -161,21 +162,21 @@ module _ (w : World) where
   opening-made (Refused j r) = refl
   opening-made (Started o) = refl
 
-  entry-made : (o : Opened) (kept : List Entry) (v : Verdict) → after-entry w o kept v .state .memory ≡ w .state .memory
+  entry-made : (o : Opened) (kept : List Entry) (v : Finding) → after-entry w o kept v .state .memory ≡ w .state .memory
   unfolding settled
-  entry-made o kept Fine = refl
-  entry-made o kept (Broken r) = refl
+  entry-made o kept fine = refl
+  entry-made o kept (broken f) = refl
 
-  packet-made : (j : Job) (t : Stream) (next : ℕ) (es : List Entry) (h : Holdings) (v : Verdict) → after-packet w j t next es h v .state .memory ≡ w .state .memory
+  packet-made : (j : Job) (t : Stream) (next : ℕ) (es : List Entry) (h : Holdings) (v : Finding) → after-packet w j t next es h v .state .memory ≡ w .state .memory
   unfolding settled
-  packet-made j t next es h Fine = refl
-  packet-made j t next es h (Broken r) = refl
+  packet-made j t next es h fine = refl
+  packet-made j t next es h (broken f) = refl
 
   on-made : (k : Work) → step-on w k .state .memory ≡ w .state .memory
   unfolding open-step entry-step packet-step
   on-made resting = opening-made (opening-of (w .mem) (w .state .regs .ring) (w .state .regs .ringsize))
-  on-made (entries o kept) = entry-made o (take-entry (w .mem) (o .table) kept .kept) (take-entry (w .mem) (o .table) kept .verdict)
-  on-made (packets j t at es held) = packet-made j t (next-place at (left (w .mem) t at)) es (take-packet es held (left (w .mem) t at) .held) (take-packet es held (left (w .mem) t at) .verdict)
+  on-made (entries o kept) = entry-made o (take-entry (w .mem) (o .table) kept .kept) (at-place (length kept) (take-entry (w .mem) (o .table) kept .verdict))
+  on-made (packets j t at es held) = packet-made j t (next-place at (left (w .mem) t at)) es (take-packet es held (left (w .mem) t at) .held) (at-place at (take-packet es held (left (w .mem) t at) .verdict))
   on-made (waiting j es held) = refl
 
   answer-made : (good : Bool) (k : Work) → answer-on good w k .state .memory ≡ w .state .memory

@@ -1,5 +1,6 @@
 pub mod NightLog
 pub mod Whole
+pub mod LentBytes
 pub mod Submission
 pub mod Slices
 pub mod Sound
@@ -19,7 +20,10 @@ pub mod ChainsStand
 pub mod Units
 pub mod Events
 pub mod Changes
+pub mod Kept
 pub mod Tables
+pub mod Places
+pub mod UnslicedPlaces
 pub mod Ranges
 pub mod Bytes
 pub mod LocalBytes

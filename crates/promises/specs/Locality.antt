@@ -7,6 +7,8 @@ use Prim.Native.Nat.{ℕ, _≤_}
 use lib.ListN.{length}
 use Rattle.machine.specs.Machine.{pick, halt, spent, runFor}
 use Rattle.rules.specs.Numbers.{other-memory}
+use Rattle.rules.specs.Judging.{Finding, at-place}
+use Rattle.rules.specs.Judging.Finding.{fine, broken}
 use Rattle.rules.specs.Layouts.{entry-size}
 use Rattle.rules.specs.Table.{entry-place, take-entry}
 use Rattle.rules.specs.Stream.{left}
@@ -23,8 +25,6 @@ use Rattle.rules.specs.declared.Registers.{Registers}
 use Rattle.rules.specs.declared.Table.{Table}
 use Rattle.rules.specs.declared.Stream.{Stream}
 use Rattle.rules.specs.declared.Opened.{Opened}
-use Rattle.rules.specs.declared.Verdict.{Verdict}
-use Rattle.rules.specs.declared.Verdict.the-variants.{Fine, Broken}
 use Rattle.rules.specs.declared.Ended.the-variants.{Idle}
 use Rattle.rules.specs.declared.Opening.{Opening}
 use Rattle.rules.specs.declared.Opening.the-variants.{BadRing, NoWork, Refused, Started}
@@ -69,16 +69,16 @@ module _ (s : State) (m m′ : List ℕ) where
   opening-blind (Refused j r) = record { state = refl; writes = settles j }
   opening-blind (Started o) = record { state = refl; writes = unwritten }
 
-  entry-blind : (o : Opened) (kept : List Entry) (v : Verdict) → SameEnd m m′ (after-entry (lent s m) o kept v) (after-entry (lent s m′) o kept v)
+  entry-blind : (o : Opened) (kept : List Entry) (v : Finding) → SameEnd m m′ (after-entry (lent s m) o kept v) (after-entry (lent s m′) o kept v)
   unfolding settled
-  entry-blind o kept Fine = record { state = refl; writes = unwritten }
-  entry-blind o kept (Broken r) = record { state = refl; writes = settles (o .job) }
+  entry-blind o kept fine = record { state = refl; writes = unwritten }
+  entry-blind o kept (broken f) = record { state = refl; writes = settles (o .job) }
 
-  packet-blind : (j : Job) (t : Stream) (next : ℕ) (es : List Entry) (h : Holdings) (v : Verdict)
+  packet-blind : (j : Job) (t : Stream) (next : ℕ) (es : List Entry) (h : Holdings) (v : Finding)
       → SameEnd m m′ (after-packet (lent s m) j t next es h v) (after-packet (lent s m′) j t next es h v)
   unfolding settled
-  packet-blind j t next es h Fine = record { state = refl; writes = unwritten }
-  packet-blind j t next es h (Broken r) = record { state = refl; writes = settles j }
+  packet-blind j t next es h fine = record { state = refl; writes = unwritten }
+  packet-blind j t next es h (broken f) = record { state = refl; writes = settles j }
 
   module _ (len : length m ≡ length m′) where
     on-reads-only : (k : Work) → SameFor (s .regs) k m m′ → SameEnd m m′ (step-on (lent s m) k) (step-on (lent s m′) k)
@@ -86,10 +86,10 @@ module _ (s : State) (m m′ : List ℕ) where
     on-reads-only resting same =
         rw (← same-opening m m′ len (s .regs .ring) (s .regs .ringsize) same) (opening-blind (opening-of m (s .regs .ring) (s .regs .ringsize)))
     on-reads-only (entries o kept) same =
-        rw (← same-taken-entry m m′ len (o .table) kept same) (entry-blind o (take-entry m (o .table) kept .kept) (take-entry m (o .table) kept .verdict))
+        rw (← same-taken-entry m m′ len (o .table) kept same) (entry-blind o (take-entry m (o .table) kept .kept) (at-place (length kept) (take-entry m (o .table) kept .verdict)))
     on-reads-only (packets j t at es h) same =
         rw (← same-next-frame t at m m′ len same, ← same-taken-packet t at m m′ len same es h)
-        (packet-blind j t (next-place at (left m t at)) es (take-packet es h (left m t at) .held) (take-packet es h (left m t at) .verdict))
+        (packet-blind j t (next-place at (left m t at)) es (take-packet es h (left m t at) .held) (at-place at (take-packet es h (left m t at) .verdict)))
     on-reads-only (waiting j es h) same = record { state = refl; writes = unwritten }
 
     -- one unit, of one device over two memories of one length

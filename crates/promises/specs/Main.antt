@@ -1,6 +1,6 @@
--- What is promised, in the user's words and order: ten statements about the calls that a host makes. `Call`, `after` and what a call reports are
--- in Called.antt; the calls' own definitions in rules/specs/Calls.antt are what the code's contracts cite. All else in this crate serves
--- these ten. Assumes nothing.
+-- What is promised, in the user's words and order: ten statements about the calls that a host makes, and those of wishes that have landed. `Call`,
+-- `after` and what a call reports are in Called.antt; the calls' own definitions in rules/specs/Calls.antt are what the code's contracts cite. All
+-- else in this crate serves these. Assumes nothing.
 use mathlib.Core.Path.{_≡_, refl, ap, _∙_}
 use mathlib.Core.Bool.{true, false}
 use mathlib.Core.List.{List, []}
@@ -14,7 +14,8 @@ use Rattle.rules.specs.Numbers.{done, no-record, host-failed}
 use Rattle.rules.specs.Ring.{opening-of}
 use Rattle.rules.specs.Table.{entries-of}
 use Rattle.rules.specs.Packets.{Holdings, at-first}
-use Rattle.rules.specs.Judging.{refusal}
+use Rattle.rules.specs.Judging.{refusal, Finding, without-place}
+use Rattle.rules.specs.Judging.Finding.{fine, broken}
 use Rattle.rules.specs.Registers.{Read, register}
 use Rattle.rules.specs.State.{State, World, working, registering}
 use Rattle.rules.specs.State.Work.{resting, waiting}
@@ -29,11 +30,10 @@ use Rattle.rules.specs.declared.Entry.{Entry}
 use Rattle.rules.specs.declared.Job.{Job}
 use Rattle.rules.specs.declared.Record.{Record}
 use Rattle.rules.specs.declared.Opening.{Opening}
-use Rattle.rules.specs.declared.Verdict.{Verdict}
 use Rattle.rules.specs.declared.Opened.{Opened}
+use Rattle.rules.specs.declared.Fault.{Fault}
 use Rattle.rules.specs.declared.Refusal.{Refusal}
 use Rattle.rules.specs.declared.Registers.{Registers}
-use Rattle.rules.specs.declared.Verdict.the-variants.{Fine, Broken}
 use Rattle.rules.specs.declared.Opening.the-variants.{BadRing, NoWork, Refused, Started}
 use Rattle.promises.specs.Refused.{refused-run-changes-nothing, refused-answer-changes-nothing, refused-write-changes-nothing}
 use Rattle.promises.specs.Called.{Call, after, after-all, units-of-all, taken-by-all, Called}
@@ -43,13 +43,17 @@ use Rattle.promises.specs.Acts.Led.{stays, spends, writes-one, takes}
 use Rattle.promises.specs.Courses.{clash}
 use Rattle.promises.specs.Slices.{waiting-stands-still}
 use Rattle.promises.specs.Fences.{good-settles, failed-settles}
-use Rattle.promises.specs.Units.{Unit, unit}
+use Rattle.promises.specs.Units.{Breaks, Unit, unit}
 use Rattle.promises.specs.Chains.{submitted-under, Stands}
 use Rattle.promises.specs.ChainsStand.{calls-stand, same-acts}
 use Rattle.promises.specs.Slicing.{NoWrite, same-units-same-answers}
 use Rattle.promises.specs.Runs.{of-run, never-more-than-allowed, run-spends-all-or-is-done, paused-spent-all}
 use Rattle.promises.specs.Events.{Event, History, calls-have-events}
-use Rattle.promises.specs.Changes.{Says, calls-say}
+use Rattle.promises.specs.Changes.{told, Says, calls-say}
+use Rattle.promises.specs.Kept.{EachLent}
+use Rattle.promises.specs.LentBytes.{OfBytes}
+use Rattle.promises.specs.Places.{OfAnEntry, OfAPacket, sizes-fit, settling-tells, TellsWhere, each-settling-tells-where}
+use Rattle.promises.specs.UnslicedPlaces.{unsliced-tells-where}
 use Rattle.promises.specs.Bytes.{WrittenBy, calls-write}
 use Rattle.promises.specs.Ranges.{InOneEntry, ranges-at-the-record-call}
 use Rattle.promises.specs.Locality.{lent, SameWhereRead, SameRun, run-of-one-reads-only}
@@ -117,35 +121,35 @@ submissions-go-by-the-rules cs w n = (calls-lead cs w n, calls-stand cs w n)
 pub one-place : {w u v : World} {xs : List Act} → Led w xs u → Led w xs v → u ≡ v
 one-place = same-acts
 
--- a submission that its opening refuses, at w, whatever registers q stand
+-- a submission that its opening refuses, at w, whatever registers q stand: its place is 0
 pub refused-at-the-opening : (w : World) (q : Registers) (j : Job) (r : Refusal)
     → opening-of (w .mem) (w .state .regs .ring) (w .state .regs .ringsize) ≡ Refused j r
-    → submitted-under q w ≡ record { state = settled-keeping j (Broken r) (registering q w); units = 1 }
+    → submitted-under q w ≡ record { state = settled-keeping j (broken (without-place r)) (registering q w); units = 1 }
 refused-at-the-opening w q j r opened = rw opened
 
 -- what waits was accepted: the unsliced rules found no broken rule
 pub record Accepted (w : World) : Type 0 where
   pub what : Opened
   pub opened : opening-of (w .mem) (w .state .regs .ring) (w .state .regs .ringsize) ≡ Started what
-  pub verdict : submission (w .mem) what (at-first (w .state .resources)) .verdict ≡ Fine
+  pub finding : submission (w .mem) what (at-first (w .state .resources)) .finding ≡ fine
 
 pub only-accepted-waits : (w : World) (q : Registers) → w .state .work ≡ resting → waits (submitted-under q w .state .state) ≡ true → Accepted w
 unfolding settled
 only-accepted-waits w q rest = by-opening (opening-of (w .mem) (w .state .regs .ring) (w .state .regs .ringsize)) refl
   where
-    by-verdict : (o : Opened) → opening-of (w .mem) (w .state .regs .ring) (w .state .regs .ringsize) ≡ Started o
-        → (v : Verdict) → submission (w .mem) o (at-first (w .state .resources)) .verdict ≡ v
+    by-finding : (o : Opened) → opening-of (w .mem) (w .state .regs .ring) (w .state .regs .ringsize) ≡ Started o
+        → (v : Finding) → submission (w .mem) o (at-first (w .state .resources)) .finding ≡ v
         → waits (finished (registering q w) (o .job) (entries-of (w .mem) (o .table)) (submission (w .mem) o (at-first (w .state .resources)) .held) v .state) ≡ true
         → Accepted w
-    by-verdict o e Fine h k = record { what = o; opened = e; verdict = h }
-    by-verdict o e (Broken r) h k = absurd (let z : _≡_ {A = ℕ} 0 1 = cc in omega arith)
+    by-finding o e fine h k = record { what = o; opened = e; finding = h }
+    by-finding o e (broken f) h k = absurd (let z : _≡_ {A = ℕ} 0 1 = cc in omega arith)
 
     by-opening : (v : Opening) → opening-of (w .mem) (w .state .regs .ring) (w .state .regs .ringsize) ≡ v
         → waits (submitted-on (registering q w) v .state .state) ≡ true → Accepted w
     by-opening BadRing e k = absurd (let f : waits (w .state) ≡ false = rw rest in let z : _≡_ {A = ℕ} 0 1 = cc in omega arith)
     by-opening NoWork e k = absurd (let f : waits (w .state) ≡ false = rw rest in let z : _≡_ {A = ℕ} 0 1 = cc in omega arith)
     by-opening (Refused j r) e k = absurd (let z : _≡_ {A = ℕ} 0 1 = cc in omega arith)
-    by-opening (Started o) e k = by-verdict o e (submission (w .mem) o (at-first (w .state .resources)) .verdict) refl k
+    by-opening (Started o) e k = by-finding o e (submission (w .mem) o (at-first (w .state .resources)) .finding) refl k
 
 -- a submission that was opened at w and settled or accepted with the registers q
 module _ (w : World) (q : Registers) (o : Opened) (opened : opening-of (w .mem) (w .state .regs .ring) (w .state .regs .ringsize) ≡ Started o) where
@@ -155,14 +159,23 @@ module _ (w : World) (q : Registers) (o : Opened) (opened : opening-of (w .mem) 
 
   -- 4. "An accepted one's fence waits for the host's answer": it waits, and its units have changed nothing but the work: no byte, no
   -- resource, and of the registers only what was written meanwhile, which q are.
-  pub accepted-waits : judged .verdict ≡ Fine
+  pub accepted-waits : judged .finding ≡ fine
       → submitted-under q w .state ≡ working (waiting (o .job) (entries-of (w .mem) (o .table)) (judged .held)) (registering q w)
   accepted-waits e = rw (opened, e)
 
-  module _ (r : Refusal) (e : judged .verdict ≡ Broken r) where
-    -- 5. "a refused one's completes with its error"
-    pub refused-completes : submitted-under q w .state ≡ settled-keeping (o .job) (Broken r) (registering q w)
+  module _ (f : Fault) (e : judged .finding ≡ broken f) where
+    -- 5. "a refused one's completes with its error", the first broken rule and its place
+    pub refused-completes : submitted-under q w .state ≡ settled-keeping (o .job) (broken f) (registering q w)
     refused-completes = rw (opened, e)
+
+    -- Wish 9, "tell me where it broke": the registers have the number and the place that the unsliced rules give with it, and it lies in the
+    -- table or in the stream. Memory holds bytes.
+    pub refused-tells-where : OfBytes (w .mem)
+        → (submitted-under q w .state .state .regs .error ≡ told (o .job) f (q .error)) × (OfAnEntry (o .table) f ⊎ OfAPacket (o .stream) f)
+    refused-tells-where b = (
+      ap (λ (x : World). x .state .regs .error) refused-completes ∙ settling-tells (o .job) f (w .state .resources) (registering q w),
+      unsliced-tells-where (w .mem) (w .state .regs .ring) (w .state .regs .ringsize) o opened b (at-first (w .state .resources)) f e,
+    )
 
     -- "hands out nothing and keeps every resource as it was"
     pub refused-hands-out-nothing : (i : ℕ) → call-record (submitted-under q w .state .state) i ≡ record { answer = no-record; range = no-range }
@@ -172,6 +185,11 @@ module _ (w : World) (q : Registers) (o : Opened) (opened : opening-of (w .mem) 
     pub refused-keeps-resources : submitted-under q w .state .state .resources ≡ w .state .resources
     unfolding settled
     refused-keeps-resources = rw refused-completes
+
+-- Wish 9 at every unit that settles: the entry's index, the packet's offset, "else 0". Of any device made and called, over any bytes.
+pub every-settling-tells-where : (s : State) (k : Called s) → EachLent OfBytes s k → (m : List ℕ) (j : Job) (f : Fault) → Breaks (lent s m) (s .work) j f
+    → TellsWhere (lent s m) j f
+every-settling-tells-where s k b = each-settling-tells-where s k (sizes-fit s k b)
 
 -- it goes on waiting until an answer is taken, and only registers are written
 pub waits-until-answered : (cs : List Call) (w : World) → NoReset cs → waits (w .state) ≡ true → taken-by-all cs w ≡ []
@@ -186,10 +204,10 @@ waits-until-answered cs w n k a = led-waits (calls-lead cs w n) k (acts-answers 
     led-waits (writes-one offset v h p) k a = led-waits p k a
     led-waits (takes good h p) k a = absurd (let z : _≡_ {A = ℕ} 0 1 = cc in omega arith)
 
--- and an answer that is lent the device's memory is taken: it settles the submission, with its resources or with error 27
+-- and an answer that is lent the device's memory is taken: it settles the submission, with its resources or with error 27 and place 0
 pub an-answer-settles : (w : World) (j : Job) (es : List Entry) (h : Holdings) → w .state .work ≡ waiting j es h → lent-another w ≡ false
-    → (call-answer w true ≡ record { answer = done; world = settled j Fine (h .resources) w })
-    × (call-answer w false ≡ record { answer = done; world = settled-keeping j (Broken (refusal host-failed)) w })
+    → (call-answer w true ≡ record { answer = done; world = settled j fine (h .resources) w })
+    × (call-answer w false ≡ record { answer = done; world = settled-keeping j (broken (without-place (refusal host-failed))) w })
 unfolding call-answer
 an-answer-settles w j es h e l =
     let awaits : waits (w .state) ≡ true = ap waits-on e in (

@@ -6,6 +6,8 @@ use mathlib.Core.List.{List}
 use Prim.Native.Nat.{ℕ, zero, suc}
 use lib.ListN.{length}
 use Rattle.machine.specs.Machine.{Out, run-none, run-stop, run-go}
+use Rattle.rules.specs.Judging.{Finding, at-place, without-place}
+use Rattle.rules.specs.Judging.Finding.{fine, broken}
 use Rattle.rules.specs.Ring.{opening-of}
 use Rattle.rules.specs.Table.{take-entry}
 use Rattle.rules.specs.Stream.{left}
@@ -20,8 +22,6 @@ use Rattle.rules.specs.declared.Resource.{Resource}
 use Rattle.rules.specs.declared.Job.{Job}
 use Rattle.rules.specs.declared.Stream.{Stream}
 use Rattle.rules.specs.declared.Opened.{Opened}
-use Rattle.rules.specs.declared.Verdict.{Verdict}
-use Rattle.rules.specs.declared.Verdict.the-variants.{Fine, Broken}
 use Rattle.rules.specs.declared.Opening.{Opening}
 use Rattle.rules.specs.declared.Opening.the-variants.{BadRing, NoWork, Refused, Started}
 use Rattle.settle.specs.Only.{marked-length}
@@ -42,40 +42,40 @@ JobOf w (waiting k es h) j = j ≡ k
 -- settling leaves them
 pub data Touched (w : World) (k : Work) : List ℕ → Type 0 where
   untouched : Touched w k (w .mem)
-  settles : (j : Job) (v : Verdict) → JobOf w k j → Touched w k (marked j (ended-by j v (w .state .regs)) (w .mem))
+  settles : (j : Job) (v : Finding) → JobOf w k j → Touched w k (marked j (ended-by j v (w .state .regs)) (w .mem))
 
 module _ (w : World) where
-  settled-touches : (k : Work) (j : Job) (v : Verdict) (rs : List Resource) → JobOf w k j → Touched w k (settled j v rs w .mem)
+  settled-touches : (k : Work) (j : Job) (v : Finding) (rs : List Resource) → JobOf w k j → Touched w k (settled j v rs w .mem)
   unfolding settled
   settled-touches k j v rs own = settles j v own
 
   opening-touches : (v : Opening) → opening-of (w .mem) (w .state .regs .ring) (w .state .regs .ringsize) ≡ v → Touched w resting (after-opening w v .mem)
   opening-touches BadRing e = untouched
   opening-touches NoWork e = untouched
-  opening-touches (Refused j r) e = settled-touches resting j (Broken r) (w .state .resources) (record { why = r; here = e })
+  opening-touches (Refused j r) e = settled-touches resting j (broken (without-place r)) (w .state .resources) (record { why = r; here = e })
   opening-touches (Started o) e = untouched
 
-  entry-touches : (o : Opened) (kept kept′ : List Entry) (v : Verdict) → Touched w (entries o kept) (after-entry w o kept′ v .mem)
-  entry-touches o kept kept′ Fine = untouched
-  entry-touches o kept kept′ (Broken r) = settled-touches (entries o kept) (o .job) (Broken r) (w .state .resources) refl
+  entry-touches : (o : Opened) (kept kept′ : List Entry) (v : Finding) → Touched w (entries o kept) (after-entry w o kept′ v .mem)
+  entry-touches o kept kept′ fine = untouched
+  entry-touches o kept kept′ (broken f) = settled-touches (entries o kept) (o .job) (broken f) (w .state .resources) refl
 
-  packet-touches : (j : Job) (s : Stream) (at next : ℕ) (es : List Entry) (h h′ : Holdings) (v : Verdict) → Touched w (packets j s at es h) (after-packet w j s next es h′ v .mem)
-  packet-touches j s at next es h h′ Fine = untouched
-  packet-touches j s at next es h h′ (Broken r) = settled-touches (packets j s at es h) j (Broken r) (w .state .resources) refl
+  packet-touches : (j : Job) (s : Stream) (at next : ℕ) (es : List Entry) (h h′ : Holdings) (v : Finding) → Touched w (packets j s at es h) (after-packet w j s next es h′ v .mem)
+  packet-touches j s at next es h h′ fine = untouched
+  packet-touches j s at next es h h′ (broken f) = settled-touches (packets j s at es h) j (broken f) (w .state .resources) refl
 
   on-touches : (k : Work) → Touched w k (step-on w k .mem)
   unfolding open-step entry-step packet-step
   on-touches resting = opening-touches (opening-of (w .mem) (w .state .regs .ring) (w .state .regs .ringsize)) refl
-  on-touches (entries o kept) = entry-touches o kept (take-entry (w .mem) (o .table) kept .kept) (take-entry (w .mem) (o .table) kept .verdict)
+  on-touches (entries o kept) = entry-touches o kept (take-entry (w .mem) (o .table) kept .kept) (at-place (length kept) (take-entry (w .mem) (o .table) kept .verdict))
   on-touches (packets j s at es h) =
-      packet-touches j s at (next-place at (left (w .mem) s at)) es h (take-packet es h (left (w .mem) s at) .held) (take-packet es h (left (w .mem) s at) .verdict)
+      packet-touches j s at (next-place at (left (w .mem) s at)) es h (take-packet es h (left (w .mem) s at) .held) (at-place at (take-packet es h (left (w .mem) s at) .verdict))
   on-touches (waiting j es h) = untouched
 
   answer-touches : (good : Bool) (k : Work) → Touched w k (answer-on good w k .mem)
   answer-touches good resting = untouched
   answer-touches good (entries o kept) = untouched
   answer-touches good (packets j s at es h) = untouched
-  answer-touches true (waiting j es h) = settled-touches (waiting j es h) j Fine (h .resources) refl
+  answer-touches true (waiting j es h) = settled-touches (waiting j es h) j fine (h .resources) refl
   answer-touches false (waiting j es h) = settled-touches (waiting j es h) j _ (w .state .resources) refl
 
 -- one unit writes memory only by settling, and so does an answer

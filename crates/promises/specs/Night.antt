@@ -11,6 +11,8 @@ use lib.Dec.{ltb}
 use Rattle.machine.specs.Machine.{pick, Out, spent, run-none, run-stop, sliced, run-exact}
 use Rattle.machine.specs.Schedule.{Event, Played, play, took}
 use Rattle.machine.specs.Schedule.Event.{run, answers}
+use Rattle.rules.specs.Judging.{Finding}
+use Rattle.rules.specs.Judging.Finding.{fine, broken}
 use Rattle.rules.specs.State.{Work, World}
 use Rattle.rules.specs.State.Work.{resting, entries, packets, waiting}
 use Rattle.rules.specs.Ring.{opening-of}
@@ -21,8 +23,6 @@ use Rattle.rules.specs.Steps.{busy, step, go, run-for, waits-on, waits, answer-
 use Rattle.rules.specs.Unsliced.{submission as submission-of, finished, submitted-on, submitted}
 use Rattle.rules.specs.declared.Entry.{Entry}
 use Rattle.rules.specs.declared.Job.{Job}
-use Rattle.rules.specs.declared.Verdict.{Verdict}
-use Rattle.rules.specs.declared.Verdict.the-variants.{Fine, Broken}
 use Rattle.rules.specs.declared.Opening.{Opening}
 use Rattle.rules.specs.declared.Opening.the-variants.{BadRing, NoWork, Refused, Started}
 use Rattle.promises.specs.Whole.{midst}
@@ -41,10 +41,10 @@ pub data Night : World → List Bool → ℕ → World → Type 0 where
 
 -- ---- a submission's end, and an answer's, is clear
 
-pub finished-clear : (w : World) (j : Job) (es : List Entry) (h : Holdings) (v : Verdict) → Clear (finished w j es h v)
+pub finished-clear : (w : World) (j : Job) (es : List Entry) (h : Holdings) (v : Finding) → Clear (finished w j es h v)
 unfolding settled
-finished-clear w j es h Fine = refl
-finished-clear w j es h (Broken r) = refl
+finished-clear w j es h fine = refl
+finished-clear w j es h (broken f) = refl
 
 submitted-on-clear : (w : World) (v : Opening) → Clear w → Clear (submitted-on w v .state)
 unfolding settled
@@ -52,7 +52,7 @@ submitted-on-clear w BadRing c = c
 submitted-on-clear w NoWork c = c
 submitted-on-clear w (Refused j r) c = refl
 submitted-on-clear w (Started o) c =
-    finished-clear w (o .job) (entries-of (w .mem) (o .table)) (submission-of (w .mem) o (at-first (w .state .resources)) .held) (submission-of (w .mem) o (at-first (w .state .resources)) .verdict)
+    finished-clear w (o .job) (entries-of (w .mem) (o .table)) (submission-of (w .mem) o (at-first (w .state .resources)) .held) (submission-of (w .mem) o (at-first (w .state .resources)) .finding)
 
 submitted-clear : (w : World) → Clear w → Clear (submitted w .state)
 unfolding submitted

@@ -4,10 +4,11 @@ use mathlib.Core.Bool.{Bool, true, false, _&&_}
 use mathlib.Core.List.{List, [], _∷_, _++_}
 use Prim.Native.Nat.{ℕ, zero, suc, _+_}
 use lib.Dec.{eqb}
-use Rattle.rules.specs.Numbers.{ring-magic, version}
+use Rattle.rules.specs.Numbers.{ring-magic, version, no-place}
 use Rattle.rules.specs.Bytes.{le, bytesOf}
 use Rattle.rules.specs.Lists.{lookup}
-use Rattle.rules.specs.Judging.{number}
+use Rattle.rules.specs.Judging.{number, at-place}
+use Rattle.rules.specs.Judging.Finding.{fine}
 use Rattle.rules.specs.Layouts.{ring-header}
 use Rattle.rules.specs.Table.{entry-rules}
 use Rattle.rules.specs.Ring.{power-of-two, pending, slot, good-header, good-ring, opening-of}
@@ -23,7 +24,6 @@ use Rattle.rules.specs.declared.RingHeader.{RingHeader}
 use Rattle.rules.specs.declared.Registers.{Registers}
 use Rattle.rules.specs.declared.Start.{Start}
 use Rattle.rules.specs.declared.Start.the-variants.{At, Nowhere}
-use Rattle.rules.specs.declared.Verdict.the-variants.{Fine}
 
 -- what the rules give, and what the log says
 pub record Case : Type 0 where
@@ -46,7 +46,7 @@ roomy = record { id = 5; flags = 0; gpa = 0; size = 1099511627776 }
 -- the error that creating such a texture gives; 0 for none
 unfoldable pub creating : Shape → ℕ → ℕ
 creating s pitch =
-    number (on-texture-packet (roomy ∷ []) (at-first []) (record { handle = 1; shape = s; pitch = pitch; backing = 5; offset = 0 }) .verdict)
+    number (at-place no-place (on-texture-packet (roomy ∷ []) (at-first []) (record { handle = 1; shape = s; pitch = pitch; backing = 5; offset = 0 }) .verdict))
 
 unfoldable pub start : Start → ℕ
 start (At n) = n
@@ -58,7 +58,7 @@ unfoldable pub completed-nine : Registers
 completed-nine = registers-of 0 0 true 0 9 false false 0 no-error true
 
 unfoldable pub after-signal : ℕ → Registers
-after-signal fence = ended-by (record { ring = 0; head = 0; signal = fence; silent = false }) Fine completed-nine
+after-signal fence = ended-by (record { ring = 0; head = 0; signal = fence; silent = false }) fine completed-nine
 
 -- ---- rings
 
@@ -86,7 +86,7 @@ rung head tail =
 -- ---- entries
 
 unfoldable pub entry-error : ℕ → ℕ → ℕ
-entry-error gpa size = number (entry-rules 4096 [] (record { id = 1; flags = 0; gpa = gpa; size = size }))
+entry-error gpa size = number (at-place 0 (entry-rules 4096 [] (record { id = 1; flags = 0; gpa = gpa; size = size })))
 
 -- ---- the table
 

@@ -12,7 +12,8 @@ use Rattle.machine.specs.Machine.{pick, run-none, run-stop, run-go}
 use Rattle.rules.specs.Numbers.{most, bad-entry, twice-in-table}
 use Rattle.rules.specs.Lists.{Found}
 use Rattle.rules.specs.Lists.Found.{none, found}
-use Rattle.rules.specs.Judging.{refusal, rule}
+use Rattle.rules.specs.Judging.{refusal, rule, Finding, at-place, without-place}
+use Rattle.rules.specs.Judging.Finding.{fine, broken}
 use Rattle.rules.specs.Layouts.{entry}
 use Rattle.rules.specs.Table.{entry-id, matching, is-found, entry-place, entry-rules, keep, in-reach, take-entry}
 use Rattle.rules.specs.Ring.{opening-of}
@@ -107,7 +108,7 @@ entries-at-sound o kept rs e r = by-test (ltb (length kept) (o .table .count))
     by-test true = e
     by-test false = packets-at-sound (o .job) (o .stream) 24 kept (at-first rs) e (first-sound kept rs r)
 
-settled-sound : (j : Job) (v : Verdict) (rs : List Resource) (w : World) → SoundResources rs → SoundState (settled j v rs w .state)
+settled-sound : (j : Job) (v : Finding) (rs : List Resource) (w : World) → SoundResources rs → SoundState (settled j v rs w .state)
 unfolding settled
 settled-sound j v rs w r = record { resources = r; work = omega arith }
 
@@ -115,25 +116,25 @@ module _ (w : World) (s : SoundResources (w .state .resources)) where
   opening-sound : (v : Opening) → SoundWork (w .state .work) → SoundState (after-opening w v .state)
   opening-sound BadRing k = record { resources = s; work = k }
   opening-sound NoWork k = record { resources = s; work = k }
-  opening-sound (Refused j r) k = settled-sound j (Broken r) _ w s
+  opening-sound (Refused j r) k = settled-sound j (broken (without-place r)) _ w s
   opening-sound (Started o) k = record { resources = s; work = entries-at-sound o [] (w .state .resources) no-entries s }
 
-  after-entry-sound : (o : Opened) (kept : List Entry) (v : Verdict) → SoundEntries kept → SoundState (after-entry w o kept v .state)
-  after-entry-sound o kept Fine e = record { resources = s; work = entries-at-sound o kept (w .state .resources) e s }
-  after-entry-sound o kept (Broken r) e = settled-sound (o .job) (Broken r) _ w s
+  after-entry-sound : (o : Opened) (kept : List Entry) (v : Finding) → SoundEntries kept → SoundState (after-entry w o kept v .state)
+  after-entry-sound o kept fine e = record { resources = s; work = entries-at-sound o kept (w .state .resources) e s }
+  after-entry-sound o kept (broken f) e = settled-sound (o .job) (broken f) _ w s
 
-  after-packet-sound : (j : Job) (t : Stream) (next : ℕ) (es : List Entry) (h : Holdings) (v : Verdict) → SoundEntries es → SoundHoldings es h → SoundState (after-packet w j t next es h v .state)
-  after-packet-sound j t next es h Fine e k = record { resources = s; work = packets-at-sound j t next es h e k }
-  after-packet-sound j t next es h (Broken r) e k = settled-sound j (Broken r) _ w s
+  after-packet-sound : (j : Job) (t : Stream) (next : ℕ) (es : List Entry) (h : Holdings) (v : Finding) → SoundEntries es → SoundHoldings es h → SoundState (after-packet w j t next es h v .state)
+  after-packet-sound j t next es h fine e k = record { resources = s; work = packets-at-sound j t next es h e k }
+  after-packet-sound j t next es h (broken f) e k = settled-sound j (broken f) _ w s
 
   step-on-sound : (k : Work) → w .state .work ≡ k → SoundWork k → SoundState (step-on w k .state)
   unfolding open-step entry-step packet-step
   step-on-sound resting e h =
       opening-sound (opening-of (w .mem) (w .state .regs .ring) (w .state .regs .ringsize)) (subst SoundWork (sym e) h)
   step-on-sound (entries o kept) e h =
-      after-entry-sound o (take-entry (w .mem) (o .table) kept .kept) (take-entry (w .mem) (o .table) kept .verdict) (take-entry-sound (w .mem) (o .table) kept h)
+      after-entry-sound o (take-entry (w .mem) (o .table) kept .kept) (at-place (length kept) (take-entry (w .mem) (o .table) kept .verdict)) (take-entry-sound (w .mem) (o .table) kept h)
   step-on-sound (packets j t at es held) e h =
-      after-packet-sound j t (next-place at (left (w .mem) t at)) es (take-packet es held (left (w .mem) t at) .held) (take-packet es held (left (w .mem) t at) .verdict) (h .0)
+      after-packet-sound j t (next-place at (left (w .mem) t at)) es (take-packet es held (left (w .mem) t at) .held) (at-place at (take-packet es held (left (w .mem) t at) .verdict)) (h .0)
       (take-sound es held (h .1) (left (w .mem) t at))
   step-on-sound (waiting j es held) e h = record { resources = s; work = subst SoundWork (sym e) h }
 
@@ -141,7 +142,7 @@ module _ (w : World) (s : SoundResources (w .state .resources)) where
   answer-sound good resting e h = record { resources = s; work = subst SoundWork (sym e) h }
   answer-sound good (entries o kept) e h = record { resources = s; work = subst SoundWork (sym e) h }
   answer-sound good (packets j t at es held) e h = record { resources = s; work = subst SoundWork (sym e) h }
-  answer-sound true (waiting j es held) e h = settled-sound j Fine _ w (h .1 .resources)
+  answer-sound true (waiting j es held) e h = settled-sound j fine _ w (h .1 .resources)
   answer-sound false (waiting j es held) e h = settled-sound j _ _ w s
 
 -- one unit keeps it, over any memory

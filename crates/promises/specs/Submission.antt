@@ -3,7 +3,7 @@
 use mathlib.Core.Path.{_≡_, refl, sym, ap, subst, _∙_}
 use mathlib.Core.Bool.{Bool, true, false}
 use mathlib.Core.List.{List, []}
-use Prim.Native.Nat.{ℕ, zero, suc, _+_, _-_, _*_, _≤_, _<_}
+use Prim.Native.Nat.{ℕ, zero, suc, _+_, _*_, _^_, _≤_, _<_}
 use native.Mathlib.Omega.{arith}
 use native.Mathlib.Numerals.{one-add}
 use native.Mathlib.Nat.{mul-le-mul-right}
@@ -13,7 +13,8 @@ use lib.ListN.{length, take, drop, length-drop}
 use lib.Seq.{length-take-le}
 use Rattle.machine.specs.Machine.{pick, Out, spent, run-go, sliced}
 use Rattle.rules.specs.Numbers.{most, outside-memory}
-use Rattle.rules.specs.Judging.{rule, only}
+use Rattle.rules.specs.Judging.{rule, only, Finding}
+use Rattle.rules.specs.Judging.Finding.{fine, broken}
 use Rattle.rules.specs.Layouts.{ring-header, descriptor, table-header, entry-size, stream-header, stream-header-size}
 use Rattle.rules.specs.Table.{Judged, header-rules, in-reach, entries-of, judge-entries}
 use Rattle.rules.specs.Stream.{stream-rules, stream-bytes, packets-of}
@@ -36,6 +37,7 @@ use Rattle.rules.specs.declared.Opening.the-variants.{BadRing, NoWork, Refused,
 use Rattle.rule_laws.specs.Fine.{fine-first, fine-later, kept-rule, kept-only, both-left}
 use Rattle.table_header.specs.Header.{Sized, fine-sized}
 use Rattle.stream_header.specs.Header.{stream-sound}
+use Rattle.promises.specs.LentBytes.{OfBytes, word-fits}
 use Rattle.promises.specs.Whole.{midst, Course, course-none, course-join, reading, after-table, entries-end, placed, after-stream, packets-end}
 
 -- ---- what was opened lies within memory
@@ -44,6 +46,8 @@ pub record Lies (m : List ℕ) (o : Opened) : Type 0 where
   pub few : o .table .count ≤ most
   pub reach : (i : ℕ) → i < o .table .count → in-reach m (o .table) i ≡ true
   pub stream : length (stream-bytes m (o .stream)) ≡ o .stream .size
+  -- the size is read from four bytes
+  pub short : OfBytes m → o .stream .size < 2 ^ 32
 
 -- a range of memory is as long as it says
 part-length : (m : List ℕ) (at n : ℕ) → at + n ≤ length m → length (take n (drop at m)) ≡ n
@@ -53,18 +57,18 @@ part-length m at n h = length-take-le n (drop at m) (omega (arith, length-drop a
 row-inside : (i n stride : ℕ) → i < n → entry-size ≤ stride → i * stride + entry-size ≤ n * stride
 row-inside i n stride h big = omega (arith, mul-le-mul-right stride h)
 
-module _ (m : List ℕ) (j : Job) (d : Descriptor) (stride : ℕ) (fine : submission-rules m stride d ≡ Fine) where
+module _ (m : List ℕ) (j : Job) (d : Descriptor) (stride : ℕ) (good : submission-rules m stride d ≡ Fine) where
   ranges-fine : range-rules (length m) d ≡ Fine
   unfolding submission-rules
-  ranges-fine = fine-first _ _ (fine-later (descriptor-rules stride d) _ fine)
+  ranges-fine = fine-first _ _ (fine-later (descriptor-rules stride d) _ good)
 
   header-fine : only (present (d .tablesize)) (header-rules (d .tablesize) (table-header m (d .table))) ≡ Fine
   unfolding submission-rules
-  header-fine = fine-first _ _ (fine-later (range-rules (length m) d) _ (fine-later (descriptor-rules stride d) _ fine))
+  header-fine = fine-first _ _ (fine-later (range-rules (length m) d) _ (fine-later (descriptor-rules stride d) _ good))
 
   stream-fine : only (present (d .cmdsize)) (stream-rules (d .cmdsize) (stream-header m (d .cmd))) ≡ Fine
   unfolding submission-rules
-  stream-fine = fine-later (only (present (d .tablesize)) (header-rules (d .tablesize) (table-header m (d .table)))) _ (fine-later (range-rules (length m) d) _ (fine-later (descriptor-rules stride d) _ fine))
+  stream-fine = fine-later (only (present (d .tablesize)) (header-rules (d .tablesize) (table-header m (d .table)))) _ (fine-later (range-rules (length m) d) _ (fine-later (descriptor-rules stride d) _ good))
 
   cmd-inside : present (d .cmdsize) ≡ true → d .cmd + d .cmdsize ≤ length m
   unfolding range-rules
@@ -100,12 +104,18 @@ module _ (m : List ℕ) (j : Job) (d : Descriptor) (stride : ℕ) (fine : submis
       part-length m (d .cmd) (stream-header m (d .cmd) .size) (omega (arith, cmd-inside p, stream-sound (d .cmdsize) (stream-header m (d .cmd)) (kept-only (present (d .cmdsize)) _ p stream-fine) .inside))
   stream-long false p = part-length m 0 0 (omega arith)
 
+  stream-short : (t : Bool) → OfBytes m → kept-stream t .size < 2 ^ 32
+  unfolding stream-header
+  stream-short true b = word-fits m (d .cmd + 8) b
+  stream-short false b = omega arith
+
   pub started-lies : Lies m (opened-of m j d)
   started-lies =
       record {
         few = table-few (present (d .tablesize)) refl;
         reach = table-reach (present (d .tablesize)) refl;
         stream = stream-long (present (d .cmdsize)) refl;
+        short = stream-short (present (d .cmdsize));
       }
 
 -- of whatever an opening gives, what was started lies within memory
@@ -157,9 +167,9 @@ submits-more n w w′ v g s c = record { ends = run-go go step n w g ∙ rw (s, 
     at (suc i) z h = rw (run-go go step i w g, s) (c .inside i (omega arith))
 
 -- the units after the opening, of entries and then of packets
-abbrev pub later-units : Verdict → ℕ → ℕ → ℕ
-later-units Fine entries packets = entries + packets
-later-units (Broken r) entries packets = entries
+abbrev pub later-units : Finding → ℕ → ℕ → ℕ
+later-units fine entries packets = entries + packets
+later-units (broken f) entries packets = entries
 
 module _ (w : World) (on : w .state .regs .enabled ≡ true) (o : Opened) (lies : Lies (w .mem) o) where
   abbrev pub all : List Entry
@@ -175,37 +185,37 @@ module _ (w : World) (on : w .state .regs .enabled ≡ true) (o : Opened) (lies 
   abbrev pub packets-judged : Reckoned
   packets-judged = judge-packets all first (packets-of (w .mem) (o .stream))
 
-  stream-is : (v : Verdict) (h : Holdings) → after-stream w on (o .job) (o .stream) all (lies .stream) v h ≡ finished w (o .job) all h v
-  stream-is Fine h = refl
-  stream-is (Broken r) h = refl
+  stream-is : (v : Finding) (h : Holdings) → after-stream w on (o .job) (o .stream) all (lies .stream) v h ≡ finished w (o .job) all h v
+  stream-is fine h = refl
+  stream-is (broken f) h = refl
 
-  by-table : (v : Verdict) (c : ℕ) (p : Reckoned) → Course c (reading w on o []) (after-table w on o v all)
-      → Course (p .count) (placed w on (o .job) (o .stream) all (lies .stream) stream-header-size first) (after-stream w on (o .job) (o .stream) all (lies .stream) (p .verdict) (p .held))
-      → Course (later-units v c (p .count)) (reading w on o []) (finished w (o .job) all (after-entries v c first p .held) (after-entries v c first p .verdict))
-  by-table Fine c p t q =
-      subst (λ (x : World). Course (c + p .count) (reading w on o []) x) (stream-is (p .verdict) (p .held)) (course-join c (p .count) _ _ _ t q)
-  by-table (Broken r) c p t q = t
+  by-table : (v : Finding) (c : ℕ) (p : Reckoned) → Course c (reading w on o []) (after-table w on o v all)
+      → Course (p .count) (placed w on (o .job) (o .stream) all (lies .stream) stream-header-size first) (after-stream w on (o .job) (o .stream) all (lies .stream) (p .finding) (p .held))
+      → Course (later-units v c (p .count)) (reading w on o []) (finished w (o .job) all (after-entries v c first p .held) (after-entries v c first p .finding))
+  by-table fine c p t q =
+      subst (λ (x : World). Course (c + p .count) (reading w on o []) x) (stream-is (p .finding) (p .held)) (course-join c (p .count) _ _ _ t q)
+  by-table (broken f) c p t q = t
 
   -- from the first entry on
-  pub course-started : Course (later-units (table-judged .verdict) (table-judged .count) (packets-judged .count)) (reading w on o [])
-      (finished w (o .job) all (submission (w .mem) o first .held) (submission (w .mem) o first .verdict))
+  pub course-started : Course (later-units (table-judged .finding) (table-judged .count) (packets-judged .count)) (reading w on o [])
+      (finished w (o .job) all (submission (w .mem) o first .held) (submission (w .mem) o first .finding))
   unfolding submission
   course-started =
-      by-table (table-judged .verdict) (table-judged .count) packets-judged (entries-end w on o (lies .reach) (o .table .count) 0 [] refl (omega arith))
+      by-table (table-judged .finding) (table-judged .count) packets-judged (entries-end w on o (lies .reach) (o .table .count) 0 [] refl (omega arith))
       (packets-end w on (o .job) (o .stream) all (lies .stream) (o .stream .size) stream-header-size first (omega arith))
 
   -- the opening's unit, and those
-  pub submission-units : submission (w .mem) o first .units ≡ suc (later-units (table-judged .verdict) (table-judged .count) (packets-judged .count))
+  pub submission-units : submission (w .mem) o first .units ≡ suc (later-units (table-judged .finding) (table-judged .count) (packets-judged .count))
   unfolding submission
-  submission-units = by-verdict (table-judged .verdict)
+  submission-units = by-finding (table-judged .finding)
     where
-      by-verdict : (v : Verdict) → after-entries v (table-judged .count) first packets-judged .units ≡ suc (later-units v (table-judged .count) (packets-judged .count))
-      by-verdict Fine = refl
-      by-verdict (Broken r) = refl
+      by-finding : (v : Finding) → after-entries v (table-judged .count) first packets-judged .units ≡ suc (later-units v (table-judged .count) (packets-judged .count))
+      by-finding fine = refl
+      by-finding (broken f) = refl
 
   whole-started : go w ≡ true → step w ≡ reading w on o [] → Submits w (concluding w (o .job) all (submission (w .mem) o first))
   whole-started g st =
-      subst (λ n. Submits w (record { state = finished w (o .job) all (submission (w .mem) o first .held) (submission (w .mem) o first .verdict); units = n })) (sym submission-units)
+      subst (λ n. Submits w (record { state = finished w (o .job) all (submission (w .mem) o first .held) (submission (w .mem) o first .finding); units = n })) (sym submission-units)
       (submits-more _ w (reading w on o []) _ g st course-started)
 
 whole-at : (w : World) (v : Opening) → w .state .regs .enabled ≡ true → go w ≡ true → LiesOn (w .mem) v → step w ≡ after-opening w v → Submits w (submitted-on w v)

@@ -1,26 +1,25 @@
 -- The table of a submission in work is its own: the one that its opening read, with each entry read and found good in the memory lent at
--- its unit, and all of them once packets are judged. Of any device that was made and called, whatever memories. Assumes nothing.
-use mathlib.Core.Path.{_≡_, refl, sym, subst, _∙_}
+-- its unit, and all of them once packets are judged; and so is its stream. Of any device that was made and called, whatever memories.
+-- Assumes nothing.
+use mathlib.Core.Path.{_≡_, refl, sym, subst}
 use mathlib.Core.Bool.{Bool, true, false}
 use mathlib.Core.List.{List, []}
 use Prim.Native.Nat.{ℕ, _≤_, _<_}
 use native.Mathlib.Omega.{arith}
-use borrow.Author.Tests.{eqb-true, ltb-true, ltb-false, not-false}
-use lib.Dec.{ltb, eqb}
+use borrow.Author.Tests.{ltb-true, ltb-false}
+use lib.Dec.{ltb}
 use lib.ListN.{length, length-append}
 use Rattle.machine.specs.Machine.{pick}
 use Rattle.rules.specs.Numbers.{bad-entry}
 use Rattle.rules.specs.Lists.{pushed}
 use Rattle.rules.specs.Judging.{refusal}
-use Rattle.rules.specs.Layouts.{entry}
+use Rattle.rules.specs.Layouts.{entry, stream-header-size}
 use Rattle.rules.specs.Table.{Taken, entry-place, entry-rules, keep, in-reach, take-entry}
 use Rattle.rules.specs.Ring.{opening-of}
 use Rattle.rules.specs.Packets.{Holdings, at-first}
 use Rattle.rules.specs.State.{Work, State, World}
 use Rattle.rules.specs.State.Work.{resting, entries, packets, waiting}
-use Rattle.rules.specs.Registers.{reset}
-use Rattle.rules.specs.Settle.{ended-by, settled}
-use Rattle.rules.specs.Steps.{packets-at, entries-at, answered}
+use Rattle.rules.specs.Steps.{packets-at, entries-at}
 use Rattle.rules.specs.declared.Entry.{Entry}
 use Rattle.rules.specs.declared.Job.{Job}
 use Rattle.rules.specs.declared.Opened.{Opened}
@@ -30,15 +29,9 @@ use Rattle.rules.specs.declared.Table.{Table}
 use Rattle.rules.specs.declared.Verdict.{Verdict}
 use Rattle.rules.specs.declared.Verdict.the-variants.{Fine, Broken}
 use Rattle.rules.specs.declared.Opening.the-variants.{Started}
-use Rattle.settle.specs.Only.{marked-length}
-use Rattle.promises.specs.Fences.{good-settles, failed-settles}
-use Rattle.promises.specs.Called.{Call, after, Called}
-use Rattle.promises.specs.Called.Called.{makes, calls}
-use Rattle.promises.specs.Units.{Next, Unit}
-use Rattle.promises.specs.Units.Unit.{works-on, finds-bad-ring, finds-no-work, settles}
-use Rattle.promises.specs.Events.{Event, Units, Happens, call-has-events}
-use Rattle.promises.specs.Events.Units.{stop, one}
-use Rattle.promises.specs.Events.Happens.{refused-write, refused-run, refused-answer, asks-register, asks-record, changes-registers, resets-all, spends, settles-answered}
+use Rattle.promises.specs.Called.{Called}
+use Rattle.promises.specs.Units.{Next}
+use Rattle.promises.specs.Kept.{AnyMemory, lent-any, KeptByUnits, called-keeps}
 
 -- the table's entry after those that were kept, as it stands in some memory
 abbrev pub next-entry : List ℕ → Table → List Entry → Entry
@@ -86,30 +79,38 @@ pub record WholeTable (n : ℕ) (j : Job) (es : List Entry) : Type 0 where
   pub taken : TakenFrom n (what .table) es
   pub all : length es ≡ what .table .count
 
+-- and the stream is the one that this opening read, with the packet in work past its header
+pub record OwnStream (n : ℕ) (j : Job) (t : Stream) (at : ℕ) (es : List Entry) : Type 0 where
+  pub table : WholeTable n j es
+  pub its-stream : table .what .stream ≡ t
+  pub past-header : stream-header-size ≤ at
+  pub in-stream : at < t .size
+
 -- of each phase
 abbrev pub OwnTable : ℕ → Work → Type 0
 OwnTable n resting = 0 ≤ 0
 OwnTable n (entries o kept) = StartedOnce n o × TakenFrom n (o .table) kept × (length kept < o .table .count)
-OwnTable n (packets j s at es h) = WholeTable n j es
+OwnTable n (packets j t at es h) = OwnStream n j t at es
 OwnTable n (waiting j es h) = WholeTable n j es
 
 -- ---- kept by a unit
 
-packets-own : (n : ℕ) (j : Job) (s : Stream) (at : ℕ) (es : List Entry) (h : Holdings) → WholeTable n j es → OwnTable n (packets-at j s at es h)
-packets-own n j s at es h t = by-test (ltb at (s .size))
+packets-own : (n : ℕ) (j : Job) (t : Stream) (at : ℕ) (es : List Entry) (h : Holdings) → (own : WholeTable n j es) → own .what .stream ≡ t → stream-header-size ≤ at
+    → OwnTable n (packets-at j t at es h)
+packets-own n j t at es h own its past = by-test (ltb at (t .size)) refl
   where
-    by-test : (b : Bool) → OwnTable n (pick b (packets j s at es h) (waiting j es h))
-    by-test true = t
-    by-test false = t
+    by-test : (b : Bool) → ltb at (t .size) ≡ b → OwnTable n (pick b (packets j t at es h) (waiting j es h))
+    by-test true e = record { table = own; its-stream = its; past-header = past; in-stream = ltb-true at (t .size) e }
+    by-test false e = own
 
 entries-own : (n : ℕ) (o : Opened) (kept : List Entry) (rs : List Resource) → StartedOnce n o → TakenFrom n (o .table) kept → length kept ≤ o .table .count → OwnTable n (entries-at o kept rs)
 entries-own n o kept rs a t l = by-test (ltb (length kept) (o .table .count)) refl
   where
-    by-test : (b : Bool) → ltb (length kept) (o .table .count) ≡ b → OwnTable n (pick b (entries o kept) (packets-at (o .job) (o .stream) 24 kept (at-first rs)))
+    by-test : (b : Bool) → ltb (length kept) (o .table .count) ≡ b → OwnTable n (pick b (entries o kept) (packets-at (o .job) (o .stream) stream-header-size kept (at-first rs)))
     by-test true e = (a, t, ltb-true (length kept) (o .table .count) e)
     by-test false e =
-        packets-own n (o .job) (o .stream) 24 kept (at-first rs)
-        (record { what = o; opened = a; its-job = refl; taken = t; all = omega (arith, ltb-false (length kept) (o .table .count) e) })
+        packets-own n (o .job) (o .stream) stream-header-size kept (at-first rs)
+        (record { what = o; opened = a; its-job = refl; taken = t; all = omega (arith, ltb-false (length kept) (o .table .count) e) }) refl (omega arith)
 
 module _ (w : World) (n : ℕ) (lent : length (w .mem) ≡ n) where
   next-own : (k next : Work) → Next w k next → OwnTable n k → OwnTable n next
@@ -123,57 +124,20 @@ module _ (w : World) (n : ℕ) (lent : length (w .mem) ≡ n) where
       subst (OwnTable n) (sym (h .1))
       (subst (λ es. OwnTable n (entries-at o es (w .state .resources))) (sym (good .0))
       (entries-own n o (pushed kept x) (w .state .resources) (own .0) more (simp length-append (omega (arith, own .2)))))
-  next-own (packets j s at es held) next h own = subst (OwnTable n) (sym (h .1)) (packets-own n j s _ es _ own)
+  next-own (packets j t at es held) next h own =
+      subst (OwnTable n) (sym (h .1)) (packets-own n j t _ es _ (own .table) (own .its-stream) (omega (arith, own .past-header)))
   next-own (waiting j es held) next h own = subst (OwnTable n) (sym h) own
 
--- memory of the device's own length is lent
-abbrev Lent : World → Type 0
-Lent w = length (w .mem) ≡ w .state .memory
+-- ---- and so by every call
 
-abbrev Owns : State → Type 0
-Owns s = OwnTable (s .memory) (s .work)
-
-unit-lent : (w w′ : World) → Unit w w′ → Lent w → Lent w′
-unfolding settled
-unit-lent w w′ (works-on next h) l = l
-unit-lent w w′ (finds-bad-ring e h) l = l
-unit-lent w w′ (finds-no-work e h) l = l
-unit-lent w w′ (settles j r h) l = marked-length j (ended-by j (Broken r) (w .state .regs)) (w .mem) ∙ l
-
-unit-own : (w w′ : World) → Unit w w′ → Lent w → Owns (w .state) → Owns (w′ .state)
-unfolding settled
-unit-own w w′ (works-on next h) l own = next-own w (w .state .memory) l (w .state .work) next h own
-unit-own w w′ (finds-bad-ring e h) l own = own
-unit-own w w′ (finds-no-work e h) l own = own
-unit-own w w′ (settles j r h) l own = omega arith
-
-units-own : (w : World) (es : List Event) (w′ : World) → Units w es w′ → Lent w → Owns (w .state) → Owns (w′ .state)
-units-own w es w′ stop l own = own
-units-own w es w′ (one {w′ = v} {es = fs} g u q) l own = units-own v fs w′ q (unit-lent w v u l) (unit-own w v u l own)
-
--- ---- and by every call
-
-answer-own : (good : Bool) (w : World) (j : Job) (es : List Entry) (h : Holdings) → w .state .work ≡ waiting j es h → Owns (answered good w .state)
-unfolding settled
-answer-own true w j es h e = rw (good-settles w j es h e) (omega arith)
-answer-own false w j es h e = rw (failed-settles w j es h e) (omega arith)
-
-call-own : (w : World) (c : Call) (es : List Event) (w′ : World) → Happens w c es w′ → Owns (w .state) → Owns (w′ .state)
-unfolding reset
-call-own w c es w′ (refused-write offset v h) own = own
-call-own w c es w′ (refused-run n h) own = own
-call-own w c es w′ (refused-answer good h) own = own
-call-own w c es w′ (asks-register offset) own = own
-call-own w c es w′ (asks-record i) own = own
-call-own w c es w′ (changes-registers offset v r n q d e) own = own
-call-own w c es w′ (resets-all offset v h q) own = omega arith
-call-own w c es w′ (spends n e u) own =
-    units-own w es w′ u (eqb-true (length (w .mem)) (w .state .memory) (not-false (eqb (length (w .mem)) (w .state .memory)) e)) own
-call-own w c es w′ (settles-answered good j table h l e) own = answer-own good w j table h e
+own-table-kept : KeptByUnits AnyMemory OwnTable
+own-table-kept =
+    record {
+      rests = λ n. omega arith;
+      works-on = λ w l d k next h own. next-own w (w .state .memory) l k next h own;
+      marks = λ j r m d. d;
+    }
 
 -- of any device that was made and called
 pub called-has-its-own-table : (s : State) → Called s → OwnTable (s .memory) (s .work)
-called-has-its-own-table s (makes memory) = omega arith
-called-has-its-own-table s (calls {s = t} c m k) =
-    let happened : (es : List Event) × Happens (record { state = t; mem = m }) c es (after c (record { state = t; mem = m })) = call-has-events c (record { state = t; mem = m }) in
-    call-own (record { state = t; mem = m }) c (happened .0) (after c (record { state = t; mem = m })) (happened .1) (called-has-its-own-table t k)
+called-has-its-own-table s k = called-keeps own-table-kept s k (lent-any s k)

@@ -10,6 +10,8 @@ use lib.Dec.{ltb}
 use lib.ListN.{length, take, drop, length-append, length-drop}
 use Rattle.machine.specs.Machine.{Out, spent, run-none, run-go, sliced}
 use Rattle.rules.specs.Lists.{pushed}
+use Rattle.rules.specs.Judging.{Finding, at-place}
+use Rattle.rules.specs.Judging.Finding.{fine, broken}
 use Rattle.rules.specs.Layouts.{entry, stream-header-size}
 use Rattle.rules.specs.Table.{Judged, entry-place, entry-rules, keep, in-reach, take-entry, entries-from, stop-or-go, judge-entries}
 use Rattle.rules.specs.Stream.{frame-of, packet-of, size-of, before, cut, stream-bytes}
@@ -81,9 +83,9 @@ module _ (w : World) (on : w .state .regs .enabled ≡ true) (o : Opened) where
   reading kept = working (entries-at o kept (w .state .resources)) w
 
   -- what the table's judgement comes to
-  abbrev pub after-table : Verdict → List Entry → World
-  after-table Fine all = working (packets-at (o .job) (o .stream) stream-header-size all (at-first (w .state .resources))) w
-  after-table (Broken r) all = settled-keeping (o .job) (Broken r) w
+  abbrev pub after-table : Finding → List Entry → World
+  after-table fine all = working (packets-at (o .job) (o .stream) stream-header-size all (at-first (w .state .resources))) w
+  after-table (broken f) all = settled-keeping (o .job) (broken f) w
 
   -- the entry after those that were kept
   abbrev pub next : List Entry → Entry
@@ -94,10 +96,10 @@ module _ (w : World) (on : w .state .regs .enabled ≡ true) (o : Opened) where
   word-on kept = entry-rules (length (w .mem)) kept (next kept)
 
   -- what an entry comes to does not look at the work before it
-  after-entry-on : (k : Work) (kept : List Entry) (v : Verdict) → after-entry (working k w) o kept v ≡ after-entry w o kept v
+  after-entry-on : (k : Work) (kept : List Entry) (v : Finding) → after-entry (working k w) o kept v ≡ after-entry w o kept v
   unfolding settled
-  after-entry-on k kept Fine = refl
-  after-entry-on k kept (Broken r) = refl
+  after-entry-on k kept fine = refl
+  after-entry-on k kept (broken f) = refl
 
   module _ (reach : (i : ℕ) → i < o .table .count → in-reach (w .mem) (o .table) i ≡ true) where
     module _ (kept : List Entry) (more : length kept < o .table .count) where
@@ -108,24 +110,24 @@ module _ (w : World) (on : w .state .regs .enabled ≡ true) (o : Opened) where
       midst-entry : midst (reading kept .state .work) ≡ true
       midst-entry = rw (lt-ltb (length kept) (o .table .count) more)
 
-      step-entry : step (reading kept) ≡ after-entry w o (keep (word-on kept) kept (next kept) .kept) (keep (word-on kept) kept (next kept) .verdict)
+      step-entry : step (reading kept) ≡ after-entry w o (keep (word-on kept) kept (next kept) .kept) (at-place (length kept) (keep (word-on kept) kept (next kept) .verdict))
       unfolding step entry-step take-entry
       step-entry =
           rw (lt-ltb (length kept) (o .table .count) more, reach (length kept) more)
-          (after-entry-on (entries o kept) (keep (word-on kept) kept (next kept) .kept) (keep (word-on kept) kept (next kept) .verdict))
+          (after-entry-on (entries o kept) (keep (word-on kept) kept (next kept) .kept) (at-place (length kept) (keep (word-on kept) kept (next kept) .verdict)))
 
-      at-entry : (v : Verdict) (es : List Entry) (j : Judged) → step (reading kept) ≡ after-entry w o (keep v kept (next kept) .kept) (keep v kept (next kept) .verdict)
-          → Course (j .count) (reading (pushed kept (next kept))) (after-table (j .verdict) (pushed kept (next kept) ++ es))
-          → Course (stop-or-go v j .count) (reading kept) (after-table (stop-or-go v j .verdict) (kept ++ (next kept ∷ es)))
+      at-entry : (v : Verdict) (es : List Entry) (j : Judged) → step (reading kept) ≡ after-entry w o (keep v kept (next kept) .kept) (at-place (length kept) (keep v kept (next kept) .verdict))
+          → Course (j .count) (reading (pushed kept (next kept))) (after-table (j .finding) (pushed kept (next kept) ++ es))
+          → Course (stop-or-go (length kept) v j .count) (reading kept) (after-table (stop-or-go (length kept) v j .finding) (kept ++ (next kept ∷ es)))
       at-entry Fine es j st ih =
           course-more (j .count) (reading kept) (reading (pushed kept (next kept))) _ go-entry st midst-entry
-          (subst (λ (l : List Entry). Course (j .count) (reading (pushed kept (next kept))) (after-table (j .verdict) l)) (append-assoc kept (next kept ∷ []) es) ih)
+          (subst (λ (l : List Entry). Course (j .count) (reading (pushed kept (next kept))) (after-table (j .finding) l)) (append-assoc kept (next kept ∷ []) es) ih)
       at-entry (Broken r) es j st ih = course-last (reading kept) _ go-entry st midst-entry
 
     -- from the entries kept so far, n being left
     pub entries-end : (n i : ℕ) (kept : List Entry) → i ≡ length kept → i + n ≡ o .table .count
         → Course (judge-entries (length (w .mem)) kept (entries-from (w .mem) (o .table) i n) .count) (reading kept)
-        (after-table (judge-entries (length (w .mem)) kept (entries-from (w .mem) (o .table) i n) .verdict) (kept ++ entries-from (w .mem) (o .table) i n))
+        (after-table (judge-entries (length (w .mem)) kept (entries-from (w .mem) (o .table) i n) .finding) (kept ++ entries-from (w .mem) (o .table) i n))
     unfolding judge-entries entries-from
     entries-end zero i kept e h = rw (le-ltb (length kept) (o .table .count) (omega arith), append-nil) (course-none _)
     entries-end (suc n) i kept e h =
@@ -145,19 +147,19 @@ module _ (w : World) (on : w .state .regs .enabled ≡ true) (j : Job) (s : Stre
   placed at h = working (packets-at j s at es h) w
 
   -- what the packets' judgement comes to
-  abbrev pub after-stream : Verdict → Holdings → World
-  after-stream Fine h = working (waiting j es h) w
-  after-stream (Broken r) h = settled-keeping j (Broken r) w
+  abbrev pub after-stream : Finding → Holdings → World
+  after-stream fine h = working (waiting j es h) w
+  after-stream (broken f) h = settled-keeping j (broken f) w
 
-  -- from a place in the stream, the units are the reckoning's count and the end is its verdict's
+  -- from a place in the stream, the units are the reckoning's count and the end is its finding's
   abbrev pub Reckons : ℕ → Holdings → Reckoned → Type 0
-  Reckons at h q = Course (q .count) (placed at h) (after-stream (q .verdict) (q .held))
+  Reckons at h q = Course (q .count) (placed at h) (after-stream (q .finding) (q .held))
 
   -- what a packet comes to does not look at the work before it
-  after-packet-on : (k : Work) (next : ℕ) (h : Holdings) (v : Verdict) → after-packet (working k w) j s next es h v ≡ after-packet w j s next es h v
+  after-packet-on : (k : Work) (next : ℕ) (h : Holdings) (v : Finding) → after-packet (working k w) j s next es h v ≡ after-packet w j s next es h v
   unfolding settled
-  after-packet-on k next h Fine = refl
-  after-packet-on k next h (Broken r) = refl
+  after-packet-on k next h fine = refl
+  after-packet-on k next h (broken f) = refl
 
   module _ (at : ℕ) (h : Holdings) (more : at < s .size) where
     go-packet : go (placed at h) ≡ true
@@ -167,50 +169,50 @@ module _ (w : World) (on : w .state .regs .enabled ≡ true) (j : Job) (s : Stre
     midst-packet : midst (placed at h .state .work) ≡ true
     midst-packet = rw (lt-ltb at (s .size) more)
 
-    step-packet : step (placed at h) ≡ after-packet w j s (next-place at (drop at bytes)) es (take-packet es h (drop at bytes) .held) (take-packet es h (drop at bytes) .verdict)
+    step-packet : step (placed at h) ≡ after-packet w j s (next-place at (drop at bytes)) es (take-packet es h (drop at bytes) .held) (at-place at (take-packet es h (drop at bytes) .verdict))
     unfolding step packet-step
     step-packet =
         rw (lt-ltb at (s .size) more)
-        (after-packet-on (packets j s at es h) (next-place at (drop at bytes)) (take-packet es h (drop at bytes) .held) (take-packet es h (drop at bytes) .verdict))
+        (after-packet-on (packets j s at es h) (next-place at (drop at bytes)) (take-packet es h (drop at bytes) .held) (at-place at (take-packet es h (drop at bytes) .verdict)))
 
-    step-as-frame : step (placed at h) ≡ after-packet w j s (at + size-of (frame-of (drop at bytes))) es (apply-frame es h (drop at bytes) (frame-of (drop at bytes)) .held) (apply-frame es h (drop at bytes) (frame-of (drop at bytes)) .verdict)
+    step-as-frame : step (placed at h) ≡ after-packet w j s (at + size-of (frame-of (drop at bytes))) es (apply-frame es h (drop at bytes) (frame-of (drop at bytes)) .held) (at-place at (apply-frame es h (drop at bytes) (frame-of (drop at bytes)) .verdict))
     unfolding take-packet
     step-as-frame = step-packet
 
-    at-applied : (v : Verdict) (size : ℕ) (held : Holdings) (q : Reckoned) → step (placed at h) ≡ after-packet w j s (at + size) es held v
-        → Course (q .count) (placed (at + size) held) (after-stream (q .verdict) (q .held))
-        → Course (one-further v h q .count) (placed at h) (after-stream (one-further v h q .verdict) (one-further v h q .held))
+    at-applied : (v : Verdict) (size : ℕ) (held : Holdings) (q : Reckoned) → step (placed at h) ≡ after-packet w j s (at + size) es held (at-place at v)
+        → Course (q .count) (placed (at + size) held) (after-stream (q .finding) (q .held))
+        → Course (one-further at v h q .count) (placed at h) (after-stream (one-further at v h q .finding) (one-further at v h q .held))
     at-applied Fine size held q st ih = course-more (q .count) (placed at h) (placed (at + size) held) _ go-packet st midst-packet ih
     at-applied (Broken r) size held q st ih = course-last (placed at h) _ go-packet st midst-packet
 
     at-frame : (k : ℕ) (f : Frame) → ((op size : ℕ) → f ≡ Whole op size → FrameFits (drop at bytes) op size)
-        → step (placed at h) ≡ after-packet w j s (at + size-of f) es (apply-frame es h (drop at bytes) f .held) (apply-frame es h (drop at bytes) f .verdict)
-        → ((n : ℕ) (g : Holdings) → at < n → n ≤ s .size → Reckons n g (judge-packets es g (cut k (drop n bytes))))
-        → Reckons at h (judge-packets es h (before f (drop at bytes) (cut k (drop (at + size-of f) bytes))))
+        → step (placed at h) ≡ after-packet w j s (at + size-of f) es (apply-frame es h (drop at bytes) f .held) (at-place at (apply-frame es h (drop at bytes) f .verdict))
+        → ((n : ℕ) (g : Holdings) → at < n → n ≤ s .size → Reckons n g (judge-packets es g (cut k n (drop n bytes))))
+        → Reckons at h (judge-packets es h (before at f (drop at bytes) (cut k (at + size-of f) (drop (at + size-of f) bytes))))
     unfolding judge-packets
     at-frame k (Whole op size) d st ih =
         let room : length (drop at bytes) ≡ s .size - at = length-drop at bytes ∙ rw len in
         let some : 8 ≤ size = d op size refl .header in
         let fits : size ≤ length (drop at bytes) = d op size refl .inside in
         at-applied (apply es h (packet-of op (take size (drop at bytes))) .verdict) size (apply es h (packet-of op (take size (drop at bytes))) .held)
-        (judge-packets es (apply es h (packet-of op (take size (drop at bytes))) .held) (cut k (drop (at + size) bytes))) st
+        (judge-packets es (apply es h (packet-of op (take size (drop at bytes))) .held) (cut k (at + size) (drop (at + size) bytes))) st
         (ih (at + size) (apply es h (packet-of op (take size (drop at bytes))) .held) (omega arith) (omega arith))
     at-frame k (Misframed r) d st ih = course-last (placed at h) _ go-packet st midst-packet
 
-  packets-none : (k at : ℕ) (h : Holdings) → s .size ≤ at → Reckons at h (judge-packets es h (cut k (drop at bytes)))
+  packets-none : (k at : ℕ) (h : Holdings) → s .size ≤ at → Reckons at h (judge-packets es h (cut k at (drop at bytes)))
   unfolding judge-packets
   packets-none k at h p =
       let gone : length bytes ≤ at = rw len p in
       rw (cut-none k bytes at gone, le-ltb at (s .size) p) (course-none _)
 
   -- from a place in the stream, k bounding what is left
-  pub packets-end : (k at : ℕ) (h : Holdings) → s .size - at ≤ k → Reckons at h (judge-packets es h (cut k (drop at bytes)))
+  pub packets-end : (k at : ℕ) (h : Holdings) → s .size - at ≤ k → Reckons at h (judge-packets es h (cut k at (drop at bytes)))
   packets-end zero at h f = packets-none zero at h (omega arith)
   packets-end (suc k) at h f = by-test (ltb at (s .size)) refl (λ n g p q. packets-end k n g (omega arith))
     where
       by-test : (t : Bool) → ltb at (s .size) ≡ t
-          → ((n : ℕ) (g : Holdings) → at < n → n ≤ s .size → Reckons n g (judge-packets es g (cut k (drop n bytes))))
-          → Reckons at h (judge-packets es h (cut (suc k) (drop at bytes)))
+          → ((n : ℕ) (g : Holdings) → at < n → n ≤ s .size → Reckons n g (judge-packets es g (cut k n (drop n bytes))))
+          → Reckons at h (judge-packets es h (cut (suc k) at (drop at bytes)))
       by-test true t ih =
           let more : at < s .size = ltb-true at (s .size) t in
           let some : at < length bytes = rw len more in

@@ -1,35 +1,35 @@
 -- No theorem is vacuous: one small guest with a ring, a table and a stream, whose submission is accepted with a record, the same with its
--- entry twice in the table, which is refused with 15, and its packet with bytes appended. Assumes nothing.
+-- entry twice in the table, which is refused with 15 at entry 1, with none, which is refused at its packet, and its packet with bytes
+-- appended. Assumes nothing.
 use mathlib.Core.Path.{_≡_, refl, sym, ap, subst, _∙_}
 use mathlib.Core.Bool.{true, false}
 use mathlib.Core.List.{List, [], _∷_, _++_}
 use Prim.Native.Nat.{ℕ, zero, suc, _+_, _*_, _≤_}
 use lib.ListN.{take, drop}
 use Rattle.machine.specs.Machine.{runFor}
-use Rattle.rules.specs.Numbers.{ring-magic, table-magic, stream-magic, version, create-buffer}
+use Rattle.rules.specs.Numbers.{ring-magic, table-magic, stream-magic, version, create-buffer, destroy}
 use Rattle.rules.specs.Bytes.{le, bytesOf}
 use Rattle.rules.specs.Lists.{over, nth, lookup}
-use Rattle.rules.specs.Judging.{refusal}
-use Rattle.rules.specs.Layouts.{word, long, ring-header, descriptor, table-header, entry, stream-header, buffer-fields, page-bytes}
+use Rattle.rules.specs.Judging.Finding.{fine, broken}
+use Rattle.rules.specs.Layouts.{word, long, ring-header, descriptor, table-header, entry, stream-header, buffer-fields, destroy-fields, page-bytes}
 use Rattle.rules.specs.Headers.{wrong-header}
 use Rattle.rules.specs.Table.{header-rules, entry-id, entry-rules, take-entry, entries-from, entries-of, judge-entries}
 use Rattle.rules.specs.Stream.{known, stream-rules, least-size, frame-rules, frame-of, packet-of, cut, packets-of}
 use Rattle.rules.specs.Ring.{descriptor-rules, range-rules, submission-rules, submission-opening, power-of-two, good-header, good-ring, ring-opening, opening-of}
-use Rattle.rules.specs.Packets.{Holdings, at-first, create-backed, create, on-buffer-packet, apply, take-packet}
+use Rattle.rules.specs.Packets.{Holdings, at-first, create-backed, create, on-buffer-packet, on-destroy-packet, apply, take-packet}
 use Rattle.rules.specs.State.{World, made, with-regs, registers-of, no-error, working, registering}
 use Rattle.rules.specs.State.Work.{waiting}
 use Rattle.rules.specs.Settle.{faulted, signalled, ended-by, written, head-written, page-written, marked, settled, settled-keeping}
-use Rattle.rules.specs.Registers.{controlled, write-of}
+use Rattle.rules.specs.Registers.{controlled, write-of, register}
 use Rattle.rules.specs.Steps.{entries-at, open-step, entry-step, packet-step, step, go}
 use Rattle.rules.specs.Unsliced.{Submission, judge-packets, submission, finished, submitted}
-use Rattle.rules.specs.Calls.{call-write, call-run, call-record}
+use Rattle.rules.specs.Calls.{call-write, call-read, call-run, call-record}
 use Rattle.rules.specs.declared.Entry.{Entry}
 use Rattle.rules.specs.declared.Kind.the-variants.{Buffer}
 use Rattle.rules.specs.declared.Record.{Record}
 use Rattle.rules.specs.declared.Registers.{Registers}
 use Rattle.rules.specs.declared.Stream.{Stream}
 use Rattle.rules.specs.declared.Opened.{Opened}
-use Rattle.rules.specs.declared.Verdict.the-variants.{Fine, Broken}
 use Rattle.rules.specs.declared.Opening.the-variants.{Started}
 use Rattle.rows.specs.Keys.{Once}
 use Rattle.packet_apply.specs.Held.{Every, Inside}
@@ -126,21 +126,23 @@ rewritten = registers-of 4096 128 true 32 0 false false 0 no-error true
 pub record TwoGuests : Type 0 where
   -- with one entry: opened, judged fine after 3 units, and so it waits with one resource and one record
   pub one-starts : opening-of (guest 1) 0 128 ≡ Started (begun 1)
-  pub one-is-fine : submission (guest 1) (begun 1) (at-first []) ≡ record { verdict = Fine; held = held; units = 3 }
+  pub one-is-fine : submission (guest 1) (begun 1) (at-first []) ≡ record { finding = fine; held = held; units = 3 }
   pub accepted : submitted (asking 1) ≡ record { state = awaiting; units = 3 }
   pub handed-out : call-record (awaiting .state) 0 ≡ record { answer = 0; range = record { kind = 1; handle = 1; id = 5; gpa = 80; length = 32 } }
   -- with the same entry twice: opened, and refused with 15 after 3 units: error, fence and head are settled
   pub two-start : opening-of (guest 2) 0 128 ≡ Started (begun 2)
-  pub two-are-refused : submission (guest 2) (begun 2) (at-first []) ≡ record { verdict = Broken (refusal 15); held = at-first []; units = 3 }
+  pub two-are-refused : submission (guest 2) (begun 2) (at-first []) ≡ record { finding = broken (record { code = 15; place = 1 }); held = at-first []; units = 3 }
   pub refused : submitted (asking 2) .units ≡ 3
-  pub refused-registers : submitted (asking 2) .state .state .regs ≡ registers-of 0 128 true 0 7 true true 0 (record { code = 15; fence = 7; count = 1 }) true
+  pub refused-registers : submitted (asking 2) .state .state .regs ≡ registers-of 0 128 true 0 7 true true 0 (record { code = 15; fence = 7; count = 1; detail = 1 }) true
   pub refused-head : word (submitted (asking 2) .state .mem) 24 ≡ 1
+  -- the detail is read at 320: the second entry, counted from 0
+  pub refused-detail : call-read (submitted (asking 2) .state .state) 0x320 ≡ record { answer = 0; value = 1 }
   -- the same by calls, with doorbell writes between the units
   pub ringing-accepted : after-all ringing (asking 1) ≡ awaiting
   pub ringing-refused : after-all ringing (asking 2) ≡ submitted (asking 2) .state
   pub ringing-units : (units-of-all ringing (asking 1) ≡ 3) × (units-of-all ringing (asking 2) ≡ 3)
   -- and with registers that matter written: the head goes to the ring that was opened, the fence to the page as it stands at the end
-  pub rewriting-refused : after-all rewriting (asking 2) ≡ settled-keeping (begun 2 .job) (Broken (refusal 15)) (registering rewritten (asking 2))
+  pub rewriting-refused : after-all rewriting (asking 2) ≡ settled-keeping (begun 2 .job) (broken (record { code = 15; place = 1 })) (registering rewritten (asking 2))
   pub rewriting-head : word (after-all rewriting (asking 2) .mem) 24 ≡ 1
   pub rewriting-page : long (after-all rewriting (asking 2) .mem) 40 ≡ 7
   -- and by one run
@@ -148,7 +150,7 @@ pub record TwoGuests : Type 0 where
   pub by-units : over-moving (guest 1 ∷ guest 1 ∷ guest 1 ∷ []) (asking 1 .state) ≡ awaiting .state
 
 pub two-guests : TwoGuests
-unfolding zeros in-bytes ring-words slot-words table-words entry-words stream-words guest asking begun held the-entry awaiting ringing rewriting rewritten le bytesOf over lookup nth ring-header descriptor table-header entry stream-header buffer-fields page-bytes power-of-two good-header good-ring ring-opening opening-of descriptor-rules range-rules submission-rules submission-opening wrong-header header-rules stream-rules entry-rules take-entry entries-from judge-entries known least-size frame-rules frame-of packet-of cut apply take-packet on-buffer-packet create create-backed judge-packets submission submitted faulted signalled ended-by written head-written page-written marked settled write-of open-step entry-step packet-step step go runFor call-write call-run call-record after after-all units-of units-of-all over-moving
+unfolding zeros in-bytes ring-words slot-words table-words entry-words stream-words guest asking begun held the-entry awaiting ringing rewriting rewritten le bytesOf over lookup nth ring-header descriptor table-header entry stream-header buffer-fields page-bytes power-of-two good-header good-ring ring-opening opening-of descriptor-rules range-rules submission-rules submission-opening wrong-header header-rules stream-rules entry-rules take-entry entries-from judge-entries known least-size frame-rules frame-of packet-of cut apply take-packet on-buffer-packet create create-backed judge-packets submission submitted faulted signalled ended-by written head-written page-written marked settled write-of open-step entry-step packet-step step go runFor call-write call-read register call-run call-record after after-all units-of units-of-all over-moving
 two-guests =
     record {
       one-starts = refl;
@@ -160,6 +162,7 @@ two-guests =
       refused = refl;
       refused-registers = refl;
       refused-head = refl;
+      refused-detail = refl;
       ringing-accepted = refl;
       ringing-refused = refl;
       ringing-units = (refl, refl);
@@ -169,6 +172,20 @@ two-guests =
       run-accepted = refl;
       by-units = refl;
     }
+
+-- ---- and where it broke, of two more: with no entry its packet is refused, with 65 its opening
+
+pub record TwoMore : Type 0 where
+  -- the packet's offset in the stream: the first stands behind the header
+  pub none-starts : opening-of (guest 0) 0 128 ≡ Started (begun 0)
+  pub none-is-refused : submission (guest 0) (begun 0) (at-first []) ≡ record { finding = broken (record { code = 21; place = 24 }); held = at-first []; units = 2 }
+  pub none-detail : call-read (submitted (asking 0) .state .state) 0x320 ≡ record { answer = 0; value = 24 }
+  -- 19 of the table's count has no place
+  pub many-are-refused : submitted (asking 65) .state .state .regs .error ≡ record { code = 19; fence = 7; count = 1; detail = 0 }
+
+pub two-more : TwoMore
+unfolding zeros in-bytes ring-words slot-words table-words entry-words stream-words guest asking begun le bytesOf over lookup ring-header descriptor table-header stream-header buffer-fields power-of-two good-header good-ring ring-opening opening-of descriptor-rules range-rules submission-rules submission-opening wrong-header header-rules stream-rules entries-from judge-entries known least-size frame-rules frame-of packet-of cut apply on-buffer-packet create create-backed judge-packets submission submitted faulted signalled ended-by written head-written page-written marked settled register call-read
+two-more = record { none-starts = refl; none-is-refused = refl; none-detail = refl; many-are-refused = refl }
 
 -- ---- so the theorems speak of them
 
@@ -204,19 +221,19 @@ its-record-lies-in-memory = waiting-ranges-in-memory (awaiting .state) (begun 1 
 module _ (r q : Registers) (on : q .enabled ≡ true) where
   under-registers : (n : ℕ) (s : Submission) → opening-of (guest n) 0 128 ≡ Started (begun n) → submission (guest n) (begun n) (at-first []) ≡ s → s .units ≡ 3
       → under (r ∷ []) q (working (entries-at (begun n) [] []) (asking n))
-      ≡ finished (registering q (asking n)) (begun n .job) (entries-of (guest n) (begun n .table)) (s .held) (s .verdict)
+      ≡ finished (registering q (asking n)) (begun n .job) (entries-of (guest n) (begun n .table)) (s .held) (s .finding)
   unfolding asking
   under-registers n s starts judged three =
       writes-between-units (asking n) (begun n) (subst (LiesOn (guest n)) starts (opening-lies (guest n) 0 128)) (r ∷ []) q on
       (sym (ap (λ (x : Submission). x .units) judged ∙ three))
-      ∙ ap (λ (x : Submission). finished (registering q (asking n)) (begun n .job) (entries-of (guest n) (begun n .table)) (x .held) (x .verdict)) judged
+      ∙ ap (λ (x : Submission). finished (registering q (asking n)) (begun n .job) (entries-of (guest n) (begun n .table)) (x .held) (x .finding)) judged
 
   pub any-registers-accepted : under (r ∷ []) q (working (entries-at (begun 1) [] []) (asking 1)) ≡ registering q awaiting
   unfolding awaiting the-entry begun guest in-bytes ring-words slot-words table-words entry-words stream-words zeros le bytesOf entry entries-from
   any-registers-accepted = under-registers 1 _ (two-guests .one-starts) (two-guests .one-is-fine) refl
 
   pub any-registers-refused : under (r ∷ []) q (working (entries-at (begun 2) [] []) (asking 2))
-      ≡ settled-keeping (begun 2 .job) (Broken (refusal 15)) (registering q (asking 2))
+      ≡ settled-keeping (begun 2 .job) (broken (record { code = 15; place = 1 })) (registering q (asking 2))
   any-registers-refused = under-registers 2 _ (two-guests .two-start) (two-guests .two-are-refused) refl
 
 -- ---- each unit of the accepted one, lent a memory that holds no byte but those that it reads
@@ -246,6 +263,16 @@ moved-and-accepted =
     sym (moving-memory-reads-only (asking 1 .state) (guest 1 ∷ guest 1 ∷ guest 1 ∷ []) (opening-alone ∷ entry-alone ∷ packet-alone ∷ []) read-alone)
     ∙ two-guests .by-units
 
+-- ---- its packet and behind it one that breaks a rule, whose place is its own offset
+
+unfoldable pub second-broken : List ℕ
+second-broken = in-bytes (stream-magic ∷ version ∷ 80 ∷ 0 ∷ 0 ∷ 0 ∷ create-buffer ∷ 40 ∷ 1 ∷ 0 ∷ 32 ∷ 0 ∷ 5 ∷ 16 ∷ 0 ∷ 0 ∷ destroy ∷ 16 ∷ 2 ∷ 0 ∷ [])
+
+pub second-packet-is-refused : judge-packets (the-entry ∷ []) (at-first []) (packets-of second-broken (record { gpa = 0; size = 80 }))
+    ≡ record { finding = broken (record { code = 18; place = 64 }); held = held; count = 2 }
+unfolding second-broken held the-entry in-bytes le bytesOf lookup buffer-fields destroy-fields known least-size frame-rules frame-of packet-of cut apply on-buffer-packet on-destroy-packet create create-backed judge-packets
+second-packet-is-refused = refl
+
 -- ---- its packet once more, 8 bytes longer than its row: whatever two words are appended, the same record is made
 
 unfoldable pub longer-stream : ℕ → ℕ → List ℕ
@@ -255,7 +282,7 @@ abbrev pub longer : Stream
 longer = record { gpa = 0; size = 72 }
 
 pub appended-and-accepted : (a b : ℕ)
-    → judge-packets (the-entry ∷ []) (at-first []) (packets-of (longer-stream a b) longer) ≡ record { verdict = Fine; held = held; count = 1 }
+    → judge-packets (the-entry ∷ []) (at-first []) (packets-of (longer-stream a b) longer) ≡ record { finding = fine; held = held; count = 1 }
 unfolding longer-stream held the-entry in-bytes le bytesOf lookup buffer-fields known least-size frame-rules frame-of packet-of cut apply on-buffer-packet create create-backed judge-packets
 appended-and-accepted a b =
     appended-bytes-cannot-matter (longer-stream a b) (longer-stream 0 0) longer longer refl (packet create-buffer 48 refl refl refl stream-ends) (the-entry ∷ []) (at-first [])

@@ -11,7 +11,7 @@ use Rattle.machine.specs.Machine.{pick}
 use Rattle.rules.specs.Lists.{Found, lookup}
 use Rattle.rules.specs.Lists.Found.{none, found}
 use Rattle.rules.specs.State.{State, made, with-regs}
-use Rattle.rules.specs.Registers.{Write, with-enabled, bit-of, reset, controlled, writable, write-offset, write-of}
+use Rattle.rules.specs.Registers.{Write, with-enabled, bit-of, reset-registers, reset, controlled, writable, write-offset, write-of}
 use Rattle.rules.specs.Calls.{wrote, call-write}
 use Rattle.rules.specs.declared.Registers.{Registers}
 use Rattle.packet_apply.specs.Held.{Every}
@@ -88,7 +88,7 @@ module _ (s : State) (offset v : ℕ) where
   pub write-changes-registers-alone : resets offset v ≡ false → call-write s offset v .state ≡ with-regs (call-write s offset v .state .regs) s
   write-changes-registers-alone n = keeps-by n _ (write-keeps-or-drops s offset v) .0
 
-  -- and, of the registers, the completed fence and the error's code, fence and count
+  -- and, of the registers, the completed fence and the error's code, fence, count and detail
   pub write-keeps-completed-and-error : resets offset v ≡ false
       → (call-write s offset v .state .regs .completed ≡ s .regs .completed) × (call-write s offset v .state .regs .error ≡ s .regs .error)
   write-keeps-completed-and-error n = keeps-by n _ (write-keeps-or-drops s offset v) .1
@@ -96,6 +96,15 @@ module _ (s : State) (offset v : ℕ) where
   -- a reset is the rules' `reset`, with the bit that enables taken from the same write
   pub reset-drops : resets offset v ≡ true → call-write s offset v .state ≡ reset (bit-of 0 v) s
   reset-drops y = drops-by y _ (write-keeps-or-drops s offset v)
+
+  -- whatever is written, to reset or to acknowledge, the last error stays
+  pub any-write-keeps-error : call-write s offset v .state .regs .error ≡ s .regs .error
+  unfolding reset reset-registers
+  any-write-keeps-error = by-written _ (write-keeps-or-drops s offset v)
+    where
+      by-written : (s′ : State) → Written s offset v s′ → s′ .regs .error ≡ s .regs .error
+      by-written s′ (keeps r n c e) = e
+      by-written s′ (drops h) = refl
 
 -- ---- what a write makes of the registers
 

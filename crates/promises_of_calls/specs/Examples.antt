@@ -98,9 +98,9 @@ waiting-device = with-rows (words-of 1 128 1 0 0 0 0 0 0 1 3 (numbers-of 0 0 1))
 unfoldable pub answered-device : Device
 answered-device = with-rows (words-of 1 128 1 7 1 0 0 0 0 1 0 (numbers-of 1 1 0))
 
--- the guest with its entry twice was refused with 15
+-- the guest with its entry twice was refused with 15, at entry 1
 unfoldable pub refused-device : Device
-refused-device = bare (words-of 2 128 1 7 1 1 15 7 1 1 0 (zeros 18))
+refused-device = bare (words-of 2 128 1 7 1 1 15 7 1 1 0 (0 ∷ 0 ∷ 0 ∷ 0 ∷ 0 ∷ 0 ∷ 0 ∷ 0 ∷ 0 ∷ 0 ∷ 0 ∷ 0 ∷ 0 ∷ 0 ∷ 0 ∷ 0 ∷ 1 ∷ 0 ∷ []))
 
 -- the asking device and the waiting one are those of the promises' witness
 pub asks : (n : ℕ) → worldOf (asking-device n) (guest n) ≡ asking n
@@ -228,7 +228,7 @@ refused-night = chain-is-unsliced some-refusal (refl, omega arith) refl refl
 unfoldable pub scrawled-device : Device
 scrawled-device =
     record {
-      words = words-of 1 128 1 0 0 0 0 0 0 1 0 (7 ∷ 7 ∷ 7 ∷ 7 ∷ 7 ∷ 7 ∷ 7 ∷ 7 ∷ 7 ∷ 7 ∷ 7 ∷ 0 ∷ 7 ∷ 7 ∷ 0 ∷ 7 ∷ 7 ∷ 7 ∷ []);
+      words = words-of 1 128 1 0 0 0 0 0 0 1 0 (7 ∷ 7 ∷ 7 ∷ 7 ∷ 7 ∷ 7 ∷ 7 ∷ 7 ∷ 7 ∷ 7 ∷ 7 ∷ 0 ∷ 7 ∷ 7 ∷ 0 ∷ 7 ∷ 0 ∷ 7 ∷ []);
       entries = 7 ∷ zeros 255;
       first = 7 ∷ zeros 703;
       second = 7 ∷ zeros 703;

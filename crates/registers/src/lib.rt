@@ -9,6 +9,7 @@ use run_state::COMPLETED;
 use run_state::ENABLED;
 use run_state::ERROR_CODE;
 use run_state::ERROR_COUNT;
+use run_state::ERROR_DETAIL;
 use run_state::ERROR_FENCE;
 use run_state::FAILED;
 use run_state::FENCE_PAGE;
@@ -76,6 +77,7 @@ pub fn read(words: &Words, offset: u32) -> Shown
         offsets::ERROR_FENCE_LOW => Shown::Value(low32(words[ERROR_FENCE])),
         offsets::ERROR_FENCE_HIGH => Shown::Value(high(words[ERROR_FENCE])),
         offsets::ERROR_COUNT => Shown::Value(low32(words[ERROR_COUNT])),
+        offsets::ERROR_DETAIL => Shown::Value(low32(words[ERROR_DETAIL])),
         _ => Shown::NoRegister,
     }
 }

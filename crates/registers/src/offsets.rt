@@ -24,6 +24,8 @@ pub const ERROR_FENCE_HIGH: u32 = 0x318;
 
 pub const ERROR_COUNT: u32 = 0x31c;
 
+pub const ERROR_DETAIL: u32 = 0x320;
+
 // ---- both ways
 pub const RING_LOW: u32 = 0x100;
 

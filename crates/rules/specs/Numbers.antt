@@ -1,4 +1,4 @@
--- The numbers of document 01 that have a meaning of their own, each named once. Offsets of fields stand in Layouts.
+-- The numbers of document 01, and of the wishes of 02, that have a meaning of their own, each named once. Offsets of fields stand in Layouts.
 use Prim.Native.Nat.{ℕ}
 
 -- ---- errors
@@ -56,6 +56,12 @@ bad-copy = 26
 
 abbrev pub host-failed : ℕ
 host-failed = 27
+
+-- ---- places
+
+-- "else 0" (02, wish 9): what stands for a place where no entry and no packet broke a rule
+abbrev pub no-place : ℕ
+no-place = 0
 
 -- ---- limits
 

@@ -51,7 +51,7 @@ abbrev pub shows : ℕ → ℕ → Read
 shows at v = record { offset = at; value = v }
 
 -- "000 magic ..; 004 version; 008/00C features 7 and 0; 130/134 completed fence; 300 IRQ status; 310 error code;
--- 314/318 error fence; 31C error count: read only. 100/104 ring GPA; 108 ring size; 10C control; 120/124 fence page GPA; 304 IRQ enable: both ways."
+-- 314/318 error fence; 31C error count: read only." By wish 9, "a read-only register at offset 320 (hex), error detail". "100/104 ring GPA; 108 ring size; 10C control; 120/124 fence page GPA; 304 IRQ enable: both ways."
 abbrev pub readable : Registers → List Read
 readable r =
     shows 0x000 device-magic
@@ -72,6 +72,7 @@ readable r =
     ∷ shows 0x314 (low (r .error .fence))
     ∷ shows 0x318 (high (r .error .fence))
     ∷ shows 0x31c (r .error .count)
+    ∷ shows 0x320 (r .error .detail)
     ∷ []
 
 unfoldable pub register : Registers → ℕ → Found Read
@@ -103,7 +104,7 @@ abbrev pub acknowledged : ℕ → Registers → Registers
 acknowledged v r =
     with-reported r (r .completed) (r .fenced && not (bit-of 0 v)) (r .failed && not (bit-of 1 v)) (r .error) (r .doorbell)
 
--- "completed fence, IRQ status and doorbell flag become .. zero; error registers stay; .. other registers stay"
+-- "completed fence, IRQ status and doorbell flag become .. zero; error registers stay; .. other registers stay": the detail, too, is sticky
 unfoldable pub reset-registers : Bool → Registers → Registers
 reset-registers enabled r = with-reported (with-enabled enabled r) 0 false false (r .error) false
 

@@ -6,6 +6,8 @@ use lib.Dec.{ltb, leb, eqb}
 use lib.ListN.{length}
 use Rattle.machine.specs.Machine.{pick}
 use Rattle.rules.specs.Numbers.{bad-ring}
+use Rattle.rules.specs.Judging.{refusal, Finding, without-place}
+use Rattle.rules.specs.Judging.Finding.{fine, broken}
 use Rattle.rules.specs.Bytes.{bytesOf}
 use Rattle.rules.specs.Lists.{over}
 use Rattle.rules.specs.Layouts.{head-offset, page-bytes}
@@ -15,17 +17,17 @@ use Rattle.rules.specs.State.Work.{resting}
 use Rattle.rules.specs.declared.Registers.{Registers}
 use Rattle.rules.specs.declared.Resource.{Resource}
 use Rattle.rules.specs.declared.Job.{Job}
-use Rattle.rules.specs.declared.Verdict.{Verdict}
-use Rattle.rules.specs.declared.Verdict.the-variants.{Fine, Broken}
+use Rattle.rules.specs.declared.Fault.{Fault}
 
 -- "count + 1 (stops at 4294967295)"
 abbrev pub one-more : ℕ → ℕ
 one-more n = pick (ltb n (2 ^ 32 - 1)) (n + 1) n
 
--- "Error: code, fence = signal fence, count + 1, status bit 1."
-unfoldable pub faulted : ℕ → ℕ → Registers → Registers
-faulted code fence r =
-    with-reported r (r .completed) (r .fenced) true (record { code = code; fence = fence; count = one-more (r .error .count) }) (r .doorbell)
+-- "Error: code, fence = signal fence, count + 1 .., status bit 1." And by wish 9, error detail: the place. "It is set with the code and as
+-- sticky": a later error overwrites it, and nothing else does.
+unfoldable pub faulted : Fault → ℕ → Registers → Registers
+faulted f fence r =
+    with-reported r (r .completed) (r .fenced) true (record { code = f .code; fence = fence; count = one-more (r .error .count); detail = f .place }) (r .doorbell)
 
 -- "Completed = larger of completed and signal fence; status bit 0 is set if it rose and no-IRQ is clear."
 unfoldable pub signalled : ℕ → Bool → Registers → Registers
@@ -37,11 +39,11 @@ unfoldable pub doorbell-cleared : Registers → Registers
 doorbell-cleared r = with-reported r (r .completed) (r .fenced) (r .failed) (r .error) false
 
 -- a submission's last word to the registers: its error, if any, then its fence
-abbrev pub faulted-by : Verdict → ℕ → Registers → Registers
-faulted-by Fine fence r = r
-faulted-by (Broken f) fence r = faulted (f .code) fence r
+abbrev pub faulted-by : Finding → ℕ → Registers → Registers
+faulted-by fine fence r = r
+faulted-by (broken f) fence r = faulted f fence r
 
-unfoldable pub ended-by : Job → Verdict → Registers → Registers
+unfoldable pub ended-by : Job → Finding → Registers → Registers
 ended-by j v r = signalled (j .signal) (j .silent) (faulted-by v (j .signal) r)
 
 -- ---- memory
@@ -68,8 +70,8 @@ marked j r m = page-written r (head-written j m)
 
 -- ---- the whole of it
 
--- a submission settled with a verdict, and with these resources the device's from now on
-unfoldable pub settled : Job → Verdict → List Resource → World → World
+-- a submission settled with what was found, and with these resources the device's from now on
+unfoldable pub settled : Job → Finding → List Resource → World → World
 settled j v resources w =
     record {
       state = record {
@@ -82,14 +84,14 @@ settled j v resources w =
     }
 
 -- "otherwise those before it stay": after a refusal, and after the answer "failed"
-abbrev pub settled-keeping : Job → Verdict → World → World
+abbrev pub settled-keeping : Job → Finding → World → World
 settled-keeping j v w = settled j v (w .state .resources) w
 
 -- ---- openings that settle nothing
 
 -- "A bad ring clears the flag, sets the error with fence 0 and settles nothing."
 abbrev pub ring-refused : World → World
-ring-refused w = registering (doorbell-cleared (faulted bad-ring 0 (w .state .regs))) w
+ring-refused w = registering (doorbell-cleared (faulted (without-place (refusal bad-ring)) 0 (w .state .regs))) w
 
 -- "Head = tail clears the flag."
 abbrev pub found-no-work : World → World

@@ -60,7 +60,7 @@ with-reported r completed fenced failed error rung =
     registers-of (r .ring) (r .ringsize) (r .enabled) (r .fencepage) completed fenced failed (r .irqenable) error rung
 
 abbrev pub no-error : LastError
-no-error = record { code = 0; fence = 0; count = 0 }
+no-error = record { code = 0; fence = 0; count = 0; detail = 0 }
 
 -- "starts as after a reset, with error and writable registers zero"
 abbrev pub fresh : Registers

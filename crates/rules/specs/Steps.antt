@@ -6,7 +6,8 @@ use lib.Dec.{ltb}
 use lib.ListN.{length}
 use Rattle.machine.specs.Machine.{pick, Out, runFor}
 use Rattle.rules.specs.Numbers.{host-failed}
-use Rattle.rules.specs.Judging.{refusal}
+use Rattle.rules.specs.Judging.{refusal, Finding, at-place, without-place}
+use Rattle.rules.specs.Judging.Finding.{fine, broken}
 use Rattle.rules.specs.Layouts.{stream-header-size}
 use Rattle.rules.specs.Table.{take-entry}
 use Rattle.rules.specs.Stream.{left, frame-of, size-of}
@@ -20,8 +21,6 @@ use Rattle.rules.specs.declared.Resource.{Resource}
 use Rattle.rules.specs.declared.Job.{Job}
 use Rattle.rules.specs.declared.Stream.{Stream}
 use Rattle.rules.specs.declared.Opened.{Opened}
-use Rattle.rules.specs.declared.Verdict.{Verdict}
-use Rattle.rules.specs.declared.Verdict.the-variants.{Fine, Broken}
 use Rattle.rules.specs.declared.Opening.{Opening}
 use Rattle.rules.specs.declared.Opening.the-variants.{BadRing, NoWork, Refused, Started}
 
@@ -42,7 +41,7 @@ entries-at o kept resources =
 abbrev pub after-opening : World → Opening → World
 after-opening w BadRing = ring-refused w
 after-opening w NoWork = found-no-work w
-after-opening w (Refused j r) = settled-keeping j (Broken r) w
+after-opening w (Refused j r) = settled-keeping j (broken (without-place r)) w
 after-opening w (Started o) = working (entries-at o [] (w .state .resources)) w
 
 -- "Ring GPA and size are taken when a submission is opened"
@@ -51,27 +50,31 @@ open-step w = after-opening w (opening-of (w .mem) (w .state .regs .ring) (w .st
 
 -- ---- one table entry
 
-abbrev pub after-entry : World → Opened → List Entry → Verdict → World
-after-entry w o kept Fine = working (entries-at o kept (w .state .resources)) w
-after-entry w o kept (Broken r) = settled-keeping (o .job) (Broken r) w
+abbrev pub after-entry : World → Opened → List Entry → Finding → World
+after-entry w o kept fine = working (entries-at o kept (w .state .resources)) w
+after-entry w o kept (broken f) = settled-keeping (o .job) (broken f) w
 
+-- "the entry index for 14 and 15" (02, wish 9): as many are kept before it
 unfoldable pub entry-step : World → Opened → List Entry → World
-entry-step w o kept = after-entry w o (take-entry (w .mem) (o .table) kept .kept) (take-entry (w .mem) (o .table) kept .verdict)
+entry-step w o kept =
+    after-entry w o (take-entry (w .mem) (o .table) kept .kept) (at-place (length kept) (take-entry (w .mem) (o .table) kept .verdict))
 
 -- ---- one packet
 
-abbrev pub after-packet : World → Job → Stream → ℕ → List Entry → Holdings → Verdict → World
-after-packet w j s next es h Fine = working (packets-at j s next es h) w
-after-packet w j s next es h (Broken r) = settled-keeping j (Broken r) w
+abbrev pub after-packet : World → Job → Stream → ℕ → List Entry → Holdings → Finding → World
+after-packet w j s next es h fine = working (packets-at j s next es h) w
+after-packet w j s next es h (broken f) = settled-keeping j (broken f) w
 
 -- where the packet after the one that some bytes begin with stands
 abbrev pub next-place : ℕ → List ℕ → ℕ
 next-place at b = at + size-of (frame-of b)
 
+-- "the packet's byte offset in the stream for packet errors" (02, wish 9): all that a packet's step raises, 17 of the last bytes and 19 of its
+-- records too
 unfoldable pub packet-step : World → Job → Stream → ℕ → List Entry → Holdings → World
 packet-step w j s at es h =
     after-packet w j s (next-place at (left (w .mem) s at)) es (take-packet es h (left (w .mem) s at) .held)
-    (take-packet es h (left (w .mem) s at) .verdict)
+    (at-place at (take-packet es h (left (w .mem) s at) .verdict))
 
 -- ---- one unit: "opening, one table entry, or one packet"
 
@@ -114,8 +117,8 @@ abbrev pub answer-on : Bool → World → Work → World
 answer-on good w resting = w
 answer-on good w (entries o kept) = w
 answer-on good w (packets j s at es h) = w
-answer-on true w (waiting j es h) = settled j Fine (h .resources) w
-answer-on false w (waiting j es h) = settled-keeping j (Broken (refusal host-failed)) w
+answer-on true w (waiting j es h) = settled j fine (h .resources) w
+answer-on false w (waiting j es h) = settled-keeping j (broken (without-place (refusal host-failed))) w
 
 unfoldable pub answered : Bool → World → World
 answered good w = answer-on good w (w .state .work)

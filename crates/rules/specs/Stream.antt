@@ -1,7 +1,7 @@
 -- 01, "Open" 16, and the framing of "Packet": the command stream.
 use mathlib.Core.Bool.{not}
 use mathlib.Core.List.{List, [], _∷_}
-use Prim.Native.Nat.{ℕ, zero, suc, _%_}
+use Prim.Native.Nat.{ℕ, zero, suc, _+_, _%_}
 use lib.Dec.{ltb, eqb}
 use lib.ListN.{length, take, drop}
 use Rattle.machine.specs.Machine.{pick}
@@ -95,24 +95,25 @@ left m s at = drop at (stream-bytes m s)
 
 -- ---- the stream as a list
 
+-- a packet, or what is none, each with its offset in the stream
 pub data Piece : Type 0 where
-  packet : Packet → Piece
-  misframed : Refusal → Piece
+  packet : ℕ → Packet → Piece
+  misframed : ℕ → Refusal → Piece
 
 abbrev pub size-of : Frame → ℕ
 size-of (Whole op size) = size
 size-of (Misframed r) = 0
 
 -- a packet before those after it; nothing is after a bad one
-abbrev pub before : Frame → List ℕ → List Piece → List Piece
-before (Whole op size) b later = packet (packet-of op (take size b)) ∷ later
-before (Misframed r) b later = misframed r ∷ []
+abbrev pub before : ℕ → Frame → List ℕ → List Piece → List Piece
+before at (Whole op size) b later = packet at (packet-of op (take size b)) ∷ later
+before at (Misframed r) b later = misframed at r ∷ []
 
--- the packets of some bytes, of which there are no more than the first number says
-unfoldable pub cut : ℕ → List ℕ → List Piece
-cut zero b = []
-cut (suc k) b = pick (eqb (length b) 0) [] (before (frame-of b) b (cut k (drop (size-of (frame-of b)) b)))
+-- the packets of the bytes that stand at an offset, of which there are no more than the first number says
+unfoldable pub cut : ℕ → ℕ → List ℕ → List Piece
+cut zero at b = []
+cut (suc k) at b = pick (eqb (length b) 0) [] (before at (frame-of b) b (cut k (at + size-of (frame-of b)) (drop (size-of (frame-of b)) b)))
 
 -- "from byte 24 to the stream size"
 abbrev pub packets-of : List ℕ → Stream → List Piece
-packets-of m s = cut (s .size) (left m s stream-header-size)
+packets-of m s = cut (s .size) stream-header-size (left m s stream-header-size)

@@ -8,7 +8,8 @@ use Rattle.machine.specs.Machine.{pick}
 use Rattle.rules.specs.Numbers.{bad-table, bad-entry, twice-in-table, too-many, most, table-magic}
 use Rattle.rules.specs.Lists.{Found, lookup, pushed}
 use Rattle.rules.specs.Lists.Found.{none, found}
-use Rattle.rules.specs.Judging.{refusal, rule, _▹_, number}
+use Rattle.rules.specs.Judging.{refusal, rule, _▹_, Finding, fault-at, without-place, number, place-of}
+use Rattle.rules.specs.Judging.Finding.{fine, broken}
 use Rattle.rules.specs.Layouts.{table-header, table-header-size, entry, entry-size}
 use Rattle.rules.specs.Headers.{wrong-header}
 use Rattle.rules.specs.declared.TableHeader.{TableHeader}
@@ -91,25 +92,34 @@ entries-from m t i (suc n) = entry m (entry-place t i) ∷ entries-from m t (suc
 abbrev pub entries-of : List ℕ → Table → List Entry
 entries-of m t = entries-from m t 0 (t .count)
 
--- what a list of things judged one after the other comes to: the first broken rule, and how many were judged up to and with it
+-- what a list of entries judged one after the other comes to: the first broken rule with its place, and how many were judged up to and with it
 pub record Judged : Type 0 where
-  pub verdict : Verdict
+  pub finding : Finding
   pub count : ℕ
 
-abbrev pub stop-or-go : Verdict → Judged → Judged
-stop-or-go Fine later = record { verdict = later .verdict; count = suc (later .count) }
-stop-or-go (Broken r) later = record { verdict = Broken r; count = 1 }
+abbrev pub stop-or-go : ℕ → Verdict → Judged → Judged
+stop-or-go place Fine later = record { finding = later .finding; count = suc (later .count) }
+stop-or-go place (Broken r) later = record { finding = broken (fault-at place r); count = 1 }
 
--- "in table order"
+-- "in table order". An entry's place is its index: as many are earlier.
 unfoldable pub judge-entries : ℕ → List Entry → List Entry → Judged
-judge-entries memory earlier [] = record { verdict = Fine; count = 0 }
-judge-entries memory earlier (e ∷ es) = stop-or-go (entry-rules memory earlier e) (judge-entries memory (pushed earlier e) es)
+judge-entries memory earlier [] = record { finding = fine; count = 0 }
+judge-entries memory earlier (e ∷ es) = stop-or-go (length earlier) (entry-rules memory earlier e) (judge-entries memory (pushed earlier e) es)
+
+-- the header's rules come first; theirs has no place
+abbrev pub after-header : Verdict → Finding → Finding
+after-header Fine later = later
+after-header (Broken r) later = broken (without-place r)
 
 -- "a table's first error ..: takes the lent length as table size and a memory length, and finds 13, 19, 14, 15 as the steps do"
-unfoldable pub table-verdict : List ℕ → ℕ → Verdict
-table-verdict b memory =
-    header-rules (length b) (table-header b 0)
-    ▹ judge-entries memory [] (entries-of b (table-of 0 (table-header b 0))) .verdict
+unfoldable pub table-finding : List ℕ → ℕ → Finding
+table-finding b memory =
+    after-header (header-rules (length b) (table-header b 0))
+    (judge-entries memory [] (entries-of b (table-of 0 (table-header b 0))) .finding)
 
 unfoldable pub table-error : List ℕ → ℕ → ℕ
-table-error b memory = number (table-verdict b memory)
+table-error b memory = number (table-finding b memory)
+
+-- and its place, as the register would show it: the entry's index for 14 and 15, else 0
+unfoldable pub table-place : List ℕ → ℕ → ℕ
+table-place b memory = place-of (table-finding b memory)

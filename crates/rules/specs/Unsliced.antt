@@ -4,6 +4,8 @@ use mathlib.Core.List.{List, [], _∷_}
 use Prim.Native.Nat.{ℕ, suc, _+_}
 use lib.ListN.{length}
 use Rattle.machine.specs.Machine.{Out}
+use Rattle.rules.specs.Judging.{Finding, fault-at, without-place}
+use Rattle.rules.specs.Judging.Finding.{fine, broken}
 use Rattle.rules.specs.Table.{Judged, entries-of, judge-entries}
 use Rattle.rules.specs.Stream.{Piece, packets-of}
 use Rattle.rules.specs.Stream.Piece.{packet, misframed}
@@ -22,37 +24,38 @@ use Rattle.rules.specs.declared.Opening.the-variants.{BadRing, NoWork, R
 
 -- ---- the packets as a list
 
--- the first broken rule, what is held at the end, and how many packets were judged
+-- the first broken rule with its place, what is held at the end, and how many packets were judged
 pub record Reckoned : Type 0 where
-  pub verdict : Verdict
+  pub finding : Finding
   pub held : Holdings
   pub count : ℕ
 
-abbrev pub one-further : Verdict → Holdings → Reckoned → Reckoned
-one-further Fine h later = record { verdict = later .verdict; held = later .held; count = suc (later .count) }
-one-further (Broken r) h later = record { verdict = Broken r; held = h; count = 1 }
+abbrev pub one-further : ℕ → Verdict → Holdings → Reckoned → Reckoned
+one-further at Fine h later = record { finding = later .finding; held = later .held; count = suc (later .count) }
+one-further at (Broken r) h later = record { finding = broken (fault-at at r); held = h; count = 1 }
 
+-- "the packet's byte offset in the stream for packet errors" (02, wish 9)
 unfoldable pub judge-packets : List Entry → Holdings → List Piece → Reckoned
-judge-packets es h [] = record { verdict = Fine; held = h; count = 0 }
-judge-packets es h (misframed r ∷ later) = record { verdict = Broken r; held = h; count = 1 }
-judge-packets es h (packet p ∷ later) =
-    one-further (apply es h p .verdict) h (judge-packets es (apply es h p .held) later)
+judge-packets es h [] = record { finding = fine; held = h; count = 0 }
+judge-packets es h (misframed at r ∷ later) = record { finding = broken (fault-at at r); held = h; count = 1 }
+judge-packets es h (packet at p ∷ later) =
+    one-further at (apply es h p .verdict) h (judge-packets es (apply es h p .held) later)
 
 -- ---- a submission
 
 -- "their count is one, plus the entries and packets judged up to and with the first broken one"
 pub record Submission : Type 0 where
-  pub verdict : Verdict
+  pub finding : Finding
   pub held : Holdings
   pub units : ℕ
 
-abbrev pub after-entries : Verdict → ℕ → Holdings → Reckoned → Submission
-after-entries Fine judged h p = record { verdict = p .verdict; held = p .held; units = suc (judged + p .count) }
-after-entries (Broken r) judged h p = record { verdict = Broken r; held = h; units = suc judged }
+abbrev pub after-entries : Finding → ℕ → Holdings → Reckoned → Submission
+after-entries fine judged h p = record { finding = p .finding; held = p .held; units = suc (judged + p .count) }
+after-entries (broken f) judged h p = record { finding = broken f; held = h; units = suc judged }
 
 -- the table's judgement, then the packets'
 abbrev pub both : Judged → Holdings → Reckoned → Submission
-both t h p = after-entries (t .verdict) (t .count) h p
+both t h p = after-entries (t .finding) (t .count) h p
 
 -- "The unsliced rules judge the opening, then all entries, then all packets"
 unfoldable pub submission : List ℕ → Opened → Holdings → Submission
@@ -60,18 +63,18 @@ submission m o h =
     both (judge-entries (length m) [] (entries-of m (o .table))) h
     (judge-packets (entries-of m (o .table)) h (packets-of m (o .stream)))
 
-abbrev pub finished : World → Job → List Entry → Holdings → Verdict → World
-finished w j es h Fine = working (waiting j es h) w
-finished w j es h (Broken r) = settled-keeping j (Broken r) w
+abbrev pub finished : World → Job → List Entry → Holdings → Finding → World
+finished w j es h fine = working (waiting j es h) w
+finished w j es h (broken f) = settled-keeping j (broken f) w
 
 abbrev pub concluding : World → Job → List Entry → Submission → Out World
-concluding w j es b = record { state = finished w j es (b .held) (b .verdict); units = b .units }
+concluding w j es b = record { state = finished w j es (b .held) (b .finding); units = b .units }
 
 -- what an opening comes to: finished with its error, or waiting for the host
 abbrev pub submitted-on : World → Opening → Out World
 submitted-on w BadRing = record { state = ring-refused w; units = 1 }
 submitted-on w NoWork = record { state = found-no-work w; units = 1 }
-submitted-on w (Refused j r) = record { state = settled-keeping j (Broken r) w; units = 1 }
+submitted-on w (Refused j r) = record { state = settled-keeping j (broken (without-place r)) w; units = 1 }
 submitted-on w (Started o) =
     concluding w (o .job) (entries-of (w .mem) (o .table))
     (submission (w .mem) o (at-first (w .state .resources)))

@@ -157,6 +157,12 @@ pub struct Refusal {
     pub code: u32,
 }
 
+// A broken rule by its number, and where it broke: the index of an entry, the offset of a packet in the stream, or 0.
+pub struct Fault {
+    pub code: u32,
+    pub place: u32,
+}
+
 // What a check comes to: no rule is broken, or this one.
 pub enum Verdict {
     Fine,
@@ -203,11 +209,12 @@ pub enum Opening {
 
 // ---- Registers and answers
 
-// The last error: its code, the signal fence of its submission, and how many there were. They change together.
+// The last error: its code, the signal fence of its submission, how many there were, and where it broke. They change together.
 pub struct LastError {
     pub code: u32,
     pub fence: u64,
     pub count: u32,
+    pub detail: u32,
 }
 
 // The registers' numbers, and the doorbell flag. IRQ status is its two bits.

@@ -5,19 +5,31 @@ use Prim.Native.Nat.{ℕ, _≤_, _<_}
 use borrow.Author.Needs.{needs}
 use lib.ListN.{length, getD, set}
 use Rattle.rules.specs.Numbers.{most}
-use Rattle.rules.specs.Judging.{refusal}
+use Rattle.rules.specs.Judging.{refusal, fault-at}
+use Rattle.rules.specs.Judging.Finding.{broken}
+use Rattle.rules.specs.Settle.{settled-keeping}
+use Rattle.rules.specs.declared.Fault.{Fault}
+use Rattle.rows.specs.Rows.{length-table}
+use Rattle.kept_entries.specs.Views.{entryOf}
 use Rattle.run_entries.specs.Ending.{Ending, endingOf, is-going, is-done, is-broken}
 use Rattle.run_entries.specs.Ending.Ending.{Going, Done, Broken}
 use Rattle.run_entries.specs.Entries.{readingOf}
 use Rattle.run_entries.specs.declared.entries.EntriesPlace.{EntriesPlace}
 use Rattle.run_packets.specs.Playing.{playingOf}
 use Rattle.run_packets.specs.declared.PacketsPlace.{PacketsPlace}
-use Rattle.run_state.specs.Views.{flagOf, tagIn, jobIn, streamIn, openedIn, keptIn, worldIn, bareIn}
+use Rattle.run_state.specs.Views.{flagOf, smallIn, tagIn, jobIn, streamIn, openedIn, keptIn, worldIn, bareIn}
 use Rattle.run_state.specs.Reading.{flag-as, count-as}
 use Rattle.run_state.specs.Spelled.{spell}
 use Rattle.run_settle.specs.Views.{Refuses}
 use Rattle.run_begin.specs.Views.{Begins}
 use Rattle.run_after_phase.specs.Views.{laid-on, played-on, LandsEntries, LandsPackets}
+
+-- ---- fault
+
+pub fault-is : (why at x place : ℕ) → (x ≡ at) × (x < 18446744073709551616) → place ≡ smallIn x → record { code = why; place = place } ≡ fault-at at (refusal why)
+fault-is why at x place is cut = rw (cut, is .0)
+
+pub ruleset faulting = (fault-is, needs)
 
 -- ---- land_entries
 
@@ -37,9 +49,15 @@ module _ (s : List ℕ) (p : EntriesPlace) (m : List ℕ) (pre : (tagIn s ≡ 1)
   pub lands-done : (s′ : List ℕ) → p .ending ≡ 1 → Begins s (p .kept) s′ → LandsEntries s p m s′ m
   lands-done s′ q b = record { world = λ e r h c. b .world e r h c m ∙ ended Done (is-done (p .ending) (p .why) q) e r; side = b .side }
 
-  pub lands-broken : (s′ m′ : List ℕ) → (p .ending ≡ 0 → ⊥) → (p .ending ≡ 1 → ⊥) → Refuses s m (record { code = p .why }) s′ m′ → LandsEntries s p m s′ m′
-  lands-broken s′ m′ a b f =
-      record { world = λ e r h c. f .world e r h c ∙ ended (Broken (refusal (p .why))) (is-broken (p .ending) (p .why) a b) e r; side = f .side }
+  pub lands-broken : (s′ m′ : List ℕ) (x : Fault) → (p .ending ≡ 0 → ⊥) → (p .ending ≡ 1 → ⊥) → x ≡ fault-at (p .kept) (refusal (p .why)) → Refuses s m x s′ m′ → LandsEntries s p m s′ m′
+  lands-broken s′ m′ x a b is f =
+      record {
+        world = λ e r h c.
+            f .world e r h c
+            ∙ (ap (λ y. settled-keeping (jobIn s) (broken y) (bareIn s r m)) (is ∙ ap (λ k. fault-at k (refusal (p .why))) (sym (length-table entryOf 4 (p .kept) e)))
+            ∙ ended (Broken (refusal (p .why))) (is-broken (p .ending) (p .why) a b) e r);
+        side = f .side;
+      }
 
 pub ruleset landing-entries = (lands-going, lands-done, lands-broken, needs)
 
@@ -51,9 +69,12 @@ module _ (s : List ℕ) (p : PacketsPlace) (m : List ℕ) (pre : (tagIn s ≡ 2)
       → played-on (bareIn s r m) (jobIn s) (streamIn s) (keptIn s e) (playingOf p r h c) k ≡ played-on (bareIn s r m) (jobIn s) (streamIn s) (keptIn s e) (playingOf p r h c) (playingOf p r h c .ending)
   played-to k q e r h c = ap (played-on (bareIn s r m) (jobIn s) (streamIn s) (keptIn s e) (playingOf p r h c)) (sym q)
 
-  pub plays-broken : (s′ m′ : List ℕ) → (p .ending ≡ 0 → ⊥) → (p .ending ≡ 1 → ⊥) → Refuses s m (record { code = p .why }) s′ m′ → LandsPackets s p m s′ m′
-  plays-broken s′ m′ a b f =
-      record { world = λ e r h c. f .world e r h c ∙ played-to (Broken (refusal (p .why))) (is-broken (p .ending) (p .why) a b) e r h c; side = f .side }
+  pub plays-broken : (s′ m′ : List ℕ) (x : Fault) → (p .ending ≡ 0 → ⊥) → (p .ending ≡ 1 → ⊥) → x ≡ fault-at (p .at) (refusal (p .why)) → Refuses s m x s′ m′ → LandsPackets s p m s′ m′
+  plays-broken s′ m′ x a b is f =
+      record {
+        world = λ e r h c. f .world e r h c ∙ rw is (played-to (Broken (refusal (p .why))) (is-broken (p .ending) (p .why) a b) e r h c);
+        side = f .side;
+      }
 
   module _ (long : length s ≡ 32) (y z o : ℕ) (is-y : (y ≡ p .live) × (y < 18446744073709551616)) (is-z : (z ≡ p .made) × (z < 18446744073709551616)) (is-o : o ≡ flagOf (p .copied)) where
     abbrev onward-words : ℕ → List ℕ → List ℕ

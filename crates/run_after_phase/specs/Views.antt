@@ -2,7 +2,9 @@
 use mathlib.Core.Path.{_≡_}
 use mathlib.Core.List.{List}
 use Prim.Native.Nat.{ℕ}
-use lib.ListN.{getD}
+use lib.ListN.{length, getD}
+use Rattle.rules.specs.Judging.{fault-at}
+use Rattle.rules.specs.Judging.Finding.{broken}
 use Rattle.rules.specs.Layouts.{stream-header-size}
 use Rattle.rules.specs.Packets.{at-first}
 use Rattle.rules.specs.State.{World, working}
@@ -13,7 +15,6 @@ use Rattle.rules.specs.declared.Entry.{Entry}
 use Rattle.rules.specs.declared.Job.{Job}
 use Rattle.rules.specs.declared.Stream.{Stream}
 use Rattle.rules.specs.declared.Opened.{Opened}
-use Rattle.rules.specs.declared.Verdict.the-variants.{Broken as BrokenRule}
 use Rattle.run_entries.specs.Ending.{Ending}
 use Rattle.run_entries.specs.Ending.Ending.{Going, Done, Broken}
 use Rattle.run_entries.specs.Entries.{Reading, readingOf}
@@ -26,7 +27,7 @@ use Rattle.run_state.specs.Views.{jobIn, streamIn, openedIn, keptIn, worldIn, b
 abbrev pub laid-on : World → Opened → List Entry → Ending → World
 laid-on w o kept Going = working (entries o kept) w
 laid-on w o kept Done = working (packets-at (o .job) (o .stream) stream-header-size kept (at-first (w .state .resources))) w
-laid-on w o kept (Broken r) = settled-keeping (o .job) (BrokenRule r) w
+laid-on w o kept (Broken r) = settled-keeping (o .job) (broken (fault-at (length kept) r)) w
 
 abbrev pub laid : World → Opened → Reading → World
 laid w o s = laid-on w o (s .kept) (s .ending)
@@ -35,7 +36,7 @@ laid w o s = laid-on w o (s .kept) (s .ending)
 abbrev pub played-on : World → Job → Stream → List Entry → Playing → Ending → World
 played-on w j t es s Going = working (packets j t (s .at) es (s .held)) w
 played-on w j t es s Done = working (waiting j es (s .held)) w
-played-on w j t es s (Broken r) = settled-keeping j (BrokenRule r) w
+played-on w j t es s (Broken r) = settled-keeping j (broken (fault-at (s .at) r)) w
 
 abbrev pub played : World → Job → Stream → List Entry → Playing → World
 played w j t es s = played-on w j t es s (s .ending)

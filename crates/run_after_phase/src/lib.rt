@@ -1,6 +1,6 @@
 // Where a phase has come to, on the device's words: going on, done, or broken by a rule. A refusal settles within its unit, and the
 // device's resources stay as they were.
-use rules::Refusal;
+use rules::Fault;
 use run_begin::begin_packets;
 use run_entries::ending::DONE;
 use run_entries::ending::GOING;
@@ -17,11 +17,21 @@ use run_state::WAITING;
 use run_state::Words;
 use run_state::flag;
 use widths::usize_to_word;
+use words::low32;
 ghost use mathlib.Core.Path.{_≡_};
 ghost use Prim.Native.Nat.{_≤_};
+ghost use Rattle.rules.specs.Judging.{refusal, fault-at};
 ghost use Rattle.rules.specs.Numbers.{most};
 ghost use Rattle.run_state.specs.Views.{tagIn};
 ghost use Rattle.run_after_phase.specs.Views.{LandsEntries, LandsPackets};
+
+// A rule that a phase broke, at the place where the phase stands.
+fn fault(why: u32, at: usize) -> Fault
+    ensures { λ r. ⌜ r ≡ fault-at at (refusal why) ⌝ }
+{
+    let place = low32(usize_to_word(at));
+    Fault { code: why, place }
+}
 
 // The entries at a place.
 pub fn land_entries(words: &mut Words, p: EntriesPlace, mem: &mut [u8])
@@ -38,7 +48,7 @@ pub fn land_entries(words: &mut Words, p: EntriesPlace, mem: &mut [u8])
         begin_packets(words, p.kept);
         return;
     }
-    settle_refused(words, mem, Refusal { code: p.why });
+    settle_refused(words, mem, fault(p.why, p.kept));
 }
 
 // The packets at a place.
@@ -66,5 +76,5 @@ pub fn land_packets(words: &mut Words, p: PacketsPlace, mem: &mut [u8])
         words[COPIED] = copied;
         return;
     }
-    settle_refused(words, mem, Refusal { code: p.why });
+    settle_refused(words, mem, fault(p.why, p.at));
 }

@@ -11,8 +11,10 @@ use lib.Seq.{take-all, take-nil}
 use mir.Syntax.{w64}
 use mir.Val.{Fits}
 use Rattle.machine.specs.Machine.{pick}
-use Rattle.rules.specs.Layouts.{stream-header-size}
-use Rattle.rules.specs.Table.{take-entry}
+use Rattle.rules.specs.Numbers.{bad-entry}
+use Rattle.rules.specs.Judging.{refusal, at-place}
+use Rattle.rules.specs.Layouts.{entry, stream-header-size}
+use Rattle.rules.specs.Table.{entry-place, entry-rules, keep, in-reach, take-entry}
 use Rattle.rules.specs.Stream.{stream-bytes}
 use Rattle.rules.specs.Packets.{Holdings, at-first, take-packet}
 use Rattle.rules.specs.State.{Work, World, working}
@@ -22,6 +24,8 @@ use Rattle.rules.specs.Steps.{go, step, packets-at, entry-step, after-entry, pa
 use Rattle.kept_resources.specs.Views.{tables}
 use Rattle.rules.specs.declared.Entry.{Entry}
 use Rattle.rules.specs.declared.Job.{Job}
+use Rattle.rules.specs.declared.Table.{Table}
+use Rattle.rules.specs.declared.Refusal.{Refusal}
 use Rattle.rules.specs.declared.Stream.{Stream}
 use Rattle.rules.specs.declared.Opened.{Opened}
 use Rattle.rules.specs.declared.Verdict.{Verdict}
@@ -72,6 +76,18 @@ pub ruleset playing = (played-part, needs)
 
 -- ---- the phases within the device
 
+-- an entry that is refused is not kept, so as many are kept as its index says
+refused-not-kept : (m : List ℕ) (t : Table) (kept : List Entry) (r : Refusal) → take-entry m t kept .verdict ≡ BrokenRule r → length (take-entry m t kept .kept) ≡ length kept
+unfolding take-entry
+refused-not-kept m t kept r = by-tests (in-reach m t (length kept)) (entry-rules (length m) kept (entry m (entry-place t (length kept))))
+  where
+    by-tests : (b : Bool) (v : Verdict)
+        → pick b (keep v kept (entry m (entry-place t (length kept)))) (record { verdict = BrokenRule (refusal bad-entry); kept = kept }) .verdict ≡ BrokenRule r
+        → length (pick b (keep v kept (entry m (entry-place t (length kept)))) (record { verdict = BrokenRule (refusal bad-entry); kept = kept }) .kept) ≡ length kept
+    by-tests true Fine h = absurd (let z : _≡_ {A = ℕ} 0 1 = cc in omega arith)
+    by-tests true (BrokenRule x) h = refl
+    by-tests false v h = refl
+
 module _ (w : World) (on : w .state .regs .enabled ≡ true) (o : Opened) where
   pub entries-go : (p : Reading) → reading-goes p ≡ true → go (laid w o p) ≡ true
   unfolding go
@@ -82,14 +98,15 @@ module _ (w : World) (on : w .state .regs .enabled ≡ true) (o : Opened) where
       by-ending Done h = absurd (let z : _≡_ {A = ℕ} 0 1 = cc in omega arith)
       by-ending (Broken r) h = absurd (let z : _≡_ {A = ℕ} 0 1 = cc in omega arith)
 
-  read-lays : (k : Work) (kept : List Entry) (v : Verdict) → after-entry (working k w) o kept v ≡ laid w o (read-on (o .table .count) v kept)
+  read-lays : (k : Work) (n : ℕ) (kept : List Entry) (v : Verdict) → ((r : Refusal) → v ≡ BrokenRule r → length kept ≡ n)
+      → after-entry (working k w) o kept (at-place n v) ≡ laid w o (read-on (o .table .count) v kept)
   unfolding settled
-  read-lays k kept Fine = by-test (ltb (length kept) (o .table .count))
+  read-lays k n kept Fine same = by-test (ltb (length kept) (o .table .count))
     where
       by-test : (b : Bool) → working (pick b (entries o kept) (packets-at (o .job) (o .stream) stream-header-size kept (at-first (w .state .resources)))) (working k w) ≡ laid-on w o kept (pick b Going Done)
       by-test true = refl
       by-test false = refl
-  read-lays k kept (BrokenRule r) = refl
+  read-lays k n kept (BrokenRule r) same = rw (same r refl)
 
   pub entries-step : (p : Reading) → reading-goes p ≡ true → step (laid w o p) ≡ laid w o (read-step (w .mem) (o .table) p)
   unfolding step entry-step read-step
@@ -97,7 +114,9 @@ module _ (w : World) (on : w .state .regs .enabled ≡ true) (o : Opened) where
     where
       by-ending : (e : Ending) → onward e ≡ true
           → step (laid-on w o (p .kept) e) ≡ laid w o (read-on (o .table .count) (take-entry (w .mem) (o .table) (p .kept) .verdict) (take-entry (w .mem) (o .table) (p .kept) .kept))
-      by-ending Going h = read-lays (entries o (p .kept)) (take-entry (w .mem) (o .table) (p .kept) .kept) (take-entry (w .mem) (o .table) (p .kept) .verdict)
+      by-ending Going h =
+          read-lays (entries o (p .kept)) (length (p .kept)) (take-entry (w .mem) (o .table) (p .kept) .kept) (take-entry (w .mem) (o .table) (p .kept) .verdict)
+          (refused-not-kept (w .mem) (o .table) (p .kept))
       by-ending Done h = absurd (let z : _≡_ {A = ℕ} 0 1 = cc in omega arith)
       by-ending (Broken r) h = absurd (let z : _≡_ {A = ℕ} 0 1 = cc in omega arith)
 
@@ -111,7 +130,7 @@ module _ (w : World) (on : w .state .regs .enabled ≡ true) (j : Job) (t : Stre
       by-ending Done h = absurd (let z : _≡_ {A = ℕ} 0 1 = cc in omega arith)
       by-ending (Broken r) h = absurd (let z : _≡_ {A = ℕ} 0 1 = cc in omega arith)
 
-  play-lays : (k : Work) (at next : ℕ) (h : Holdings) (v : Verdict) → after-packet (working k w) j t next es h v ≡ played w j t es (play-on at next (t .size) h v)
+  play-lays : (k : Work) (at next : ℕ) (h : Holdings) (v : Verdict) → after-packet (working k w) j t next es h (at-place at v) ≡ played w j t es (play-on at next (t .size) h v)
   unfolding settled
   play-lays k at next h Fine = by-test (ltb next (t .size))
     where

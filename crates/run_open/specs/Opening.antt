@@ -4,6 +4,8 @@ use mathlib.Core.List.{List}
 use Prim.Native.Nat.{ℕ, _<_}
 use borrow.Author.Needs.{needs}
 use lib.ListN.{length, getD, set}
+use Rattle.rules.specs.Judging.{without-place}
+use Rattle.rules.specs.Judging.Finding.{broken}
 use Rattle.rules.specs.Ring.{opening-of}
 use Rattle.rules.specs.State.{World}
 use Rattle.rules.specs.Settle.{one-more, faulted, doorbell-cleared, settled-keeping}
@@ -12,7 +14,6 @@ use Rattle.rules.specs.Settle.{ring-refused}
 use Rattle.rules.specs.declared.Job.{Job}
 use Rattle.rules.specs.declared.Opened.{Opened}
 use Rattle.rules.specs.declared.Refusal.{Refusal}
-use Rattle.rules.specs.declared.Verdict.the-variants.{Broken}
 use Rattle.rules.specs.declared.Opening.{Opening}
 use Rattle.rules.specs.declared.Opening.the-variants.{BadRing, NoWork, Refused, Started}
 use Rattle.run_state.specs.Views.{smallIn, tagIn, worldIn, bareIn}
@@ -34,10 +35,10 @@ pub record Opens (s m s′ m′ : List ℕ) : Type 0 where
 -- ---- fault_ring
 
 abbrev ring-faulted : ℕ → List ℕ → List ℕ
-ring-faulted errors w = set (set (set (set (set w 7 1) 9 10) 10 0) 11 errors) 12 0
+ring-faulted errors w = set (set (set (set (set (set w 7 1) 9 10) 10 0) 11 errors) 30 0) 12 0
 
 pub faults-ring : (s : List ℕ) (low more errors : ℕ) → length s ≡ 32 → low ≡ smallIn (getD s 11 0) → more ≡ one-more low → (errors ≡ more) × (errors < 4294967296)
-    → FaultsRing s (set (set (set (set (set s 7 1) 9 10) 10 0) 11 errors) 12 0)
+    → FaultsRing s (set (set (set (set (set (set s 7 1) 9 10) 10 0) 11 errors) 30 0) 12 0)
 unfolding worldIn faulted doorbell-cleared
 faults-ring s low more errors long a b c =
     record {
@@ -65,13 +66,13 @@ module _ (s m : List ℕ) (none : tagIn s ≡ 0) (size : ℕ) (is : size ≡ sma
         side = spell (λ w. getD (set w 12 0) 28 0) s long;
       }
 
-  pub opens-refused : (j : Job) (why : Refusal) (s₁ s′ m′ : List ℕ) → v ≡ Refused j why → StoresJob s j s₁ → Refuses s₁ m why s′ m′ → Opens s m s′ m′
+  pub opens-refused : (j : Job) (why : Refusal) (s₁ s′ m′ : List ℕ) → v ≡ Refused j why → StoresJob s j s₁ → Refuses s₁ m (record { code = why .code; place = 0 }) s′ m′ → Opens s m s′ m′
   opens-refused j why s₁ s′ m′ e k f =
       record {
         world = λ x r h c.
             f .world x r h c
-            ∙ (ap (λ y. settled-keeping y (Broken why) (bareIn s₁ r m)) (k .job)
-            ∙ (ap (settled-keeping j (Broken why)) (k .bare r m) ∙ as-opened (bareIn s r m) (Refused j why) e));
+            ∙ (ap (λ y. settled-keeping y (broken (without-place why)) (bareIn s₁ r m)) (k .job)
+            ∙ (ap (settled-keeping j (broken (without-place why))) (k .bare r m) ∙ as-opened (bareIn s r m) (Refused j why) e));
         side = f .side ∙ k .side;
       }
 

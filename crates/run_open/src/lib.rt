@@ -1,6 +1,7 @@
 // One unit: the opening of the ring that the registers name now. It comes to a bad ring or no work, to a refusal, or to a submission
 // that has begun.
 use ring_opening::opening::open;
+use rules::Fault;
 use rules::Opening;
 use rules::numbers::BAD_RING;
 use run_begin::start;
@@ -9,6 +10,7 @@ use run_settle::settle_refused;
 use run_state::DOORBELL;
 use run_state::ERROR_CODE;
 use run_state::ERROR_COUNT;
+use run_state::ERROR_DETAIL;
 use run_state::ERROR_FENCE;
 use run_state::FAILED;
 use run_state::RING;
@@ -21,7 +23,7 @@ ghost use mathlib.Core.Path.{_≡_};
 ghost use Rattle.run_state.specs.Views.{tagIn};
 ghost use Rattle.run_open.specs.Opening.{FaultsRing, Opens};
 
-// A bad ring: the error with fence 0, and the doorbell flag cleared.
+// A bad ring: the error with fence 0 and no place, and the doorbell flag cleared.
 fn fault_ring(words: &mut Words)
     ensures { λ _. ⌜ FaultsRing (now (words .entry)) (now (words .exit)) ⌝ }
 {
@@ -31,6 +33,7 @@ fn fault_ring(words: &mut Words)
     words[ERROR_CODE] = BAD_RING as u64;
     words[ERROR_FENCE] = 0;
     words[ERROR_COUNT] = errors;
+    words[ERROR_DETAIL] = 0;
     words[DOORBELL] = 0;
 }
 
@@ -50,8 +53,12 @@ pub fn open_ring(words: &mut Words, mem: &mut [u8])
             words[DOORBELL] = 0;
         }
         Opening::Refused(job, why) => {
+            let fault = Fault {
+                code: why.code,
+                place: 0,
+            };
             store_job(words, job);
-            settle_refused(words, mem, why);
+            settle_refused(words, mem, fault);
         }
         Opening::Started(o) => {
             start(words, o);

@@ -11,7 +11,7 @@ use Rattle.machine.specs.Machine.{pick}
 use Rattle.rules.specs.Shapes.{larger}
 use Rattle.rules.specs.Settle.{one-more, faulted, signalled, ended-by, head-written, marked, settled}
 use Rattle.rules.specs.declared.Job.{Job}
-use Rattle.rules.specs.declared.Refusal.{Refusal}
+use Rattle.rules.specs.declared.Fault.{Fault}
 use Rattle.settle.specs.Settling.{page-put}
 use Rattle.settle.specs.Laws.{marks-as}
 use Rattle.run_state.specs.Views.{setIn, flagOf, smallIn, registersIn, jobIn, worldIn, deskIn}
@@ -47,19 +47,20 @@ set-flag true = refl
 set-flag false = refl
 
 -- the words with an error set
-abbrev faulted-words : ℕ → ℕ → List ℕ → List ℕ
-faulted-words code errors s = set (set (set (set s 7 1) 9 code) 10 (getD s 16 0)) 11 errors
+abbrev faulted-words : ℕ → ℕ → ℕ → List ℕ → List ℕ
+faulted-words code errors place s = set (set (set (set (set s 7 1) 9 code) 10 (getD s 16 0)) 11 errors) 30 place
 
-pub refuses : (s s′ m m′ : List ℕ) (why : Refusal) (code low more errors : ℕ) → length s ≡ 32 → low ≡ smallIn (getD s 11 0) → more ≡ one-more low → (errors ≡ more) × (errors < 4294967296)
-    → (code ≡ why .code) × (code < 4294967296) → Finishes (set (set (set (set s 7 1) 9 code) 10 (getD s 16 0)) 11 errors) m s′ m′ → Refuses s m why s′ m′
+pub refuses : (s s′ m m′ : List ℕ) (why : Fault) (code low more errors place : ℕ) → length s ≡ 32 → low ≡ smallIn (getD s 11 0) → more ≡ one-more low → (errors ≡ more) × (errors < 4294967296)
+    → (code ≡ why .code) × (code < 4294967296) → (place ≡ why .place) × (place < 4294967296)
+    → Finishes (set (set (set (set (set s 7 1) 9 code) 10 (getD s 16 0)) 11 errors) 30 place) m s′ m′ → Refuses s m why s′ m′
 unfolding worldIn settled ended-by signalled faulted signalled-words
-refuses s s′ m m′ why code low more errors long is-low is-more is-errors is-code f =
+refuses s s′ m m′ why code low more errors place long is-low is-more is-errors is-code is-place f =
     record {
       world = λ e r h c.
           rw (f .words, f .mem)
-          (spell (λ w. worldIn (signalled-words (faulted-words code errors w)) e r h c (marked (jobIn (faulted-words code errors w)) (registersIn (signalled-words (faulted-words code errors w))) m)) s long
-          ∙ rw (set-flag (setIn (getD s 6 0) || (ltb (getD s 5 0) (getD s 16 0) && not (setIn (getD s 17 0)))), small-as code (why .code) is-code, small-as errors more is-errors, is-more, is-low));
-      side = rw (f .words) (spell (λ w. getD (signalled-words (faulted-words code errors w)) 28 0) s long);
+          (spell (λ w. worldIn (signalled-words (faulted-words code errors place w)) e r h c (marked (jobIn (faulted-words code errors place w)) (registersIn (signalled-words (faulted-words code errors place w))) m)) s long
+          ∙ rw (set-flag (setIn (getD s 6 0) || (ltb (getD s 5 0) (getD s 16 0) && not (setIn (getD s 17 0)))), small-as code (why .code) is-code, small-as errors more is-errors, is-more, is-low, small-as place (why .place) is-place));
+      side = rw (f .words) (spell (λ w. getD (signalled-words (faulted-words code errors place w)) 28 0) s long);
     }
 
 pub ruleset refusing = (refuses, needs)

@@ -6,10 +6,10 @@ use Prim.Native.Nat.{ℕ}
 use lib.Dec.{ltb}
 use lib.ListN.{getD, set}
 use Rattle.machine.specs.Machine.{pick}
+use Rattle.rules.specs.Judging.Finding.{fine, broken}
 use Rattle.rules.specs.Shapes.{larger}
 use Rattle.rules.specs.Settle.{marked, settled, settled-keeping}
-use Rattle.rules.specs.declared.Refusal.{Refusal}
-use Rattle.rules.specs.declared.Verdict.the-variants.{Fine, Broken}
+use Rattle.rules.specs.declared.Fault.{Fault}
 use Rattle.run_state.specs.Views.{setIn, flagOf, registersIn, jobIn, heldIn, worldIn, bareIn, sideIn, deskIn}
 
 -- the words with the job's fence signalled, and nothing in work
@@ -25,9 +25,9 @@ pub record Finishes (s m s′ m′ : List ℕ) : Type 0 where
   pub words : s′ ≡ signalled-words s
   pub mem : m′ ≡ marked (jobIn s) (registersIn (signalled-words s)) m
 
--- the submission in work settled with a broken rule, whatever the rows are; the same table stays the device's
-pub record Refuses (s m : List ℕ) (why : Refusal) (s′ m′ : List ℕ) : Type 0 where
-  pub world : (e r h c : List ℕ) → worldIn s′ e r h c m′ ≡ settled-keeping (jobIn s) (Broken why) (bareIn s r m)
+-- the submission in work settled with a broken rule and its place, whatever the rows are; the same table stays the device's
+pub record Refuses (s m : List ℕ) (why : Fault) (s′ m′ : List ℕ) : Type 0 where
+  pub world : (e r h c : List ℕ) → worldIn s′ e r h c m′ ≡ settled-keeping (jobIn s) (broken why) (bareIn s r m)
   pub side : getD s′ 28 0 ≡ getD s 28 0
 
 -- the other side, if the submission has its own table
@@ -37,4 +37,4 @@ turnedIf side own = pick own (not side) side
 -- settled as good, whatever the rows of both tables are: those that the submission held are the device's
 pub record Accepts (s m s′ m′ : List ℕ) : Type 0 where
   pub world : (e a b c : List ℕ) → deskIn s′ e a b c m′
-      ≡ settled (jobIn s) Fine (heldIn s (pick (sideIn s) b a) (pick (sideIn s) a b) c .resources) (bareIn s (pick (sideIn s) b a) m)
+      ≡ settled (jobIn s) fine (heldIn s (pick (sideIn s) b a) (pick (sideIn s) a b) c .resources) (bareIn s (pick (sideIn s) b a) m)

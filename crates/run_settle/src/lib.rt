@@ -1,10 +1,11 @@
 // How the submission in work is settled, on the device's words: its error if it has one, its fence, then head and page in guest memory.
 // Nothing is in work afterwards. Resources are not touched: a good answer only says which table of them is the device's from now on.
-use rules::Refusal;
+use rules::Fault;
 use run_state::COMPLETED;
 use run_state::COPIED;
 use run_state::ERROR_CODE;
 use run_state::ERROR_COUNT;
+use run_state::ERROR_DETAIL;
 use run_state::ERROR_FENCE;
 use run_state::FAILED;
 use run_state::FENCE_PAGE;
@@ -53,18 +54,20 @@ fn finish(words: &mut Words, mem: &mut [u8])
     mark(mem, job, words[FENCE_PAGE], words[COMPLETED]);
 }
 
-// Settles the submission in work with an error; the device's resources stay.
-pub fn settle_refused(words: &mut Words, mem: &mut [u8], why: Refusal)
+// Settles the submission in work with an error and its place; the device's resources stay.
+pub fn settle_refused(words: &mut Words, mem: &mut [u8], why: Fault)
     ensures { λ _. ⌜ Refuses (now (words .entry)) (now (mem .entry)) why (now (words .exit)) (now (mem .exit)) ⌝ }
 {
     let errors = u32_to_word(one_more(low32(words[ERROR_COUNT])));
     let code = u32_to_word(why.code);
+    let place = u32_to_word(why.place);
     let fence = words[JOB_SIGNAL];
     let all = &words[..];
     words[FAILED] = 1;
     words[ERROR_CODE] = code;
     words[ERROR_FENCE] = fence;
     words[ERROR_COUNT] = errors;
+    words[ERROR_DETAIL] = place;
     finish(words, mem);
 }
 

@@ -1,6 +1,6 @@
 -- A device's words and tables as the rules' state: word 0 the memory's length, 1 to 12 the registers in the order of `Registers`, 13 the
 -- tag of what is in work, 14 to 23 its numbers, 24 to 27 how many rows of each table are live, 28 which table of resources is the device's,
--- 29 whether the submission has the other for its own; 30 and 31 say nothing. Any words mean some state.
+-- 29 whether the submission has the other for its own, 30 the last error's detail; 31 says nothing. Any words mean some state.
 use mathlib.Core.Path.{_≡_}
 use mathlib.Core.Bool.{Bool, true, false}
 use mathlib.Core.List.{List, []}
@@ -42,7 +42,7 @@ countIn x = pick (ltb most x) most x
 abbrev pub registersIn : List ℕ → Registers
 registersIn s =
     registers-of (getD s 1 0) (smallIn (getD s 2 0)) (setIn (getD s 3 0)) (getD s 4 0) (getD s 5 0) (setIn (getD s 6 0)) (setIn (getD s 7 0))
-    (smallIn (getD s 8 0)) (record { code = smallIn (getD s 9 0); fence = getD s 10 0; count = smallIn (getD s 11 0) }) (setIn (getD s 12 0))
+    (smallIn (getD s 8 0)) (record { code = smallIn (getD s 9 0); fence = getD s 10 0; count = smallIn (getD s 11 0); detail = smallIn (getD s 30 0) }) (setIn (getD s 12 0))
 
 abbrev pub tagIn : List ℕ → ℕ
 tagIn s = getD s 13 0

@@ -88,6 +88,9 @@ pub const SIDE: usize = 28;
 // Whether the submission in work has changed its resources, and so has the other table for its own.
 pub const COPIED: usize = 29;
 
+// Where the last error broke: it goes with the three words of the error above.
+pub const ERROR_DETAIL: usize = 30;
+
 // A flag as a word says it: any word but 0 is set.
 pub fn is_set(word: u64) -> bool
     ensures { λ r. ⌜ r ≡ setIn word ⌝ }

@@ -14,12 +14,13 @@ use Rattle.words.specs.Over.{length-over, part-at, part-before, drop-after, get
 use Rattle.words.specs.Fields.{length-bytesOf, le-bytesOf}
 use Rattle.rules.specs.Bytes.{le, bytesOf}
 use Rattle.rules.specs.Lists.{over}
+use Rattle.rules.specs.Judging.{Finding}
+use Rattle.rules.specs.Judging.Finding.{fine, broken}
 use Rattle.rules.specs.Layouts.{word, head-offset, page-bytes}
 use Rattle.rules.specs.Settle.{faulted, signalled, faulted-by, ended-by, written, next-head, head-written, page-written, marked}
 use Rattle.rules.specs.declared.Registers.{Registers}
 use Rattle.rules.specs.declared.Job.{Job}
-use Rattle.rules.specs.declared.Verdict.{Verdict}
-use Rattle.rules.specs.declared.Verdict.the-variants.{Fine, Broken}
+use Rattle.rules.specs.declared.Fault.{Fault}
 use Rattle.settle.specs.Settling.{page-size, head-size}
 use Rattle.settle.specs.Laws.{written-within, length-page-bytes}
 
@@ -144,25 +145,25 @@ module _ (j : Job) (r : Registers) (m : List ℕ) where
 -- ---- the registers that say where memory is written, and those that only rise
 
 -- what no error changes, settling takes over from the registers before it
-by-verdict : {A : Type 0} (part : Registers → A) (v : Verdict) (fence : ℕ) (r : Registers)
-    → ((code : ℕ) → part (faulted code fence r) ≡ part r) → part (faulted-by v fence r) ≡ part r
-by-verdict part Fine fence r h = refl
-by-verdict part (Broken f) fence r h = h (f .code)
+by-finding : {A : Type 0} (part : Registers → A) (v : Finding) (fence : ℕ) (r : Registers)
+    → ((f : Fault) → part (faulted f fence r) ≡ part r) → part (faulted-by v fence r) ≡ part r
+by-finding part fine fence r h = refl
+by-finding part (broken f) fence r h = h f
 
-module _ (j : Job) (v : Verdict) (r : Registers) where
+module _ (j : Job) (v : Finding) (r : Registers) where
   pub settling-keeps-page : ended-by j v r .fencepage ≡ r .fencepage
   unfolding ended-by signalled faulted
-  settling-keeps-page = by-verdict (λ x. x .fencepage) v (j .signal) r (λ code. refl)
+  settling-keeps-page = by-finding (λ x. x .fencepage) v (j .signal) r (λ f. refl)
 
   pub settling-keeps-ring : ended-by j v r .ring ≡ r .ring
   unfolding ended-by signalled faulted
-  settling-keeps-ring = by-verdict (λ x. x .ring) v (j .signal) r (λ code. refl)
+  settling-keeps-ring = by-finding (λ x. x .ring) v (j .signal) r (λ f. refl)
 
   -- the completed fence is at least what it was, and at least the fence signalled
   pub completed-rises : (r .completed ≤ ended-by j v r .completed) × (j .signal ≤ ended-by j v r .completed)
   unfolding ended-by signalled faulted
   completed-rises =
-      let same : faulted-by v (j .signal) r .completed ≡ r .completed = by-verdict (λ x. x .completed) v (j .signal) r (λ code. refl) in
+      let same : faulted-by v (j .signal) r .completed ≡ r .completed = by-finding (λ x. x .completed) v (j .signal) r (λ f. refl) in
       rw same (by-test (ltb (r .completed) (j .signal)) refl)
     where
       by-test : (t : Bool) → ltb (r .completed) (j .signal) ≡ t → (r .completed ≤ pick t (j .signal) (r .completed)) × (j .signal ≤ pick t (j .signal) (r .completed))

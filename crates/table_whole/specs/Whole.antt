@@ -2,20 +2,21 @@
 use mathlib.Core.Path.{_≡_, refl, sym, ap, _∙_}
 use mathlib.Core.Bool.{Bool, true, false, not}
 use mathlib.Core.List.{List, [], _∷_}
-use Prim.Native.Nat.{ℕ, zero, suc, _+_, _*_, _-_, _^_, _≤_, _<_}
-use native.Mathlib.Nat.{zero-add, sub-zero, mul-le-mul-right, suc-mul}
+use Prim.Native.Nat.{ℕ, zero, suc, _+_, _*_, _-_, _%_, _^_, _≤_, _<_}
+use native.Mathlib.Nat.{zero-add, sub-zero, mul-le-mul-right, suc-mul, mod-eq-of-lt}
 use native.Mathlib.Numerals.{add-one}
 use native.Mathlib.Omega.{arith}
 use borrow.Author.Needs.{needs}
 use borrow.Author.Tests.{not-true, not-false}
 use lib.ListN.{length}
-use Rattle.rules.specs.Numbers.{bad-entry, twice-in-table, most}
+use Rattle.rules.specs.Numbers.{bad-entry, twice-in-table, most, no-place}
 use Rattle.rules.specs.Lists.{pushed}
-use Rattle.rules.specs.Judging.{rule, number}
+use Rattle.rules.specs.Judging.{Finding, rule, number, place-of}
 use Rattle.rules.specs.Layouts.{word, entry, entry-size, table-header, table-header-size}
-use Rattle.rules.specs.Table.{entry-id, matching, is-found, entry-rules, entry-place, entries-from, entries-of, stop-or-go, judge-entries, header-rules, table-of, table-verdict, table-error}
+use Rattle.rules.specs.Table.{entry-id, matching, is-found, entry-rules, entry-place, entries-from, entries-of, stop-or-go, judge-entries, header-rules, table-of, table-finding}
 use Rattle.rules.specs.declared.Entry.{Entry}
 use Rattle.rules.specs.declared.Refusal.{Refusal}
+use Rattle.rules.specs.declared.Fault.{Fault}
 use Rattle.rules.specs.declared.Table.{Table}
 use Rattle.rules.specs.declared.Verdict.{Verdict}
 use Rattle.rules.specs.declared.Verdict.the-variants.{Fine, Broken}
@@ -25,6 +26,10 @@ use Rattle.table_header.specs.Header.{headed, Sized, fine-sized}
 use Rattle.table_entries.specs.Entry.{sound, unsound, sound-once}
 use Rattle.table_header.specs.declared.header.CheckedTable.{CheckedTable}
 use Rattle.table_header.specs.declared.header.CheckedTable.the-variants.{Good, Bad}
+
+-- what was found, as a host is shown it: number and place
+abbrev pub shown : Finding → Fault
+shown f = record { code = number f; place = place-of f }
 
 -- a table that stands at the front of some bytes, with each of its entries within them
 pub record Within (b : List ℕ) (t : Table) : Type 0 where
@@ -55,7 +60,12 @@ module _ (m : List ℕ) (t : Table) where
   pub entries-more : (n : ℕ) → entries-from m t 0 (n + 1) ≡ pushed (entries-from m t 0 n) (entry m (entry-place t n))
   entries-more n = rw (from-tab, from-tab, add-one, tab-snoc, zero-add)
 
--- ---- entries_error
+  pub length-entries : (k n : ℕ) → length (entries-from m t k n) ≡ n
+  unfolding entries-from
+  length-entries k zero = refl
+  length-entries k (suc n) = ap suc (length-entries (suc k) n)
+
+-- ---- entries_fault
 
 -- an entry of such a table lies within its bytes
 pub entry-room : (b : List ℕ) (t : Table) (i o : ℕ) → Within b t → i < t .count → (o ≡ table-header-size + i * t .stride) × (o + 2 ^ 32 ≤ 2 ^ 64)
@@ -75,7 +85,7 @@ module _ (b : List ℕ) (memory : ℕ) (t : Table) where
   -- what is found from entry i on is what is found in all
   abbrev pub Scanned : ℕ → Type 0
   Scanned i =
-      judge-entries memory [] (entries-of b t) .verdict ≡ judge-entries memory (entries-from b t 0 i) (entries-from b t i (t .count - i)) .verdict
+      judge-entries memory [] (entries-of b t) .finding ≡ judge-entries memory (entries-from b t 0 i) (entries-from b t i (t .count - i)) .finding
 
   -- an id is among the first i entries where it is among those from entry j to entry i
   abbrev pub Sought : ℕ → ℕ → ℕ → Type 0
@@ -85,7 +95,7 @@ module _ (b : List ℕ) (memory : ℕ) (t : Table) where
   unfolding entries-from
   scan-start = rw sub-zero
 
-  pub scan-end : (i : ℕ) → Scanned i → t .count ≤ i → 0 ≡ number (judge-entries memory [] (entries-of b t) .verdict)
+  pub scan-end : (i : ℕ) → Scanned i → t .count ≤ i → record { code = 0; place = no-place } ≡ shown (judge-entries memory [] (entries-of b t) .finding)
   unfolding judge-entries
   scan-end i inv h = rw (inv, entries-none b t i (t .count) h)
 
@@ -97,13 +107,16 @@ module _ (b : List ℕ) (memory : ℕ) (t : Table) where
     place : entry b (entry-place t i) ≡ e
     place = sym (read ∙ ap (λ k. entry b k) (at-front b t i o w at))
 
-    here : judge-entries memory [] (entries-of b t) .verdict
-        ≡ stop-or-go (entry-rules memory (entries-from b t 0 i) e) (judge-entries memory (pushed (entries-from b t 0 i) e) (entries-from b t (i + 1) (t .count - (i + 1)))) .verdict
+    here : judge-entries memory [] (entries-of b t) .finding
+        ≡ stop-or-go i (entry-rules memory (entries-from b t 0 i) e) (judge-entries memory (pushed (entries-from b t 0 i) e) (entries-from b t (i + 1) (t .count - (i + 1)))) .finding
     unfolding judge-entries
-    here = rw (inv, entries-first b t i (t .count) h, place)
+    here = rw (inv, entries-first b t i (t .count) h, place, length-entries b t 0 i)
 
-    pub scan-unsound : not good ≡ true → bad-entry ≡ number (judge-entries memory [] (entries-of b t) .verdict)
-    scan-unsound p = rw (here, unsound memory (entries-from b t 0 i) e (sym is ∙ not-true good p))
+    uncut : i % 2 ^ 32 ≡ i
+    uncut = mod-eq-of-lt (omega (arith, w .few))
+
+    pub scan-unsound : not good ≡ true → record { code = bad-entry; place = i } ≡ shown (judge-entries memory [] (entries-of b t) .finding)
+    scan-unsound p = rw (here, unsound memory (entries-from b t 0 i) e (sym is ∙ not-true good p), uncut)
 
     module _ (p : not good ≡ false) (j : ℕ) (so-far : Sought (e .id) i j) where
       once : entry-rules memory (entries-from b t 0 i) e ≡ rule twice-in-table (is-found (matching (e .id) (entries-from b t j (i - j))))
@@ -118,9 +131,9 @@ module _ (b : List ℕ) (memory : ℕ) (t : Table) where
         unfolding entry
         id-there = sym (read′ ∙ ap (λ k. word b k) (at-front b t j o′ w at′))
 
-        pub scan-twice : x ≡ e .id → twice-in-table ≡ number (judge-entries memory [] (entries-of b t) .verdict)
+        pub scan-twice : x ≡ e .id → record { code = twice-in-table; place = i } ≡ shown (judge-entries memory [] (entries-of b t) .finding)
         scan-twice r =
-            rw (here, once, entries-first b t j i q, lookup-here entry-id (e .id) (entry b (entry-place t j)) (entries-from b t (j + 1) (i - (j + 1))) (id-there ∙ r))
+            rw (here, once, entries-first b t j i q, lookup-here entry-id (e .id) (entry b (entry-place t j)) (entries-from b t (j + 1) (i - (j + 1))) (id-there ∙ r), uncut)
 
         pub sought-next : (x ≡ e .id → ⊥) → Sought (e .id) i (j + 1)
         sought-next r =
@@ -129,7 +142,7 @@ module _ (b : List ℕ) (memory : ℕ) (t : Table) where
 
 pub ruleset scanning = (entry-room, id-room, scan-start, scan-end, sought-start, scan-unsound, scan-next, scan-twice, sought-next, needs)
 
--- ---- first_error
+-- ---- first_fault
 
 -- what the end of a header's check says of its rules
 bad-rules : (v : Verdict) (t : Table) (why : Refusal) → headed v t ≡ Bad why → v ≡ Broken why
@@ -141,8 +154,8 @@ good-rules Fine t t′ e = (refl, cc)
 good-rules (Broken x) t t′ e = let z : _≡_ {A = ℕ} 0 1 = cc in absurd (omega arith)
 
 module _ (b : List ℕ) (memory : ℕ) (r : CheckedTable) (checked : r ≡ headed (header-rules (length b) (table-header b 0)) (table-of 0 (table-header b 0))) where
-  pub first-in-header : (why : Refusal) → r ≡ Bad why → why .code ≡ table-error b memory
-  unfolding table-error table-verdict
+  pub first-in-header : (why : Refusal) → r ≡ Bad why → record { code = why .code; place = no-place } ≡ shown (table-finding b memory)
+  unfolding table-finding
   first-in-header why told =
       let e : header-rules (length b) (table-header b 0) ≡ Broken why =
       bad-rules (header-rules (length b) (table-header b 0)) (table-of 0 (table-header b 0)) why (sym checked ∙ told) in
@@ -157,8 +170,8 @@ module _ (b : List ℕ) (memory : ℕ) (r : CheckedTable) (checked : r ≡ heade
         let s : Sized (length b) (table-header b 0) = fine-sized (length b) (table-header b 0) (both .0) in
         rw (both .1) (record { front = refl; few = s .few; wide = s .wide; room = s .room })
 
-    pub first-in-entries : (x : ℕ) → x ≡ number (judge-entries memory [] (entries-of b t) .verdict) → x ≡ table-error b memory
-    unfolding table-error table-verdict
+    pub first-in-entries : (x : Fault) → x ≡ shown (judge-entries memory [] (entries-of b t) .finding) → x ≡ shown (table-finding b memory)
+    unfolding table-finding
     first-in-entries x e = rw (both .0, e, both .1)
 
-pub ruleset first-error-of = (first-in-header, first-in-entries, within-bytes, needs)
+pub ruleset first-fault-of = (first-in-header, first-in-entries, within-bytes, needs)

@@ -16,6 +16,9 @@ use Rattle.device_calls.specs.declared.RecordRead.{RecordRead}
 use Rattle.device_memory_calls.specs.Views.{Runs, Answers}
 use Rattle.device_memory_calls.specs.declared.Spent.{Spent}
 use Rattle.zelezmut.specs.Said.{saidValue, saidRun, recordWords, SaysValue, SaysRun, SaysRecord}
+use Rattle.rules.specs.Table.{table-finding, table-error, table-place}
+use Rattle.rules.specs.declared.Fault.{Fault}
+use Rattle.table_whole.specs.Whole.{shown}
 
 -- ---- zelezmut_read
 
@@ -70,3 +73,16 @@ pub answered-as : (s m : List ℕ) (good n answer : ℕ) (b : Bool) (s′ m′ :
 answered-as s m good n answer b s′ m′ p q k = rw (← p .0, ← q) k
 
 pub ruleset handing-on = (made-at, answered-as, needs)
+
+-- ---- zelezmut_table_error, zelezmut_table_place
+
+module _ (b : List ℕ) (memory : ℕ) (f : Fault) (found : f ≡ shown (table-finding b memory)) where
+  pub says-error : f .code ≡ table-error b memory
+  unfolding table-error
+  says-error = rw found
+
+  pub says-place : f .place ≡ table-place b memory
+  unfolding table-place
+  says-place = rw found
+
+pub ruleset saying-fault = (says-error, says-place, needs)

@@ -4,7 +4,7 @@ pub mod device;
 
 ghost use mathlib.Core.Path.{_≡_};
 ghost use Rattle.rules.specs.Shapes.{packed-size};
-ghost use Rattle.rules.specs.Table.{table-error};
+ghost use Rattle.rules.specs.Table.{table-error, table-place};
 
 // For the emulator's host: the bytes of a backed texture, 0 for a bad shape or pitch.
 #[no_mangle]
@@ -27,5 +27,15 @@ pub extern "C" fn zelezmut_packed_size(
 pub extern "C" fn zelezmut_table_error(table: &[u8], memory: u64) -> u32
     ensures { λ r. ⌜ r ≡ table-error (now (table .entry)) memory ⌝ }
 {
-    table_whole::whole::first_error(table, memory)
+    let fault = table_whole::whole::first_fault(table, memory);
+    fault.code
+}
+
+// Where that error stands: the index of the entry for 14 and 15, else 0.
+#[no_mangle]
+pub extern "C" fn zelezmut_table_place(table: &[u8], memory: u64) -> u32
+    ensures { λ r. ⌜ r ≡ table-place (now (table .entry)) memory ⌝ }
+{
+    let found = table_whole::whole::first_fault(table, memory);
+    found.place
 }

@@ -44,7 +44,7 @@ impl Call {
     pub fn input(self) -> &'static str {
         match self {
             Call::Write => "the value 1 to each of the 9 registers that can be written, in turn",
-            Call::Read => "each of the 18 registers that can be read, in turn",
+            Call::Read => "each of the 19 registers that can be read, in turn",
             Call::Record => "each of the 64 records of a waiting submission, in turn",
             Call::Run => "a run of 65,535 units on an enabled device that has nothing to do",
             Call::Answer => "a good answer to a waiting submission of one unknown packet, nothing live; each to a device of its own",

@@ -1,5 +1,6 @@
 //! What the desks of a run reached. A comparison that meets no rule says nothing, so tests hold these counts to a least number.
 
+use crate::detail::{seen, Detail, Errors, DETAILS};
 use crate::event::{Event, EVENTS};
 use crate::front::{Ended, Front};
 use crate::generator::Drawn;
@@ -9,13 +10,16 @@ use crate::target::Target;
 use crate::twists::{Aim, Outcome};
 use std::collections::{BTreeMap, BTreeSet};
 use std::fmt;
-use zelezmut::registers::{ERROR_CODE, ERROR_COUNT, IRQ_STATUS};
+use zelezmut::registers::IRQ_STATUS;
+use zelezmut::script::Operation;
 
 /// Something that every run of many desks meets.
 #[derive(Clone, Copy, Debug, PartialEq, Eq, PartialOrd, Ord)]
 pub enum Met {
     /// An error, where the error registers showed it.
     Error(u32),
+    /// Where an error arose, where the error registers showed it, and what became of that.
+    Detail(Detail),
     /// A call, and its answer.
     Answer(&'static str, u32),
     /// How a run ended.
@@ -50,6 +54,7 @@ impl Met {
     /// All that there is to meet.
     fn all() -> impl Iterator<Item = Met> {
         let errors = (RING..=HOST_FAILED).map(Met::Error);
+        let details = DETAILS.iter().copied().map(Met::Detail);
         let answers = ANSWERS
             .iter()
             .map(|&(call, answer)| Met::Answer(call, answer));
@@ -58,6 +63,7 @@ impl Met {
         let statuses = (0..=3).map(Met::Status);
         let events = EVENTS.iter().copied().map(Met::Event);
         errors
+            .chain(details)
             .chain(answers)
             .chain(endings)
             .chain(records)
@@ -68,6 +74,7 @@ impl Met {
     fn group(self) -> &'static str {
         match self {
             Met::Error(_) => "error",
+            Met::Detail(_) => "detail",
             Met::Answer(..) => "answer",
             Met::Ended(_) => "ending",
             Met::Record(_) => "record",
@@ -79,6 +86,7 @@ impl Met {
     fn name(self) -> String {
         match self {
             Met::Error(number) | Met::Record(number) | Met::Status(number) => number.to_string(),
+            Met::Detail(detail) => format!("{:?}", detail),
             Met::Answer(call, answer) => format!("{} {}", call, answer),
             Met::Ended(ended) => ended.to_string(),
             Met::Event(event) => format!("{:?}", event),
@@ -107,7 +115,8 @@ pub struct Coverage {
 /// What is told of one desk while it is played.
 pub struct Watch {
     head_at: usize,
-    error_count: u32,
+    /// The error registers after the last operation.
+    registers: Errors,
     errors: BTreeSet<u32>,
     /// The ring's heads at which a submission waited.
     waited: BTreeSet<u32>,
@@ -117,7 +126,7 @@ impl Watch {
     pub fn new(drawn: &Drawn) -> Watch {
         Watch {
             head_at: drawn.head_at as usize,
-            error_count: 0,
+            registers: Errors::default(),
             errors: BTreeSet::new(),
             waited: BTreeSet::new(),
         }
@@ -135,7 +144,13 @@ impl Coverage {
     }
 
     /// Counts what an operation came to.
-    pub fn operation<F: Front>(&mut self, watch: &mut Watch, said: &Said, seat: &Seat<F>) {
+    pub fn operation<F: Front>(
+        &mut self,
+        watch: &mut Watch,
+        operation: &Operation,
+        said: &Said,
+        seat: &Seat<F>,
+    ) {
         self.operations += 1;
         match said {
             Said::Nothing => {}
@@ -161,7 +176,9 @@ impl Coverage {
                 }
             }
         }
-        self.errors(watch, seat);
+        self.errors(watch, operation, seat);
+        let (_, status) = seat.front.read(IRQ_STATUS);
+        self.count(Met::Status(status));
     }
 
     fn records<F: Front>(&mut self, seat: &Seat<F>) {
@@ -174,16 +191,16 @@ impl Coverage {
     }
 
     /// Of several errors in one operation only the last can be seen.
-    fn errors<F: Front>(&mut self, watch: &mut Watch, seat: &Seat<F>) {
-        let (_, errors) = seat.front.read(ERROR_COUNT);
-        if errors != watch.error_count {
-            watch.error_count = errors;
-            let (_, error) = seat.front.read(ERROR_CODE);
-            watch.errors.insert(error);
-            self.count(Met::Error(error));
+    fn errors<F: Front>(&mut self, watch: &mut Watch, operation: &Operation, seat: &Seat<F>) {
+        let (before, after) = (watch.registers, Errors::of(&seat.front));
+        if before.count != after.count {
+            watch.errors.insert(after.code);
+            self.count(Met::Error(after.code));
         }
-        let (_, status) = seat.front.read(IRQ_STATUS);
-        self.count(Met::Status(status));
+        for detail in seen(operation, before, after) {
+            self.count(Met::Detail(detail));
+        }
+        watch.registers = after;
     }
 
     /// Counts a desk that was played to its end.

@@ -24,8 +24,8 @@ pub fn compare<L: Front, R: Front>(
             flag: "",
         };
         examine(&drawn, pairing, |operations| {
-            play::<L, R>(drawn.memory, operations, |said, seat| {
-                coverage.operation(&mut watch, said, seat)
+            play::<L, R>(drawn.memory, operations, |operation, said, seat| {
+                coverage.operation(&mut watch, operation, said, seat)
             })
         })?;
         coverage.desk(&drawn, &watch);

@@ -1,4 +1,4 @@
-//! Inputs for the two small exports: shapes good and bad, and tables with a lent length and a memory length.
+//! Inputs for the small exports: shapes good and bad, and tables with a lent length and a memory length.
 
 use crate::image::{Entry, Table};
 use crate::numbers::{FORMATS, LONGEST_SIDE, MOST_ENTRIES, MOST_LAYERS, TABLE_HEADER};

@@ -21,6 +21,8 @@ pub trait Front {
     fn packed_size(shape: Shape) -> u64;
     /// 0 is no error.
     fn table_error(table: &[u8], memory: u64) -> u32;
+    /// The index of the entry that has the error, 0 if none has.
+    fn table_place(table: &[u8], memory: u64) -> u32;
 }
 
 impl Front for plain::Desk {
@@ -63,6 +65,10 @@ impl Front for plain::Desk {
 
     fn table_error(table: &[u8], memory: u64) -> u32 {
         plain::table_error(table, memory)
+    }
+
+    fn table_place(table: &[u8], memory: u64) -> u32 {
+        plain::table_place(table, memory)
     }
 }
 
@@ -134,7 +140,13 @@ impl Front for zelezmut::Desk {
     }
 
     fn table_error(table: &[u8], memory: u64) -> u32 {
-        zelezmut::table_error(table, memory).map_or(0, |error| error.number())
+        zelezmut::table_error(table, memory).map_or(0, |found| found.error.number())
+    }
+
+    fn table_place(table: &[u8], memory: u64) -> u32 {
+        zelezmut::table_error(table, memory)
+            .and_then(|found| found.entry)
+            .unwrap_or(0)
     }
 }
 

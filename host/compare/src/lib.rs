@@ -2,7 +2,7 @@
 //!
 //! - Random desks ([`generator`]) are played through both ([`player`]): every answer, value, register, record and byte is equal.
 //! - One desk's runs cut into random slices come to the same ([`slicing`]).
-//! - Both small exports give the same on random and boundary shapes and tables ([`exports`]).
+//! - The small exports, about a shape or a table alone, give the same on random and boundary ones ([`exports`]).
 //! - What the desks reach is counted ([`coverage`]), so that the generator cannot become empty.
 //! - [`measures`] is what the benchmark measures: submissions ([`mod@bench`]) of its inputs ([`cases`]), and single calls ([`calls`]).
 
@@ -16,6 +16,7 @@ pub mod chart;
 mod contents;
 pub mod coverage;
 pub mod desks;
+mod detail;
 mod draft;
 pub mod event;
 pub mod exports;

@@ -6,8 +6,8 @@ use crate::image::Descriptor;
 use crate::numbers::{DESCRIPTOR, NO_IRQ, READ_ONLY, RING_HEAD, STREAM_HEADER, TABLE_HEADER};
 use crate::submission::{Belief, Submission};
 use zelezmut::registers::{
-    COMPLETED_FENCE_LO, CONTROL_ENABLE, CONTROL_RESET, DOORBELL, ERROR_CODE, ERROR_COUNT, IRQ_ACK,
-    IRQ_ENABLE, MAGIC, READABLE, WRITABLE,
+    COMPLETED_FENCE_LO, CONTROL_ENABLE, CONTROL_RESET, DOORBELL, ERROR_CODE, ERROR_COUNT,
+    ERROR_DETAIL, IRQ_ACK, IRQ_ENABLE, MAGIC, READABLE, WRITABLE,
 };
 use zelezmut::script::Operation;
 use zelezmut::HostAnswer;
@@ -75,7 +75,8 @@ impl Author {
             COMPLETED_FENCE_LO,
             ERROR_CODE,
             ERROR_COUNT,
-            ERROR_COUNT + 4,
+            ERROR_DETAIL,
+            ERROR_DETAIL + 4,
         ]);
         let index = self.random.pick(&[0, 1, 63, 64, u32::MAX]);
         let operation = match self.random.within(0..=8) {

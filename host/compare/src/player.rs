@@ -159,12 +159,12 @@ pub fn equal<L: Front, R: Front>(left: &Seat<L>, right: &Seat<R>) -> Result<(), 
 pub fn play<L: Front, R: Front>(
     memory: u32,
     operations: &[Operation],
-    mut watch: impl FnMut(&Said, &Seat<L>),
+    mut watch: impl FnMut(&Operation, &Said, &Seat<L>),
 ) -> Result<(), Difference> {
     let (mut left, mut right) = (Seat::<L>::new(memory), Seat::<R>::new(memory));
     for (at, operation) in operations.iter().enumerate() {
         match step(&mut left, &mut right, operation) {
-            Ok(said) => watch(&said, &left),
+            Ok(said) => watch(operation, &said, &left),
             Err(difference) => return Err(difference.at(at)),
         }
     }

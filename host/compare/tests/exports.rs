@@ -1,10 +1,11 @@
-//! Both small exports, a texture's packed size and a table's first error, give the same on both sides.
+//! The small exports, a texture's packed size, a table's first error and its place, give the same on both sides.
 
 use compare::exports::{some_shape, some_table};
 use compare::front::Front;
 use compare::random::Random;
 use compare::shape::Shape;
 use std::collections::BTreeMap;
+use std::ops::RangeInclusive;
 
 fn check_shape(shape: Shape) -> u64 {
     let (proved, plain) = (
@@ -83,25 +84,56 @@ fn packed_sizes_of_edge_shapes_are_equal() {
     }
 }
 
+/// A table's first error and its place.
+fn error_and_place<F: Front>(table: &[u8], memory: u64) -> (u32, u32) {
+    (F::table_error(table, memory), F::table_place(table, memory))
+}
+
 #[test]
 fn first_errors_of_random_tables_are_equal() {
     let mut random = Random::new(30);
-    let mut errors = BTreeMap::new();
+    let mut met = BTreeMap::new();
     for _ in 0..100_000 {
         let (table, memory) = some_table(&mut random);
-        let proved = zelezmut::Desk::table_error(&table, memory);
-        let plain = plain::Desk::table_error(&table, memory);
+        let proved = error_and_place::<zelezmut::Desk>(&table, memory);
+        let plain = error_and_place::<plain::Desk>(&table, memory);
         assert_eq!(proved, plain, "memory {}, table {:?}", memory, table);
-        *errors.entry(plain).or_insert(0) += 1;
+        *met.entry(plain).or_insert(0) += 1;
     }
-    for error in [0, 13, 14, 15, 19] {
-        let times = errors.get(&error).copied().unwrap_or(0);
+    let times = |error: u32, places: RangeInclusive<u32>| -> u32 {
+        met.range((error, *places.start())..=(error, *places.end()))
+            .map(|(_, times)| times)
+            .sum()
+    };
+    for (error, places) in [
+        (0, 0..=0),
+        (13, 0..=0),
+        (14, 0..=0),
+        (14, 1..=62),
+        (14, 63..=63),
+        (15, 1..=62),
+        (15, 63..=63),
+        (19, 0..=0),
+    ] {
+        let times = times(error, places.clone());
         assert!(
             times >= 500,
-            "error {} only {} times: {:?}",
+            "error {} at {:?} only {} times: {:?}",
             error,
+            places,
             times,
-            errors
+            met
         );
+    }
+    // Only an entry has a place, the first one can be no other's double, and 64 are all there are.
+    for (error, places) in [
+        (0, 1..=u32::MAX),
+        (13, 1..=u32::MAX),
+        (14, 64..=u32::MAX),
+        (15, 0..=0),
+        (15, 64..=u32::MAX),
+        (19, 1..=u32::MAX),
+    ] {
+        assert_eq!(times(error, places), 0, "error {}: {:?}", error, met);
     }
 }

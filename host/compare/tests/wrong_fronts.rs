@@ -6,8 +6,9 @@ use compare::generator::draw;
 use compare::player::play;
 use compare::shape::Shape;
 use std::fs;
-use zelezmut::registers::ERROR_CODE;
+use zelezmut::registers::{CONTROL, CONTROL_RESET, ERROR_CODE, ERROR_COUNT, ERROR_DETAIL};
 use zelezmut::script::{self, Operation};
+use zelezmut::{DeviceError, Place};
 
 const DOES_NOTHING: u8 = 0;
 const INVENTS_UNITS: u8 = 1;
@@ -16,18 +17,72 @@ const FORGETS_WRITES: u8 = 3;
 const TOUCHES_MEMORY: u8 = 4;
 const PANICS: u8 = 5;
 const READS_ALL_AT_OPENING: u8 = 6;
+const COUNTS_FROM_THE_FIRST_PACKET: u8 = 7;
+const COUNTS_ENTRIES_FROM_1: u8 = 8;
+const KEEPS_OLD_PLACES: u8 = 9;
+const RESETS_PLACES: u8 = 10;
 
 /// An entry that is bad by itself.
 const BAD_ENTRY: u32 = 14;
+
+/// Where the first packet of a stream stands.
+const FIRST_PACKET: u32 = 24;
 
 /// The plain program with one fault.
 struct Wrong<const FAULT: u8> {
     desk: plain::Desk,
     /// Memory as the first unit of the entries in work found it.
     found: Option<Vec<u8>>,
+    /// The last error's detail, as a front with this fault keeps it.
+    detail: u32,
 }
 
 impl<const FAULT: u8> Wrong<FAULT> {
+    /// A call that may end with an error, whose place is then taken.
+    fn call<T>(&mut self, call: impl FnOnce(&mut Self) -> T) -> T {
+        let before = self.desk.read(ERROR_COUNT);
+        let said = call(self);
+        if self.desk.read(ERROR_COUNT) != before {
+            match self.desk.read(ERROR_DETAIL) {
+                (_, 0) if FAULT == KEEPS_OLD_PLACES => {}
+                (_, detail) => self.detail = self.counted(detail),
+            }
+        }
+        said
+    }
+
+    fn counted(&self, detail: u32) -> u32 {
+        let error = DeviceError::from_number(self.desk.read(ERROR_CODE).1);
+        match error.map(|error| Place::of(error, detail)) {
+            Some(Place::Packet(at)) if FAULT == COUNTS_FROM_THE_FIRST_PACKET => at - FIRST_PACKET,
+            Some(Place::Entry(index)) if FAULT == COUNTS_ENTRIES_FROM_1 => index + 1,
+            _ => detail,
+        }
+    }
+
+    fn run_in_its_way(&mut self, memory: &mut [u8], allowance: u16) -> Ran {
+        if FAULT == DOES_NOTHING {
+            let ended = Ended::Idle;
+            return Ran {
+                answer: 0,
+                units: 0,
+                ended,
+            };
+        }
+        if FAULT == READS_ALL_AT_OPENING {
+            return self.run_reading_ahead(memory, allowance);
+        }
+        let mut ran = self.desk.run(memory, allowance);
+        let waits = ran.units > 0 && ran.ended == Ended::Waiting;
+        match FAULT {
+            INVENTS_UNITS if waits => ran.units += 1,
+            TOUCHES_MEMORY if waits => memory[0] ^= 1,
+            PANICS if waits => panic!("a submission waits"),
+            _ => {}
+        }
+        ran
+    }
+
     /// A run whose every unit is as it should be, but that later entries are taken from what the first one's unit found.
     fn run_reading_ahead(&mut self, memory: &mut [u8], allowance: u16) -> Ran {
         let mut ran = self.desk.run(memory, 0);
@@ -78,38 +133,26 @@ impl<const FAULT: u8> Front for Wrong<FAULT> {
         Wrong {
             desk: plain::Desk::new(memory),
             found: None,
+            detail: 0,
         }
     }
 
     fn write(&mut self, offset: u32, value: u32) -> u32 {
+        if FAULT == RESETS_PLACES && offset == CONTROL && value & CONTROL_RESET != 0 {
+            self.detail = 0;
+        }
         self.desk.write(offset, value)
     }
 
     fn read(&self, offset: u32) -> (u32, u32) {
-        self.desk.read(offset)
+        match offset {
+            ERROR_DETAIL => (0, self.detail),
+            _ => self.desk.read(offset),
+        }
     }
 
     fn run(&mut self, memory: &mut [u8], allowance: u16) -> Ran {
-        if FAULT == DOES_NOTHING {
-            let ended = Ended::Idle;
-            return Ran {
-                answer: 0,
-                units: 0,
-                ended,
-            };
-        }
-        if FAULT == READS_ALL_AT_OPENING {
-            return self.run_reading_ahead(memory, allowance);
-        }
-        let mut ran = self.desk.run(memory, allowance);
-        let waits = ran.units > 0 && ran.ended == Ended::Waiting;
-        match FAULT {
-            INVENTS_UNITS if waits => ran.units += 1,
-            TOUCHES_MEMORY if waits => memory[0] ^= 1,
-            PANICS if waits => panic!("a submission waits"),
-            _ => {}
-        }
-        ran
+        self.call(|wrong| wrong.run_in_its_way(memory, allowance))
     }
 
     fn record(&self, i: u32) -> (u32, Record) {
@@ -120,7 +163,7 @@ impl<const FAULT: u8> Front for Wrong<FAULT> {
     }
 
     fn answer(&mut self, memory: &mut [u8], good: bool) -> u32 {
-        self.desk.answer(memory, good || FAULT == ANSWERS_ALIKE)
+        self.call(|wrong| wrong.desk.answer(memory, good || FAULT == ANSWERS_ALIKE))
     }
 
     fn packed_size(shape: Shape) -> u64 {
@@ -130,9 +173,14 @@ impl<const FAULT: u8> Front for Wrong<FAULT> {
     fn table_error(table: &[u8], memory: u64) -> u32 {
         plain::Desk::table_error(table, memory)
     }
+
+    fn table_place(table: &[u8], memory: u64) -> u32 {
+        plain::Desk::table_place(table, memory)
+    }
 }
 
-fn is_told_apart<const FAULT: u8>() {
+/// Gives what is told of the first desk that shows it.
+fn is_told_apart<const FAULT: u8>() -> String {
     // Each fault has its own seeds, so that the scripts have different names.
     let first = 1_000 * u64::from(FAULT);
     let failure = desks::compare::<plain::Desk, Wrong<FAULT>>(first..first + 1_000, |_| {})
@@ -153,6 +201,12 @@ fn is_told_apart<const FAULT: u8>() {
         fs::remove_file(path).expect("the script can be removed");
     }
     assert_eq!(sizes.len(), 2, "{}", told);
+    told
+}
+
+fn is_told_by_the_detail<const FAULT: u8>() {
+    let told = is_told_apart::<FAULT>();
+    assert!(told.contains("register 320"), "{}", told);
 }
 
 #[test]
@@ -205,10 +259,30 @@ fn a_front_that_reads_all_entries_at_the_first_is_right_over_still_memory() {
         let played = play::<plain::Desk, Wrong<READS_ALL_AT_OPENING>>(
             drawn.memory,
             &drawn.operations,
-            |_, _| {},
+            |_, _, _| {},
         );
         if let Err(difference) = played {
             panic!("desk of seed {}: {:?}", seed, difference);
         }
     }
+}
+
+#[test]
+fn a_front_that_counts_packets_from_the_first_is_told_apart() {
+    is_told_by_the_detail::<COUNTS_FROM_THE_FIRST_PACKET>();
+}
+
+#[test]
+fn a_front_that_counts_entries_from_1_is_told_apart() {
+    is_told_by_the_detail::<COUNTS_ENTRIES_FROM_1>();
+}
+
+#[test]
+fn a_front_that_keeps_the_place_of_an_older_error_is_told_apart() {
+    is_told_by_the_detail::<KEEPS_OLD_PLACES>();
+}
+
+#[test]
+fn a_front_that_forgets_a_place_at_reset_is_told_apart() {
+    is_told_by_the_detail::<RESETS_PLACES>();
 }

@@ -1,6 +1,6 @@
 //! The desk: the device's state and its calls.
 
-use crate::errors::Error;
+use crate::errors::{Error, Fault};
 use crate::fence;
 use crate::packets::{Kept, Record};
 use crate::registers::{Registers, Written};
@@ -124,7 +124,11 @@ impl Desk {
             Some(submission) if submission.is_waiting(&self.kept) => submission.ticket,
             _ => return NOTHING_WAITING,
         };
-        let outcome = if good { Ok(()) } else { Err(Error::Host) };
+        let outcome = if good {
+            Ok(())
+        } else {
+            Err(Error::Host.nowhere())
+        };
         self.settle(mem, ticket, outcome);
         DONE
     }
@@ -153,8 +157,8 @@ impl Desk {
             None => self.open(mem),
             Some(submission) => {
                 let ticket = submission.ticket;
-                if let Err(error) = submission.step(mem, &mut self.kept) {
-                    self.settle(mem, ticket, Err(error));
+                if let Err(fault) = submission.step(mem, &mut self.kept) {
+                    self.settle(mem, ticket, Err(fault));
                 }
             }
         }
@@ -166,7 +170,7 @@ impl Desk {
         match Ring::read(mem, self.registers.ring_gpa, self.registers.ring_size) {
             Err(error) => {
                 self.registers.doorbell = false;
-                self.registers.set_error(error, 0);
+                self.registers.set_error(error.nowhere(), 0);
             }
             Ok(ring) if ring.pending() == 0 => self.registers.doorbell = false,
             Ok(ring) => self.open_head(mem, &ring),
@@ -181,16 +185,16 @@ impl Desk {
                 self.kept.resources.copy_from(&self.resources);
                 self.work = Some(submission);
             }
-            Err(error) => self.settle(mem, ticket, Err(error)),
+            Err(error) => self.settle(mem, ticket, Err(error.nowhere())),
         }
     }
 
     /// Settles a submission: resources or error, completed fence, then the
     /// head of the opened ring, then the fence page.
-    fn settle(&mut self, mem: &mut [u8], ticket: Ticket, outcome: Result<(), Error>) {
+    fn settle(&mut self, mem: &mut [u8], ticket: Ticket, outcome: Result<(), Fault>) {
         match outcome {
             Ok(()) => std::mem::swap(&mut self.resources, &mut self.kept.resources),
-            Err(error) => self.registers.set_error(error, ticket.signal_fence),
+            Err(fault) => self.registers.set_error(fault, ticket.signal_fence),
         }
         self.drop_work();
         self.registers.complete(ticket.signal_fence, ticket.no_irq);

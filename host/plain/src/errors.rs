@@ -1,4 +1,5 @@
-//! The error codes a submission, or the ring, can end with.
+//! The error codes a submission, or the ring, can end with, and the places
+//! that go with them.
 
 /// What went wrong; [`Error::code`] gives the number of the error register.
 #[derive(Clone, Copy, Debug, PartialEq, Eq)]
@@ -46,4 +47,23 @@ impl Error {
     pub(crate) fn code(self) -> u32 {
         self as u32
     }
+
+    /// This error, raised by the step of the entry or packet at `place`.
+    pub(crate) fn at(self, place: u32) -> Fault {
+        Fault { error: self, place }
+    }
+
+    /// This error, raised by no entry's or packet's step.
+    pub(crate) fn nowhere(self) -> Fault {
+        self.at(0)
+    }
+}
+
+/// An error and where it arose: what the error registers tell of it.
+#[derive(Clone, Copy, Debug, PartialEq, Eq)]
+pub(crate) struct Fault {
+    pub(crate) error: Error,
+    /// The index of the entry, or the offset in the stream of the packet,
+    /// whose step raised the error; 0 if no such step did.
+    pub(crate) place: u32,
 }

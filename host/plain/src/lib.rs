@@ -23,4 +23,4 @@ mod table;
 pub use desk::{Desk, Ended, Ran};
 pub use packets::Record;
 pub use shapes::packed_size;
-pub use table::table_error;
+pub use table::{table_error, table_place};

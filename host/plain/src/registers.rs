@@ -1,7 +1,7 @@
 //! The register file: what each offset reads and takes, and what errors,
 //! fences and resets leave in it.
 
-use crate::errors::Error;
+use crate::errors::Fault;
 
 const MAGIC: u32 = u32::from_le_bytes(*b"AGPU");
 /// Major 1 in the high 16 bits, minor 3.
@@ -40,6 +40,7 @@ pub(crate) struct Registers {
     error_code: u32,
     error_fence: u64,
     error_count: u32,
+    error_detail: u32,
 }
 
 impl Registers {
@@ -64,6 +65,7 @@ impl Registers {
             0x314 => low(self.error_fence),
             0x318 => high(self.error_fence),
             0x31C => self.error_count,
+            0x320 => self.error_detail,
             _ => return None,
         };
         Some(value)
@@ -99,8 +101,9 @@ impl Registers {
     }
 
     /// Sets the error registers and the error status bit.
-    pub(crate) fn set_error(&mut self, error: Error, fence: u64) {
-        self.error_code = error.code();
+    pub(crate) fn set_error(&mut self, fault: Fault, fence: u64) {
+        self.error_code = fault.error.code();
+        self.error_detail = fault.place;
         self.error_fence = fence;
         self.error_count = self.error_count.saturating_add(1);
         self.irq_status |= STATUS_ERROR;
@@ -138,6 +141,7 @@ fn set_high(register: &mut u64, value: u32) {
 #[cfg(test)]
 mod tests {
     use super::*;
+    use crate::errors::Error;
 
     #[test]
     fn the_error_count_stops_at_the_top() {
@@ -145,12 +149,24 @@ mod tests {
             error_count: u32::MAX - 1,
             ..Registers::default()
         };
-        registers.set_error(Error::Ring, 0);
+        registers.set_error(Error::Ring.nowhere(), 0);
         assert_eq!(registers.read(0x31C), Some(u32::MAX));
-        registers.set_error(Error::Host, 5);
+        registers.set_error(Error::Host.nowhere(), 5);
         assert_eq!(registers.read(0x31C), Some(u32::MAX));
         assert_eq!(registers.read(0x310), Some(27));
         assert_eq!(registers.read(0x314), Some(5));
+    }
+
+    #[test]
+    fn every_error_sets_the_detail() {
+        let mut registers = Registers::default();
+        assert_eq!(registers.read(0x320), Some(0));
+        for place in [24, u32::MAX, 28] {
+            registers.set_error(Error::Packet.at(place), 1);
+            assert_eq!(registers.read(0x320), Some(place));
+        }
+        registers.set_error(Error::Host.nowhere(), 2);
+        assert_eq!(registers.read(0x320), Some(0));
     }
 
     #[test]

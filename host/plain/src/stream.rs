@@ -42,6 +42,11 @@ impl Stream {
         self.place >= self.size
     }
 
+    /// The offset of the next packet, or of the bytes left, in the stream.
+    pub(crate) fn place(&self) -> u32 {
+        self.place
+    }
+
     /// The next packet as a part of the lent memory, all its bytes by its own
     /// size, from the stream that starts at `gpa`; error 17 if it is bad.
     /// Moves the place past it.

@@ -1,7 +1,7 @@
 //! A submission in work: the numbers read at opening, and its steps.
 
 use crate::bytes::length;
-use crate::errors::Error;
+use crate::errors::{Error, Fault};
 use crate::packets::Kept;
 use crate::ring::{Descriptor, Ring};
 use crate::stream::Stream;
@@ -70,17 +70,23 @@ impl Submission {
         !self.has_entries_left(kept) && self.stream.is_done()
     }
 
-    /// Judges the next entry or, after the last one, the next packet.
-    pub(crate) fn step(&mut self, mem: &[u8], kept: &mut Kept) -> Result<(), Error> {
+    /// Judges the next entry or, after the last one, the next packet. A fault
+    /// has its place.
+    pub(crate) fn step(&mut self, mem: &[u8], kept: &mut Kept) -> Result<(), Fault> {
         if self.has_entries_left(kept) {
             let entry =
                 Entry::read_next(mem, self.table_gpa, &self.table, &kept.entries, length(mem))?;
             kept.entries.push(entry);
             Ok(())
         } else {
-            let packet = self.stream.next_packet(mem, self.stream_gpa)?;
-            kept.take(packet)
+            let place = self.stream.place();
+            self.take_packet(mem, kept).map_err(|error| error.at(place))
         }
+    }
+
+    fn take_packet(&mut self, mem: &[u8], kept: &mut Kept) -> Result<(), Error> {
+        let packet = self.stream.next_packet(mem, self.stream_gpa)?;
+        kept.take(packet)
     }
 
     fn has_entries_left(&self, kept: &Kept) -> bool {

@@ -2,7 +2,7 @@
 //! table at once.
 
 use crate::bytes::{fits, good_version, length, part, u32_at, u64_at};
-use crate::errors::Error;
+use crate::errors::{Error, Fault};
 
 const MAGIC: u32 = u32::from_le_bytes(*b"ALOC");
 const HEADER: u32 = 24;
@@ -46,7 +46,7 @@ impl Header {
     }
 
     /// Where entry `index` starts, from the table's start.
-    fn place(&self, index: usize) -> u64 {
+    fn entry_start(&self, index: usize) -> u64 {
         u64::from(HEADER) + index as u64 * u64::from(self.stride)
     }
 }
@@ -62,15 +62,17 @@ pub(crate) struct Entry {
 
 impl Entry {
     /// Reads the entry after the `kept` ones from the table that starts at
-    /// `gpa` of `mem`, and checks it against a memory of `memory` bytes.
+    /// `gpa` of `mem`, and checks it against a memory of `memory` bytes. A
+    /// fault has the entry's index.
     pub(crate) fn read_next(
         mem: &[u8],
         gpa: u64,
         header: &Header,
         kept: &[Entry],
         memory: u64,
-    ) -> Result<Entry, Error> {
-        let bytes = part(mem, gpa + header.place(kept.len()), u64::from(ENTRY));
+    ) -> Result<Entry, Fault> {
+        let index = kept.len();
+        let bytes = part(mem, gpa + header.entry_start(index), u64::from(ENTRY));
         let entry = Entry {
             id: u32_at(bytes, 0),
             read_only: u32_at(bytes, 4) & 1 != 0,
@@ -78,10 +80,10 @@ impl Entry {
             size: u64_at(bytes, 16),
         };
         if entry.id == 0 || entry.size == 0 || !fits(entry.gpa, entry.size, memory) {
-            return Err(Error::Entry);
+            return Err(Error::Entry.at(index as u32));
         }
         if find(kept, entry.id).is_some() {
-            return Err(Error::Duplicate);
+            return Err(Error::Duplicate.at(index as u32));
         }
         Ok(entry)
     }
@@ -98,12 +100,22 @@ pub(crate) fn find(kept: &[Entry], id: u32) -> Option<&Entry> {
 pub fn table_error(table: &[u8], memory: u64) -> u32 {
     match check_table(table, memory) {
         Ok(()) => 0,
-        Err(error) => error.code(),
+        Err(fault) => fault.error.code(),
     }
 }
 
-fn check_table(table: &[u8], memory: u64) -> Result<(), Error> {
-    let header = Header::read(table)?;
+/// The place of a table's first error, as [`table_error`] finds it: the
+/// entry's index, from 0, for 14 and 15, else 0.
+pub fn table_place(table: &[u8], memory: u64) -> u32 {
+    match check_table(table, memory) {
+        Ok(()) => 0,
+        Err(fault) => fault.place,
+    }
+}
+
+/// Finds a table's first error and its place.
+fn check_table(table: &[u8], memory: u64) -> Result<(), Fault> {
+    let header = Header::read(table).map_err(Error::nowhere)?;
     let mut kept = [Entry::default(); MAX_ENTRIES];
     for index in 0..header.count {
         kept[index] = Entry::read_next(table, 0, &header, &kept[..index], memory)?;

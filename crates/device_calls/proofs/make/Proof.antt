@@ -52,6 +52,9 @@ element-write-words-14 c = search needs
 element-write-words-15 : tie.Need-element-write-words-15
 element-write-words-15 c = search needs
 
+element-write-words-16 : tie.Need-element-write-words-16
+element-write-words-16 c = search needs
+
 returns : tie.Need-returns
 returns c = search making
 
@@ -75,4 +78,5 @@ make-spec =
     element-write-words-13
     element-write-words-14
     element-write-words-15
+    element-write-words-16
     returns)

@@ -87,6 +87,12 @@ element-copy-out-low32-8 c = search needs
 low32-requires-8 : tie.Need-low32-requires-8
 low32-requires-8 c κs = search needs
 
+element-copy-out-low32-9 : tie.Need-element-copy-out-low32-9
+element-copy-out-low32-9 c = search needs
+
+low32-requires-9 : tie.Need-low32-requires-9
+low32-requires-9 c κs = search needs
+
 returns : tie.Need-returns
 unfolding register lookup
 returns c = search reading
@@ -163,6 +169,10 @@ returns-19 : tie.Need-returns-19
 unfolding register lookup
 returns-19 c = search reading
 
+returns-20 : tie.Need-returns-20
+unfolding register lookup
+returns-20 c = search reading
+
 pub read-spec : {M : Type 1} → statement M
 read-spec =
     tie.close
@@ -194,6 +204,8 @@ read-spec =
     high-requires-4
     element-copy-out-low32-8
     low32-requires-8
+    element-copy-out-low32-9
+    low32-requires-9
     returns
     returns-2
     returns-3
@@ -212,4 +224,5 @@ read-spec =
     returns-16
     returns-17
     returns-18
-    returns-19)
+    returns-19
+    returns-20)

@@ -19,6 +19,9 @@ begin-packets-requires c κs = search needs
 returns-2 : tie.Need-returns-2
 returns-2 c = search landing-entries
 
+fault-requires : tie.Need-fault-requires
+fault-requires c κs = search needs
+
 settle-refused-requires : tie.Need-settle-refused-requires
 settle-refused-requires c κs = search needs
 
@@ -37,6 +40,7 @@ land-entries-spec =
     returns
     begin-packets-requires
     returns-2
+    fault-requires
     settle-refused-requires
     same-length
     returns-3)

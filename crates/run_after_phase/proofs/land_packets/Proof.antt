@@ -46,6 +46,9 @@ element-write-words-8 c = search needs
 returns-2 : tie.Need-returns-2
 returns-2 c = search landing-packets
 
+fault-requires : tie.Need-fault-requires
+fault-requires c κs = search needs
+
 settle-refused-requires : tie.Need-settle-refused-requires
 settle-refused-requires c κs = search needs
 
@@ -73,6 +76,7 @@ land-packets-spec =
     element-write-words-7
     element-write-words-8
     returns-2
+    fault-requires
     settle-refused-requires
     same-length
     returns-3)

@@ -34,6 +34,9 @@ element-write-words-4 c = search needs
 element-write-words-5 : tie.Need-element-write-words-5
 element-write-words-5 c = search needs
 
+element-write-words-6 : tie.Need-element-write-words-6
+element-write-words-6 c = search needs
+
 returns : tie.Need-returns
 returns c = search faulting
 
@@ -51,4 +54,5 @@ fault-ring-spec =
     element-write-words-3
     element-write-words-4
     element-write-words-5
+    element-write-words-6
     returns)

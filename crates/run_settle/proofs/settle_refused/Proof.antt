@@ -19,6 +19,9 @@ u32-to-word-requires c κs = search needs
 u32-to-word-requires-2 : tie.Need-u32-to-word-requires-2
 u32-to-word-requires-2 c κs = search needs
 
+u32-to-word-requires-3 : tie.Need-u32-to-word-requires-3
+u32-to-word-requires-3 c κs = search needs
+
 element-copy-out-fence : tie.Need-element-copy-out-fence
 element-copy-out-fence c = search needs
 
@@ -33,6 +36,9 @@ element-write-words-3 c = search needs
 
 element-write-words-4 : tie.Need-element-write-words-4
 element-write-words-4 c = search needs
+
+element-write-words-5 : tie.Need-element-write-words-5
+element-write-words-5 c = search needs
 
 finish-requires : tie.Need-finish-requires
 finish-requires c κs = search needs
@@ -52,11 +58,13 @@ settle-refused-spec =
     one-more-requires
     u32-to-word-requires
     u32-to-word-requires-2
+    u32-to-word-requires-3
     element-copy-out-fence
     element-write-words
     element-write-words-2
     element-write-words-3
     element-write-words-4
+    element-write-words-5
     finish-requires
     same-length
     returns)

@@ -27,6 +27,9 @@ pub const TWISTS: &[EntryTwist] = &[
     duplicate_and_bad,
     count,
     count,
+    count,
+    last_of_all,
+    last_of_all,
 ];
 
 impl Rows<'_> {
@@ -39,6 +42,19 @@ impl Rows<'_> {
             self.random.index(last + 1)
         };
         self.entries.get_mut(place)
+    }
+
+    /// Only a table that is nearly full already is made longer, so that there is room for it.
+    fn make_many(&mut self, count: usize) -> Option<()> {
+        if self.entries.len() < MOST_ENTRIES - 8 {
+            return None;
+        }
+        self.entries.truncate(count);
+        while self.entries.len() < count {
+            let entry = some_entry(self.random, self.memory, self.entries);
+            self.entries.push(entry);
+        }
+        Some(())
     }
 
     fn two_places(&mut self) -> Option<(usize, usize)> {
@@ -106,16 +122,21 @@ fn duplicate_and_bad(rows: &mut Rows) -> Option<Aim> {
     broken("entry: 14 before 15", ENTRY)
 }
 
-/// Only a table that is nearly full already is made longer, so that there is room for it.
 fn count(rows: &mut Rows) -> Option<Aim> {
-    if rows.entries.len() < MOST_ENTRIES - 8 {
-        return None;
-    }
     let count = MOST_ENTRIES + rows.random.pick(&[0, 1, 2]);
-    rows.entries.truncate(count);
-    while rows.entries.len() < count {
-        let entry = some_entry(rows.random, rows.memory, rows.entries);
-        rows.entries.push(entry);
-    }
+    rows.make_many(count)?;
     judged("table: more than 64 entries", count == MOST_ENTRIES, LIMIT)
+}
+
+/// The largest index that an error can have.
+fn last_of_all(rows: &mut Rows) -> Option<Aim> {
+    rows.make_many(MOST_ENTRIES)?;
+    let last = MOST_ENTRIES - 1;
+    if rows.random.coin() {
+        rows.entries[last].size = 0;
+        return broken("entry: the last of 64", ENTRY);
+    }
+    let first = rows.random.index(last);
+    rows.entries[last].id = rows.entries[first].id;
+    broken("entry: the last of 64", DUPLICATE)
 }

@@ -1,7 +1,7 @@
 //! Random and hostile input: nothing panics, and slices do not matter.
 
 use crate::scene::*;
-use plain::{packed_size, table_error, Desk, Ended};
+use plain::{packed_size, table_error, table_place, Desk, Ended};
 
 /// A small generator, good enough to move bytes about (SplitMix64).
 struct Random(u64);
@@ -168,6 +168,28 @@ fn slices_do_not_matter() {
     assert!(seen > 14, "errors {:?}", errors);
 }
 
+/// The detail that goes with a verdict on these packets, told by its units:
+/// opening, entries, packets.
+fn place((error, units): (u32, u16), entries: &[Entry], packets: &[Vec<u8>]) -> u32 {
+    let step = usize::from(units) - 1;
+    if error == 0 || step == 0 {
+        0
+    } else if step <= entries.len() {
+        step as u32 - 1
+    } else {
+        stream(&packets[..step - 1 - entries.len()]).len() as u32
+    }
+}
+
+/// The device after one more error, which has no place. Nothing is in work.
+fn without_place(scene: &Scene) -> Desk {
+    let mut scene = scene.clone();
+    scene.write(0x108, 0);
+    scene.write(0x200, 0);
+    assert_eq!(scene.verdict(), (10, 1));
+    scene.desk
+}
+
 #[test]
 fn grown_packets_do_what_those_of_table_size_do() {
     let mut waits = 0;
@@ -194,9 +216,12 @@ fn grown_packets_do_what_those_of_table_size_do() {
                 let good = random.below(4) != 0;
                 assert_eq!((short.answer(good), long.answer(good)), (0, 0));
                 waits += 1;
+            } else {
+                assert_eq!(short.detail(), place(verdict, &entries, &packets));
+                assert_eq!(long.detail(), place(verdict, &entries, &longer));
             }
             // Nothing is in work: the devices hold registers and resources.
-            assert_eq!(long.desk, short.desk);
+            assert_eq!(without_place(&long), without_place(&short));
             errors[verdict.0 as usize] += 1;
         }
     }
@@ -253,7 +278,10 @@ fn random_shapes_and_tables() {
         let at = random.below(bytes.len() as u64 / 4) as usize * 4;
         put32(&mut bytes, at, random.number() as u32);
         let length = bytes.len() as u64 - random.below(4) * random.below(30);
-        let error = table_error(&bytes[..length as usize], random.number());
+        let memory = random.number();
+        let error = table_error(&bytes[..length as usize], memory);
         assert!([0, 13, 14, 15, 19].contains(&error));
+        let place = table_place(&bytes[..length as usize], memory);
+        assert!(place == 0 || (place < 3 && [14, 15].contains(&error)));
     }
 }

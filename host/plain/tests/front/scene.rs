@@ -291,6 +291,10 @@ impl Scene {
         self.read(0x31C)
     }
 
+    pub fn detail(&self) -> u32 {
+        self.read(0x320)
+    }
+
     pub fn head(&self) -> u32 {
         get32(&self.mem, HEAD)
     }

@@ -1,4 +1,4 @@
-//! The sample night: five submissions of one guest, written as a desk script and played like one, each line of the transcript
+//! The sample night: six submissions of one guest, written as a desk script and played like one, each line of the transcript
 //! with what it means.
 use std::io::{self, Write};
 use zelezmut::guest::{self, Backing, Descriptor, Entry, Packet, Part, Shape};
@@ -12,6 +12,7 @@ const RING: u32 = 0;
 const SLOTS: u32 = 4;
 const FENCE_PAGE: u32 = 512;
 const TABLE: u32 = 1024;
+const WRONG_TABLE: u32 = 1536;
 const STREAM: u32 = 2048;
 const PICTURES: Entry = Entry {
     id: 5,
@@ -81,9 +82,14 @@ fn submit(fence: u32, packets: &[Packet], meaning: &'static str) -> Vec<Step> {
 
 fn submit_stream(fence: u32, stream: &[u8], meaning: &'static str) -> Vec<Step> {
     let table = guest::table(&[PICTURES, RESULTS]);
+    submit_parts(fence, Part::of(TABLE.into(), &table), stream, meaning)
+}
+
+/// The table is in guest memory already.
+fn submit_parts(fence: u32, table: Part, stream: &[u8], meaning: &'static str) -> Vec<Step> {
     let slot = Descriptor {
         commands: Part::of(STREAM.into(), stream),
-        table: Part::of(TABLE.into(), &table),
+        table,
         fence: fence.into(),
         silent: false,
     };
@@ -239,7 +245,7 @@ fn readback() -> Scene {
     }
 }
 
-fn refused() -> Scene {
+fn refused_at_a_packet() -> Scene {
     let mut steps = submit(
         3,
         &[
@@ -255,6 +261,10 @@ fn refused() -> Scene {
     steps.extend([
         run(100, "five units to the refusal; a sixth finds no more work"),
         read(registers::ERROR_CODE, "error 18: handle 9 is not live"),
+        read(
+            registers::ERROR_DETAIL,
+            "detail: the packet 40 bytes into the stream, after header and destroy",
+        ),
         read(registers::ERROR_FENCE_LO, "of the submission with fence 3"),
         read(
             registers::COMPLETED_FENCE_LO,
@@ -287,6 +297,10 @@ fn failed() -> Scene {
         record(0, "nothing to read or write: no record, answer 4"),
         answer(HostAnswer::Failed, "but the host says that it failed"),
         read(registers::ERROR_CODE, "error 27: the host failed"),
+        read(
+            registers::ERROR_DETAIL,
+            "detail: 0 in place of 40, no entry and no packet is at fault",
+        ),
         read(registers::ERROR_COUNT, "the second error of the night"),
         read(registers::COMPLETED_FENCE_LO, "fence 4 is finished"),
     ]);
@@ -296,9 +310,47 @@ fn failed() -> Scene {
     }
 }
 
+fn refused_at_an_entry() -> Scene {
+    let twice = Entry {
+        id: PICTURES.id,
+        ..RESULTS
+    };
+    let table = guest::table(&[PICTURES, twice]);
+    let mut steps = vec![poke(
+        WRONG_TABLE,
+        &table,
+        "another table: both of its entries have id 5",
+    )];
+    steps.extend(submit_parts(
+        5,
+        Part::of(WRONG_TABLE.into(), &table),
+        &guest::stream(&[Packet::Destroy { handle: TEXTURE }]),
+        "a stream: destroy texture 1",
+    ));
+    steps.extend([
+        run(
+            100,
+            "three units to the refusal, before any packet; a fourth finds no work",
+        ),
+        read(
+            registers::ERROR_CODE,
+            "error 15: an id stands twice in the table",
+        ),
+        read(
+            registers::ERROR_DETAIL,
+            "detail: entry 1, the second; entries count from 0",
+        ),
+        read(registers::ERROR_COUNT, "the third error of the night"),
+    ]);
+    Scene {
+        heading: "Submission 5 is refused before its packets: its table has one id twice.",
+        steps,
+    }
+}
+
 fn last() -> Scene {
     let mut steps = submit(
-        5,
+        6,
         &[Packet::DirtyRange {
             handle: TEXTURE,
             offset: 128,
@@ -313,7 +365,11 @@ fn last() -> Scene {
             "kind 2: 256 bytes at 8576, after the texture's first row",
         ),
         answer(HostAnswer::Good, "good"),
-        read(registers::COMPLETED_FENCE_LO, "fence 5 is finished"),
+        read(registers::COMPLETED_FENCE_LO, "fence 6 is finished"),
+        read(
+            registers::ERROR_DETAIL,
+            "detail: the last error's, until there is another",
+        ),
         run(100, "one unit: the opening finds head and tail equal. Idle"),
         answer(HostAnswer::Good, "nothing waits any more: answer 3"),
         (
@@ -322,7 +378,7 @@ fn last() -> Scene {
         ),
     ]);
     Scene {
-        heading: "Submission 5 shows that neither ending undid the texture.",
+        heading: "Submission 6 shows that none of these endings undid the texture.",
         steps,
     }
 }
@@ -332,8 +388,9 @@ fn night() -> Vec<Scene> {
         set_up(),
         shared_texture(),
         readback(),
-        refused(),
+        refused_at_a_packet(),
         failed(),
+        refused_at_an_entry(),
         last(),
     ]
 }

@@ -5,10 +5,10 @@ use Rattle.program_replay.proofs.state.say_registers.Statement.{stateme
 use Rattle.program_replay.proofs.state.say_registers.Tie as tie
 
 abbrev Inv-loop : tie.InvT-loop
-Inv-loop device offset₀ offset = offset ≤ 803
+Inv-loop device offset₀ offset = offset ≤ 807
 
 abbrev μ-loop : tie.MeasureT-loop
-μ-loop device offset₀ offset = 800 - offset
+μ-loop device offset₀ offset = 804 - offset
 
 loop-holds : tie.Need-loop-holds Inv-loop μ-loop
 loop-holds c = search needs

@@ -1,10 +1,10 @@
--- `entries_error` meets its contract. The outer invariant: what is found from entry i on is what is found in all.
+-- `entries_fault` meets its contract. The outer invariant: what is found from entry i on is what is found in all.
 -- The inner one: the id is among the first i entries where it is among those from entry j on. Assumes nothing.
 use Prim.Native.Nat.{_≤_, _-_}
 use native.Mathlib.Omega.{arith}
 use Rattle.table_whole.specs.Whole.{Scanned, Sought, scanning}
-use Rattle.table_whole.proofs.whole.entries_error.Statement.{statement}
-use Rattle.table_whole.proofs.whole.entries_error.Tie as tie
+use Rattle.table_whole.proofs.whole.entries_fault.Statement.{statement}
+use Rattle.table_whole.proofs.whole.entries_fault.Tie as tie
 
 abbrev Inv-loop : tie.InvT-loop
 Inv-loop table memory t i e j₀ j = (j ≤ i) × Sought table memory t (e .id) i j
@@ -66,8 +66,8 @@ returns-2 c = search scanning
 returns-3 : tie.Need-returns-3 Inv-loop μ-loop Inv-scan μ-scan
 returns-3 c = search scanning
 
-pub entries-error-spec : {M : Type 1} → statement M
-entries-error-spec =
+pub entries-fault-spec : {M : Type 1} → statement M
+entries-fault-spec =
     tie.close
     (tie.spec
     Inv-loop
