@@ -105,8 +105,17 @@ pub record Answered : Type 0 where
   pub answer : ℕ
   pub world : World
 
--- "1 comes before 3."
-unfoldable pub call-answer : World → Bool → Answered
-call-answer w good =
+-- what 01 calls "give the host's answer". "1 comes before 3."
+unfoldable pub answer-alone : World → Bool → Answered
+answer-alone w good =
     pick (lent-another w) (record { answer = other-memory; world = w })
     (pick (waits (w .state)) (record { answer = done; world = answered good w }) (record { answer = nothing-waits; world = w }))
+
+-- By wish 6 it is no call of its own any more: "Make that one call, with the answer, an allowance and the memory". "Answers 1 and 3 refuse
+-- the whole call, nothing run; else it must equal the two old calls one after the other."
+abbrev pub and-run : Answered → ℕ → Ran
+and-run a allowance =
+    pick (eqb (a .answer) done) (call-run (a .world) allowance) (record { answer = a .answer; units = 0; ended = Idle; world = a .world })
+
+unfoldable pub call-answer : World → Bool → ℕ → Ran
+call-answer w good allowance = and-run (answer-alone w good) allowance
