@@ -9,17 +9,17 @@ use Rattle.machine.specs.Machine.{pick, run-none}
 use Rattle.rules.specs.Numbers.{done, other-memory, nothing-waits}
 use Rattle.rules.specs.State.{World}
 use Rattle.rules.specs.Steps.{step, go, waits, answered}
-use Rattle.rules.specs.Calls.{lent-another, Ran, call-run, Answered, answer-alone, call-answer}
-use Rattle.promises.specs.Runs.{not-run, of-answer}
+use Rattle.rules.specs.Calls.{not-run, lent-another, Ran, call-run, Answered, answer-alone, call-answer}
+use Rattle.promises.specs.Runs.{of-answer}
 
 -- ---- the old answer, by what is lent and what waits
 
 module _ (w : World) (good : Bool) where
-  refused-with-1 : lent-another w ≡ true → answer-alone w good ≡ record { answer = other-memory; world = w }
+  pub refused-with-1 : lent-another w ≡ true → answer-alone w good ≡ record { answer = other-memory; world = w }
   unfolding answer-alone
   refused-with-1 e = rw e
 
-  refused-with-3 : lent-another w ≡ false → waits (w .state) ≡ false → answer-alone w good ≡ record { answer = nothing-waits; world = w }
+  pub refused-with-3 : lent-another w ≡ false → waits (w .state) ≡ false → answer-alone w good ≡ record { answer = nothing-waits; world = w }
   unfolding answer-alone
   refused-with-3 e f = rw (e, f)
 

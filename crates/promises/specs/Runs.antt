@@ -11,13 +11,9 @@ use Rattle.rules.specs.Numbers.{done, other-memory, nothing-waits}
 use Rattle.rules.specs.State.{Work, World}
 use Rattle.rules.specs.State.Work.{resting, entries, packets, waiting}
 use Rattle.rules.specs.Steps.{busy, step, go, run-for, waits-on, waits, answered}
-use Rattle.rules.specs.Calls.{lent-another, at-rest, ending, Ran, ran, call-run, Answered, answer-alone, and-run, call-answer}
+use Rattle.rules.specs.Calls.{not-run, lent-another, at-rest, ending, Ran, ran, call-run, Answered, answer-alone, and-run, call-answer}
 use Rattle.rules.specs.declared.Ended.the-variants.{Idle, Waiting, Paused}
 use Rattle.settle.specs.Only.{answered-is-lent-alike}
-
--- a call that is refused with a number: nothing is run, and nothing changes
-abbrev pub not-run : ℕ → World → Ran
-not-run answer w = record { answer = answer; units = 0; ended = Idle; world = w }
 
 -- what is true of a refused run and of one that ran is true of the call
 module _ (P : Ran → Type 0) (w : World) (n : ℕ) where
