@@ -6,12 +6,12 @@ use Prim.Native.Nat.{ℕ, _≤_, _<_}
 use borrow.Author.Needs.{needs}
 use borrow.Author.Tests.{eq-eqb, ne-eqb}
 use lib.ListN.{length, getD}
-use Rattle.machine.specs.Machine.{pick}
+use Rattle.machine.specs.Machine.{pick, run-none}
 use Rattle.rules.specs.Numbers.{done, other-memory, nothing-waits, host-failed}
 use Rattle.rules.specs.Judging.{refusal, without-place}
 use Rattle.rules.specs.Judging.Finding.{fine, broken}
 use Rattle.rules.specs.State.{World}
-use Rattle.rules.specs.Steps.{run-for, waits, answer-on, answered}
+use Rattle.rules.specs.Steps.{step, go, run-for, waits, answer-on, answered}
 use Rattle.rules.specs.Settle.{settled, settled-keeping}
 use Rattle.rules.specs.Calls.{lent-another, ending, Ran, ran, call-run, answer-alone, call-answer}
 use Rattle.rules.specs.declared.Ended.{Ended}
@@ -68,6 +68,9 @@ pub ruleset ending-in = (ends-waits, ends-off, ends-paused, ends-idle, ends-rung
 
 -- ---- run_on
 
+pub on-nothing : (allowance : ℕ) (s e a b c m : List ℕ) → allowance ≡ 0 → RanOn allowance (lent s e a b c m) 0 (lent s e a b c m)
+on-nothing allowance s e a b c m z = record { run = rw (z, run-none go step (deskIn s e a b c m)) }
+
 module _ (allowance u : ℕ) (s e c m s′ e′ c′ m′ : List ℕ) where
   pub on-first : (a b b′ : List ℕ) → getD s 28 0 ≡ 0 → RanFor allowance s (tables e a b c) m u s′ (tables e′ a b′ c′) m′ → RanOn allowance (lent s e a b c m) u (lent s′ e′ a b′ c′ m′)
   on-first a b b′ z x =
@@ -81,7 +84,7 @@ module _ (allowance u : ℕ) (s e c m s′ e′ c′ m′ : List ℕ) where
       let there : setIn (getD s′ 28 0) ≡ true = is-set (getD s′ 28 0) (λ z. n (sym (x .side) ∙ z)) in
       record { run = rw (here, there) (x .run) }
 
-pub ruleset choosing = (on-first, on-second, needs)
+pub ruleset choosing = (on-nothing, on-first, on-second, needs)
 
 -- ---- carry_on
 

@@ -52,7 +52,7 @@ fn ended_in(words: &Words) -> Ended
     Ended::Paused
 }
 
-// A run, with the table of resources that is the device's and the other.
+// A run, with the table of resources that is the device's and the other. Without an allowance nothing is looked at.
 fn run_on(
     words: &mut Words,
     entries: &mut Entries,
@@ -81,6 +81,9 @@ fn run_on(
           mem = now (mem .exit);
         }) ⌝ }
 {
+    if allowance == 0 {
+        return 0;
+    }
     if words[SIDE] == 0 {
         return run_loop::run(words, mem, entries, first, second, records, allowance);
     }
