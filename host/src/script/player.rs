@@ -106,7 +106,7 @@ fn record(desk: &Desk, index: u32) -> String {
 }
 
 fn host(desk: &mut Desk, memory: &mut [u8], answer: HostAnswer) -> String {
-    format!("answer {}", number(desk.answer(memory, answer)))
+    format!("answer {}", number(desk.answer(memory, answer, 0)))
 }
 
 fn state(desk: &Desk, memory: &[u8]) -> String {
