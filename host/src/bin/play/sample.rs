@@ -72,7 +72,8 @@ fn record(index: u32, meaning: &'static str) -> Step {
 }
 
 fn answer(answer: HostAnswer, meaning: &'static str) -> Step {
-    (Operation::Answer { answer }, meaning)
+    let allowance = 0;
+    (Operation::Answer { answer, allowance }, meaning)
 }
 
 /// The guest writes submission `fence` into its slot, moves the tail and rings. Fences count from 1, and slots from 0.
