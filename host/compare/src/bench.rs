@@ -92,8 +92,8 @@ impl<F: Front> Bench<F> {
     /// Rings, runs until the submission waits, and answers good.
     pub fn submission(&mut self, mode: Mode) {
         self.run_until_waiting(mode);
-        let answer = self.seat.front.answer(&mut self.seat.memory, true);
-        assert_eq!(answer, 0, "{} was not waiting", F::NAME);
+        let ran = self.seat.front.answer(&mut self.seat.memory, true, 0);
+        assert_eq!(ran.answer, 0, "{} was not waiting", F::NAME);
     }
 
     /// Rings and runs until the submission waits.

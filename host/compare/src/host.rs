@@ -55,7 +55,7 @@ impl Host for zelezmut::Desk {
 
     #[inline]
     fn answered(&mut self, memory: &mut [u8]) -> bool {
-        self.answer(memory, HostAnswer::Good).is_ok()
+        self.answer(memory, HostAnswer::Good, 0).is_ok()
     }
 }
 
@@ -82,6 +82,6 @@ impl Host for plain::Desk {
 
     #[inline]
     fn answered(&mut self, memory: &mut [u8]) -> bool {
-        self.answer(memory, true) == 0
+        self.answer(memory, true, 0).answer == 0
     }
 }

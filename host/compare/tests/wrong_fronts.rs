@@ -162,8 +162,13 @@ impl<const FAULT: u8> Front for Wrong<FAULT> {
         }
     }
 
-    fn answer(&mut self, memory: &mut [u8], good: bool) -> u32 {
-        self.call(|wrong| wrong.desk.answer(memory, good || FAULT == ANSWERS_ALIKE))
+    fn answer(&mut self, memory: &mut [u8], good: bool, allowance: u16) -> Ran {
+        self.call(|wrong| {
+            match wrong.desk.answer(memory, good || FAULT == ANSWERS_ALIKE, 0) {
+                Ran { answer: 0, .. } => wrong.run_in_its_way(memory, allowance),
+                refused => refused,
+            }
+        })
     }
 
     fn packed_size(shape: Shape) -> u64 {
@@ -250,10 +255,12 @@ fn a_front_that_reads_all_entries_at_the_first_is_right_over_still_memory() {
     for seed in 0..40 {
         let mut drawn = draw(seed);
         for operation in &mut drawn.operations {
-            if let Operation::Run { allowance } | Operation::RunElsewhere { allowance, .. } =
-                operation
-            {
-                *allowance = u16::MAX;
+            match operation {
+                Operation::Run { allowance }
+                | Operation::RunElsewhere { allowance, .. }
+                | Operation::Answer { allowance, .. }
+                | Operation::AnswerElsewhere { allowance, .. } => *allowance = u16::MAX,
+                _ => {}
             }
         }
         let played = play::<plain::Desk, Wrong<READS_ALL_AT_OPENING>>(
