@@ -46,7 +46,7 @@ for case in "$@"; do
 done
 
 missed=0
-printf '%-18s %-10s %10s %10s %7s %5s\n' case mode zelezmut plain ratio goal
+printf '%-20s %-10s %10s %10s %7s %5s\n' case mode zelezmut plain ratio goal
 while read -r case mode goal; do
     [ $# -eq 0 ] || [[ " $* " == *" $case "* ]] || continue
     proved=$(a_piece "$case" "$mode" zelezmut)
@@ -54,7 +54,7 @@ while read -r case mode goal; do
     ratio=$(awk "BEGIN { printf \"%.3f\", $proved / $plain }")
     mark=
     awk "BEGIN { exit !($ratio > $goal) }" && mark=' missed' missed=$((missed + 1))
-    printf '%-18s %-10s %10.1f %10.1f %7s %5s%s\n' "$case" "$mode" "$proved" "$plain" "$ratio" "$goal" "$mark"
+    printf '%-20s %-10s %10.1f %10.1f %7s %5s%s\n' "$case" "$mode" "$proved" "$plain" "$ratio" "$goal" "$mark"
 done <<<"$goals"
 
 if [ "$missed" -gt 0 ]; then

@@ -73,7 +73,7 @@ impl fmt::Display for Refused {
 
 impl Error for Refused {}
 
-/// How a run ended.
+/// How a run ended, by itself or behind an answer.
 #[derive(Clone, Copy, Debug, PartialEq, Eq, Hash)]
 pub enum Ended {
     /// Disabled, or nothing to do until the doorbell rings.

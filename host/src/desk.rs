@@ -13,13 +13,24 @@ pub struct Desk {
     state: Box<front::State>,
 }
 
-/// What a run did.
+/// What a run did, by itself or behind an answer.
 #[derive(Clone, Copy, Debug, PartialEq, Eq, Hash)]
 pub struct Ran {
-    /// The units it spent: openings, table entries and packets. Never more than the allowance.
+    /// The units it spent: openings, table entries and packets. Never more than the allowance; settling costs none.
     pub units: u16,
     /// How it ended.
     pub ended: Ended,
+}
+
+impl Ran {
+    #[inline]
+    fn from_front((answer, ended, units): front::Ran) -> Result<Ran, Refused> {
+        Refused::from_answer(answer)?;
+        Ok(Ran {
+            units,
+            ended: Ended::from_number(ended),
+        })
+    }
 }
 
 /// A checked range of guest memory, for the host to work on.
@@ -125,12 +136,7 @@ impl Desk {
     /// [`Refused::OtherMemory`] if the memory has another length than the desk was made for.
     #[inline]
     pub fn run(&mut self, memory: &mut [u8], allowance: u16) -> Result<Ran, Refused> {
-        let (answer, ended, units) = front::run(&mut self.state, memory, allowance);
-        Refused::from_answer(answer)?;
-        Ok(Ran {
-            units,
-            ended: Ended::from_number(ended),
-        })
+        Ran::from_front(front::run(&mut self.state, memory, allowance))
     }
 
     /// The waiting submission's record of this index; they count from 0, in the order of the packets.
@@ -157,14 +163,49 @@ impl Desk {
         (0..).map_while(move |i| self.record(i).ok())
     }
 
-    /// The host's answer to the waiting submission, which settles it: ring head, fence page and fence registers follow.
+    /// The host answers the waiting submission and carries on, in one call.
+    ///
+    /// The answer settles the submission: ring head, fence page and fence registers follow. Then the desk works on as
+    /// [`run`](Desk::run) does, over the same memory and with this allowance, and what it did comes back. With an allowance of 0
+    /// the call only settles. The answer is for the submission that waits when the call begins; the next one to wait ends the
+    /// run, and asks for an answer of its own.
     ///
     /// # Errors
-    /// [`Refused::OtherMemory`] if the memory has another length than the desk was made for, else [`Refused::NothingWaits`].
+    /// [`Refused::OtherMemory`] if the memory has another length than the desk was made for, else [`Refused::NothingWaits`] if no
+    /// submission waits. Then nothing is run either.
+    ///
+    /// ```
+    /// use zelezmut::{Desk, Ended, HostAnswer, Record, Refused};
+    ///
+    /// const SLICE: u16 = 1000;
+    ///
+    /// /// Works off all that the ring has, a slice at a time.
+    /// fn serve(desk: &mut Desk, memory: &mut [u8], mut carry_out: impl FnMut(Record)) -> Result<(), Refused> {
+    ///     let mut ran = desk.run(memory, SLICE)?;
+    ///     loop {
+    ///         ran = match ran.ended {
+    ///             Ended::Idle => return Ok(()),
+    ///             Ended::Paused => desk.run(memory, SLICE)?,
+    ///             Ended::Waiting => {
+    ///                 desk.records().for_each(&mut carry_out);
+    ///                 desk.answer(memory, HostAnswer::Good, SLICE)?
+    ///             }
+    ///         };
+    ///     }
+    /// }
+    ///
+    /// serve(&mut Desk::new(4096), &mut [0; 4096], |record| println!("{:?}", record))?;
+    /// # Ok::<(), Refused>(())
+    /// ```
     #[inline]
-    pub fn answer(&mut self, memory: &mut [u8], answer: HostAnswer) -> Result<(), Refused> {
+    pub fn answer(
+        &mut self,
+        memory: &mut [u8],
+        answer: HostAnswer,
+        allowance: u16,
+    ) -> Result<Ran, Refused> {
         let good = answer == HostAnswer::Good;
-        Refused::from_answer(front::answer(&mut self.state, memory, good))
+        Ran::from_front(front::answer(&mut self.state, memory, good, allowance))
     }
 
     /// The completed fence, both halves.

@@ -20,6 +20,9 @@ type Records = [u64; MOST * 5];
 /// The five words of a record: kind, handle and id, of 32 bits, address and length. Zeros beside a refusal.
 pub(crate) type Said = [u64; 5];
 
+/// What a call that runs says: its answer, the number of how it ended, and the units spent.
+pub(crate) type Ran = (u32, u32, u16);
+
 /// A device's state, in words that only the library understands: on this side of the boundary they are only kept.
 ///
 /// The words stand first, where the box points, since every call takes them. `Copy` makes the box's clone a single copy.
@@ -53,7 +56,7 @@ mod library {
         pub fn zelezmut_write(words: &mut Words, offset: u32, value: u32) -> u32;
         /// The value, and 2^32 times the answer.
         pub fn zelezmut_read(words: &Words, offset: u32) -> u64;
-        /// The answer, 2^8 times how it ended, and 2^16 times the units.
+        /// The answer, 2^8 times how it ended, and 2^16 times the units: `ran` takes it apart.
         pub fn zelezmut_run(
             words: &mut Words,
             entries: &mut Entries,
@@ -70,7 +73,18 @@ mod library {
             i: u32,
             said: &mut MaybeUninit<Said>,
         ) -> u32;
-        pub fn zelezmut_answer(words: &mut Words, mem: *mut u8, len: usize, good: u32) -> u32;
+        /// Says it as a run does.
+        pub fn zelezmut_answer(
+            words: &mut Words,
+            entries: &mut Entries,
+            first: &mut Resources,
+            second: &mut Resources,
+            records: &mut Records,
+            mem: *mut u8,
+            len: usize,
+            good: u32,
+            allowance: u16,
+        ) -> u64;
     }
 }
 
@@ -133,11 +147,20 @@ pub(crate) fn read(state: &State, offset: u32) -> (u32, u32) {
     ((said >> 32) as u32, said as u32)
 }
 
-/// The call's answer, the number of how it ended, and the units spent.
+/// The three parts of the number that a call says which runs.
 #[inline]
-pub(crate) fn run(state: &mut State, memory: &mut [u8], allowance: u16) -> (u32, u32, u16) {
+fn ran(said: u64) -> Ran {
+    (
+        u32::from(said as u8),
+        u32::from((said >> 8) as u8),
+        (said >> 16) as u16,
+    )
+}
+
+#[inline]
+pub(crate) fn run(state: &mut State, memory: &mut [u8], allowance: u16) -> Ran {
     // SAFETY: references and a number; the memory's own pointer and length.
-    let said = unsafe {
+    ran(unsafe {
         library::zelezmut_run(
             &mut state.words,
             &mut state.entries,
@@ -148,12 +171,7 @@ pub(crate) fn run(state: &mut State, memory: &mut [u8], allowance: u16) -> (u32,
             memory.len(),
             allowance,
         )
-    };
-    (
-        u32::from(said as u8),
-        u32::from((said >> 8) as u8),
-        (said >> 16) as u16,
-    )
+    })
 }
 
 /// The call's answer, and the record.
@@ -167,18 +185,22 @@ pub(crate) fn record(state: &State, i: u32) -> (u32, Said) {
     }
 }
 
-/// The call's answer.
 #[inline]
-pub(crate) fn answer(state: &mut State, memory: &mut [u8], good: bool) -> u32 {
-    // SAFETY: a reference and a number; the memory's own pointer and length.
-    unsafe {
+pub(crate) fn answer(state: &mut State, memory: &mut [u8], good: bool, allowance: u16) -> Ran {
+    // SAFETY: references and numbers; the memory's own pointer and length.
+    ran(unsafe {
         library::zelezmut_answer(
             &mut state.words,
+            &mut state.entries,
+            &mut state.first,
+            &mut state.second,
+            &mut state.records,
             memory.as_mut_ptr(),
             memory.len(),
             good.into(),
+            allowance,
         )
-    }
+    })
 }
 
 #[cfg(test)]
@@ -272,10 +294,55 @@ mod tests {
             let allowance = numbers.next() as u16;
             let (done, ended, units) = run(&mut state, memory, allowance);
             assert!(done == 0 && ended <= 2 && units <= allowance);
-            assert!([0, 3].contains(&answer(&mut state, memory, value == 0)));
+            let (done, ended, units) = answer(&mut state, memory, value % 2 == 0, allowance);
+            assert!(match done {
+                0 => ended <= 2 && units <= allowance,
+                _ => (done, ended, units) == (3, 0, 0),
+            });
             assert!([0, 2].contains(&write(&mut state, offset, value)));
             let beside = bytes[..BESIDE].iter().chain(&bytes[BESIDE + MEMORY..]);
             assert!(beside.copied().all(|byte| byte == UNTOUCHED));
         }
+    }
+
+    /// All that a device keeps.
+    fn words(state: &State) -> Vec<u64> {
+        let State {
+            words,
+            entries,
+            first,
+            second,
+            records,
+        } = state;
+        [&words[..], entries, first, second, records].concat()
+    }
+
+    /// An answer on one device; on an equal one the answer alone, and the run alone unless that was refused.
+    #[test]
+    fn an_answer_that_carries_on_is_an_answer_and_a_run() {
+        let mut numbers = Numbers(2);
+        let (mut taken, mut refused) = (0, 0);
+        for _ in 0..5_000 {
+            let mut joined = numbers.state();
+            let mut memory = vec![0; MEMORY];
+            memory.fill_with(|| numbers.next() as u8);
+            let mut apart = joined.clone();
+            let mut beside = memory.clone();
+            let (good, allowance) = (numbers.next() % 2 == 0, numbers.next() as u16);
+            let said = answer(&mut joined, &mut memory, good, allowance);
+            let mut expected = answer(&mut apart, &mut beside, good, 0);
+            if expected.0 == 0 {
+                assert_eq!(expected.2, 0);
+                expected = run(&mut apart, &mut beside, allowance);
+                taken += 1;
+            } else {
+                assert_eq!(expected, (3, 0, 0));
+                refused += 1;
+            }
+            assert_eq!(said, expected);
+            assert_eq!(memory, beside);
+            assert_eq!(words(&joined), words(&apart));
+        }
+        assert!(taken > 100 && refused > 100, "{} {}", taken, refused);
     }
 }

@@ -51,9 +51,10 @@
 //!     ]
 //! );
 //!
-//! // The host has done what the records ask, and says so: the fence is finished.
-//! desk.answer(&mut memory, HostAnswer::Good)?;
+//! // The host has done what the records ask, says so and carries on: the fence is finished, and a unit finds no more work.
+//! let ran = desk.answer(&mut memory, HostAnswer::Good, 100)?;
 //! assert_eq!(desk.completed_fence(), 1);
+//! assert_eq!((ran.units, ran.ended), (1, Ended::Idle));
 //! # Ok::<(), zelezmut::Refused>(())
 //! ```
 //!
@@ -61,8 +62,11 @@
 //!
 //! - Memory is lent to [`Desk::run`] and [`Desk::answer`] as `&mut [u8]`: nobody else, no virtual processor either, may touch
 //!   it during such a call. Between calls the guest may write anywhere; what was checked is kept, not read again.
+//! - To answer and to run again is one call, [`Desk::answer`]: from one submission that waits to the next. Its documentation has
+//!   a host's loop.
 //! - A submission that breaks a rule ends within the run. [`Desk::last_error`] says which rule, and at which table entry or packet.
-//! - A call ends. One unit is one step (an opening, a table entry or a packet), and a run takes no more than its allowance.
+//! - A call ends. One unit is one step (an opening, a table entry or a packet), and a run, behind an answer or by itself, takes no
+//!   more than its allowance.
 //! - No call panics on what a guest wrote, and none allocates once the desk is made.
 //! - The static library is x86-64 code. `rt staticlib zelezmut` in the project's root builds it, and so does `./play` there;
 //!   the build script says so if it is missing.

@@ -1,8 +1,8 @@
-//! Desk scripts, versions 1 and 2: a night at the desk as a file, the same on every front that plays it.
+//! Desk scripts, version 2: a night at the desk as a file, the same on every front that plays it.
 //!
-//! A script of version 2 is "DSK2", the memory's length, a word that says which wishes its writer knew, and operations to the
-//! end of the file; one of version 1 begins with "DESK" and lacks that word. [`decode`] reads both, [`encode`] writes version 2,
-//! and [`transcript`] plays one on a [`Desk`](crate::Desk) and gives a line for each operation.
+//! A script is "DSK2", the memory's length, a word that says which wishes its writer knew, and operations to the end of the file.
+//! [`decode`] reads one, [`encode`] writes one, and [`transcript`] plays one on a [`Desk`](crate::Desk) and gives a line for each
+//! operation.
 //!
 //! ```
 //! use zelezmut::script::{self, Operation};
@@ -11,10 +11,10 @@
 //! let bytes = script::encode(4096, &[
 //!     Operation::Read { offset: registers::VERSION },
 //!     Operation::Run { allowance: 16 },
-//!     Operation::Answer { answer: HostAnswer::Good },
+//!     Operation::Answer { answer: HostAnswer::Good, allowance: 16 },
 //! ]);
 //! let lines = script::transcript(&script::decode(&bytes));
-//! assert_eq!(lines, "read 0 65539\nrun 0 0 idle\nanswer 3\n");
+//! assert_eq!(lines, "read 0 65539\nrun 0 0 idle\nanswer 3 0 idle\n");
 //! ```
 mod player;
 
@@ -24,11 +24,10 @@ use crate::HostAnswer;
 use std::error::Error;
 use std::fmt;
 
-const MAGIC_1: [u8; 4] = *b"DESK";
-const MAGIC_2: [u8; 4] = *b"DSK2";
+const MAGIC: [u8; 4] = *b"DSK2";
 
 /// What [`encode`] says of itself: bit N for wish N. Nobody who plays a script asks for it.
-const WISHES: u32 = 1 << 2 | 1 << 9;
+const WISHES: u32 = 1 << 2 | 1 << 6 | 1 << 9;
 
 /// The most bytes that a script has.
 pub const LONGEST_SCRIPT: usize = 1 << 20;
@@ -78,10 +77,12 @@ pub enum Operation {
         /// The record's index.
         index: u32,
     },
-    /// The host answers.
+    /// The host answers, and the front runs.
     Answer {
         /// What it says.
         answer: HostAnswer,
+        /// The most units that the run may spend.
+        allowance: u16,
     },
     /// All readable registers, and the memory's hash.
     State,
@@ -92,10 +93,12 @@ pub enum Operation {
         /// The other memory's bytes.
         length: u32,
     },
-    /// The host answers, and the front is lent another memory: zeros, dropped afterwards.
+    /// The host answers, the front runs, and is lent another memory: zeros, dropped afterwards.
     AnswerElsewhere {
         /// What it says.
         answer: HostAnswer,
+        /// The most units that the run may spend.
+        allowance: u16,
         /// The other memory's bytes.
         length: u32,
     },
@@ -106,7 +109,7 @@ pub enum Operation {
 pub enum Fault {
     /// It is longer than [`LONGEST_SCRIPT`].
     LongScript,
-    /// It begins with neither "DESK" nor "DSK2".
+    /// It does not begin with "DSK2". Version 1 began with "DESK"; it is no longer played.
     NoMagic,
     /// A memory of so many bytes is asked for, more than [`LONGEST_MEMORY`].
     LongMemory(u32),
@@ -137,7 +140,7 @@ impl fmt::Display for Fault {
             ),
             Fault::NoMagic => write!(
                 f,
-                "no desk script: it begins with neither \"DESK\" nor \"DSK2\""
+                "no desk script of version 2: it does not begin with \"DSK2\""
             ),
             Fault::LongMemory(length) => write!(
                 f,
@@ -187,17 +190,14 @@ fn read_script(rest: &mut Reader<'_>, script: &mut Script) -> Result<(), Fault> 
     Ok(())
 }
 
-/// The memory's length. A head is read whole before the length is judged.
+/// The memory's length. The magic is judged once the length is read, and the length once the head is.
 fn read_head(rest: &mut Reader<'_>) -> Result<u32, Fault> {
-    let magic = rest.field()?;
+    let magic: [u8; 4] = rest.field()?;
     let length = rest.u32()?;
-    match magic {
-        MAGIC_1 => {}
-        MAGIC_2 => {
-            rest.u32()?;
-        }
-        _ => return Err(Fault::NoMagic),
+    if magic != MAGIC {
+        return Err(Fault::NoMagic);
     }
+    rest.u32()?;
     memory_length(length)
 }
 
@@ -230,6 +230,7 @@ fn operation(tag: u8, rest: &mut Reader<'_>) -> Result<Operation, Fault> {
         RECORD => Operation::Record { index: rest.u32()? },
         ANSWER => Operation::Answer {
             answer: rest.answer()?,
+            allowance: rest.u16()?,
         },
         STATE => Operation::State,
         RUN_ELSEWHERE => Operation::RunElsewhere {
@@ -238,6 +239,7 @@ fn operation(tag: u8, rest: &mut Reader<'_>) -> Result<Operation, Fault> {
         },
         ANSWER_ELSEWHERE => Operation::AnswerElsewhere {
             answer: rest.answer()?,
+            allowance: rest.u16()?,
             length: memory_length(rest.u32()?)?,
         },
         _ => return Err(Fault::UnknownTag(tag)),
@@ -283,12 +285,12 @@ impl<'a> Reader<'a> {
     }
 }
 
-/// Writes a script of version 2. What is longer than a script may be is written all the same, and is refused by whoever plays it.
+/// Writes a script. What is longer than a script may be is written all the same, and is refused by whoever plays it.
 ///
 /// # Panics
 /// If a poke has 4 GiB or more, which no script can say.
 pub fn encode(memory: u32, operations: &[Operation]) -> Vec<u8> {
-    let mut script = MAGIC_2.to_vec();
+    let mut script = MAGIC.to_vec();
     script.extend(memory.to_le_bytes());
     script.extend(WISHES.to_le_bytes());
     for operation in operations {
@@ -323,15 +325,23 @@ fn encode_operation(script: &mut Vec<u8>, operation: &Operation) {
             script.push(RECORD);
             script.extend(index.to_le_bytes());
         }
-        Operation::Answer { answer } => script.extend([ANSWER, told(*answer)]),
+        Operation::Answer { answer, allowance } => {
+            script.extend([ANSWER, told(*answer)]);
+            script.extend(allowance.to_le_bytes());
+        }
         Operation::State => script.push(STATE),
         Operation::RunElsewhere { allowance, length } => {
             script.push(RUN_ELSEWHERE);
             script.extend(allowance.to_le_bytes());
             script.extend(length.to_le_bytes());
         }
-        Operation::AnswerElsewhere { answer, length } => {
+        Operation::AnswerElsewhere {
+            answer,
+            allowance,
+            length,
+        } => {
             script.extend([ANSWER_ELSEWHERE, told(*answer)]);
+            script.extend(allowance.to_le_bytes());
             script.extend(length.to_le_bytes());
         }
     }
@@ -364,9 +374,11 @@ mod tests {
             Operation::Record { index: 63 },
             Operation::Answer {
                 answer: HostAnswer::Good,
+                allowance: 0,
             },
             Operation::Answer {
                 answer: HostAnswer::Failed,
+                allowance: 65_535,
             },
             Operation::State,
             Operation::RunElsewhere {
@@ -375,20 +387,13 @@ mod tests {
             },
             Operation::AnswerElsewhere {
                 answer: HostAnswer::Good,
+                allowance: 258,
                 length: 0,
             },
         ]
     }
 
-    /// The bytes of a head, in version 1 and in version 2.
-    const HEADS: [usize; 2] = [8, 12];
-
-    /// The same script in version 1 and in version 2.
-    fn both(memory: u32, operations: &[Operation]) -> [Vec<u8>; 2] {
-        let second = encode(memory, operations);
-        let first = [&MAGIC_1, &second[4..8], &second[12..]].concat();
-        [first, second]
-    }
+    const HEAD: usize = 12;
 
     fn bad(fault: Fault) -> Script {
         Script {
@@ -401,23 +406,35 @@ mod tests {
     #[test]
     fn what_is_written_is_read_back() {
         let operations = every_operation();
-        for bytes in both(4096, &operations) {
-            assert_eq!(
-                decode(&bytes),
-                Script {
-                    memory: 4096,
-                    operations: operations.clone(),
-                    fault: None
-                }
-            );
-        }
+        assert_eq!(
+            decode(&encode(4096, &operations)),
+            Script {
+                memory: 4096,
+                operations,
+                fault: None
+            }
+        );
     }
 
     #[test]
     fn the_bytes_are_the_formats() {
-        let [first, second] = both(0x1234, &[Operation::Run { allowance: 0x0506 }]);
-        assert_eq!(first, b"DESK\x34\x12\x00\x00\x04\x06\x05");
-        assert_eq!(second, b"DSK2\x34\x12\x00\x00\x04\x02\x00\x00\x04\x06\x05");
+        let allowance = 0x0506;
+        let answer = HostAnswer::Good;
+        let operations = [
+            Operation::Run { allowance },
+            Operation::Answer { answer, allowance },
+            Operation::AnswerElsewhere {
+                answer,
+                allowance,
+                length: 0x1234,
+            },
+        ];
+        let bytes = encode(0x1234, &operations);
+        assert_eq!(bytes[..HEAD], *b"DSK2\x34\x12\x00\x00\x44\x02\x00\x00");
+        assert_eq!(
+            bytes[HEAD..],
+            *b"\x04\x06\x05\x06\x01\x06\x05\x09\x01\x06\x05\x34\x12\x00\x00"
+        );
     }
 
     #[test]
@@ -433,23 +450,22 @@ mod tests {
     #[test]
     fn a_script_that_is_cut_anywhere_keeps_what_stands_before() {
         let operations = every_operation();
-        for (whole, head) in both(4096, &operations).iter().zip(HEADS) {
-            let mut ends = vec![head];
-            for operation in &operations {
-                let size = encode(0, std::slice::from_ref(operation)).len() - encode(0, &[]).len();
-                ends.push(ends[ends.len() - 1] + size);
-            }
-            for cut in 0..whole.len() {
-                let script = decode(&whole[..cut]);
-                let kept = ends.iter().filter(|&&end| end <= cut).count();
-                assert_eq!(script.operations[..], operations[..kept.saturating_sub(1)]);
-                let fault = if ends.contains(&cut) {
-                    None
-                } else {
-                    Some(Fault::Truncated)
-                };
-                assert_eq!(script.fault, fault, "head of {}, cut at {}", head, cut);
-            }
+        let whole = encode(4096, &operations);
+        let mut ends = vec![HEAD];
+        for operation in &operations {
+            let size = encode(0, std::slice::from_ref(operation)).len() - HEAD;
+            ends.push(ends[ends.len() - 1] + size);
+        }
+        for cut in 0..whole.len() {
+            let script = decode(&whole[..cut]);
+            let kept = ends.iter().filter(|&&end| end <= cut).count();
+            assert_eq!(script.operations[..], operations[..kept.saturating_sub(1)]);
+            let fault = if ends.contains(&cut) {
+                None
+            } else {
+                Some(Fault::Truncated)
+            };
+            assert_eq!(script.fault, fault, "cut at {}", cut);
         }
     }
 
@@ -465,17 +481,27 @@ mod tests {
             );
         }
         assert_eq!(decode(&head), bad(Fault::LongMemory(u32::MAX)));
-        // A wrong magic is told from 8 bytes on, as in version 1.
-        for cut in 8..head.len() {
-            let mut other = head[..cut].to_vec();
-            other[3] = b'3';
-            assert_eq!(decode(&other), bad(Fault::NoMagic), "cut at {}", cut);
+        // A wrong magic is told from 8 bytes on.
+        for magic in [*b"DSK3", *b"DESK"] {
+            for cut in 0..head.len() {
+                let mut other = head.clone();
+                other[..4].copy_from_slice(&magic);
+                other.truncate(cut);
+                let fault = if cut < 8 {
+                    Fault::Truncated
+                } else {
+                    Fault::NoMagic
+                };
+                assert_eq!(decode(&other), bad(fault), "cut at {}", cut);
+            }
         }
     }
 
     #[test]
     fn a_file_that_is_no_script_is_bad() {
         assert_eq!(decode(b"DUSK\x00\x00\x00\x00"), bad(Fault::NoMagic));
+        // Version 1: a head without the last word, and a state line.
+        assert_eq!(decode(b"DESK\x10\x00\x00\x00\x07"), bad(Fault::NoMagic));
         assert_eq!(
             decode(b"DSK1\x00\x00\x00\x00\x00\x00\x00\x00"),
             bad(Fault::NoMagic)
@@ -488,19 +514,20 @@ mod tests {
 
     #[test]
     fn memories_have_at_most_64_kib() {
-        for bytes in both(65_536, &[]) {
-            assert_eq!(decode(&bytes).fault, None);
-        }
-        for bytes in both(65_537, &[]) {
-            assert_eq!(decode(&bytes), bad(Fault::LongMemory(65_537)));
-        }
-        let elsewhere = |length| Operation::RunElsewhere {
+        assert_eq!(decode(&encode(65_536, &[])).fault, None);
+        assert_eq!(decode(&encode(65_537, &[])), bad(Fault::LongMemory(65_537)));
+        let run = |length| Operation::RunElsewhere {
             allowance: 1,
             length,
         };
-        for bytes in both(16, &[elsewhere(65_536), elsewhere(65_537)]) {
-            let script = decode(&bytes);
-            assert_eq!(script.operations, [elsewhere(65_536)]);
+        let answer = |length| Operation::AnswerElsewhere {
+            answer: HostAnswer::Good,
+            allowance: 1,
+            length,
+        };
+        for [longest, longer] in [[65_536, 65_537].map(run), [65_536, 65_537].map(answer)] {
+            let script = decode(&encode(16, &[longest.clone(), longer]));
+            assert_eq!(script.operations, [longest]);
             assert_eq!(script.fault, Some(Fault::LongMemory(65_537)));
         }
         assert_eq!(Fault::LongMemory(65_537).line(), "bad script");
@@ -527,12 +554,11 @@ mod tests {
     #[test]
     fn an_unknown_tag_ends_the_script() {
         for tag in (0..=255).filter(|tag| !(1..=9).contains(tag)) {
-            for mut bytes in both(16, &[Operation::State]) {
-                bytes.extend([tag, STATE]);
-                let script = decode(&bytes);
-                assert_eq!(script.operations, [Operation::State]);
-                assert_eq!(script.fault, Some(Fault::UnknownTag(tag)));
-            }
+            let mut bytes = encode(16, &[Operation::State]);
+            bytes.extend([tag, STATE]);
+            let script = decode(&bytes);
+            assert_eq!(script.operations, [Operation::State]);
+            assert_eq!(script.fault, Some(Fault::UnknownTag(tag)));
         }
         assert_eq!(Fault::UnknownTag(10).line(), "unknown tag 10");
     }
@@ -540,13 +566,16 @@ mod tests {
     #[test]
     fn any_answer_byte_but_1_says_failed() {
         for told in 0..=255 {
-            let script = decode(&[b'D', b'E', b'S', b'K', 0, 0, 0, 0, ANSWER, told]);
+            let mut bytes = encode(0, &[]);
+            bytes.extend([ANSWER, told, 0, 0]);
             let answer = if told == 1 {
                 HostAnswer::Good
             } else {
                 HostAnswer::Failed
             };
-            assert_eq!(script.operations, [Operation::Answer { answer }]);
+            let allowance = 0;
+            let expected = Operation::Answer { answer, allowance };
+            assert_eq!(decode(&bytes).operations, [expected]);
         }
     }
 }

@@ -40,11 +40,11 @@ fn memory_of_another_length_is_refused_and_left_alone() {
         let ran = desk.run(&mut memory, 100).unwrap();
         assert_eq!((ran.units, ran.ended), (1, Ended::Waiting));
         assert_eq!(
-            desk.answer(&mut other, HostAnswer::Good),
+            desk.answer(&mut other, HostAnswer::Good, 100),
             Err(Refused::OtherMemory)
         );
         assert!(other.iter().all(|&byte| byte == 0xEE));
-        assert_eq!(desk.answer(&mut memory, HostAnswer::Good), Ok(()));
+        assert!(desk.answer(&mut memory, HostAnswer::Good, 0).is_ok());
         assert_eq!(desk.completed_fence(), 7);
     }
 }
@@ -53,11 +53,16 @@ fn memory_of_another_length_is_refused_and_left_alone() {
 fn another_length_is_told_before_nothing_waits() {
     let mut desk = Desk::new(MEMORY);
     let good = HostAnswer::Good;
-    assert_eq!(desk.answer(&mut [], good), Err(Refused::OtherMemory));
-    assert_eq!(
-        desk.answer(&mut [0; MEMORY], good),
-        Err(Refused::NothingWaits)
-    );
+    for allowance in [0, 1, u16::MAX] {
+        assert_eq!(
+            desk.answer(&mut [], good, allowance),
+            Err(Refused::OtherMemory)
+        );
+        assert_eq!(
+            desk.answer(&mut [0; MEMORY], good, allowance),
+            Err(Refused::NothingWaits)
+        );
+    }
     assert_eq!(desk.record(0), Err(Refused::NoRecord));
     assert_eq!(desk.records().count(), 0);
 }
@@ -94,8 +99,8 @@ fn a_clone_goes_its_own_way() {
     let (mut desk, mut memory) = rung();
     desk.run(&mut memory, 100).unwrap();
     let (mut other, mut copy) = (desk.clone(), memory.clone());
-    other.answer(&mut copy, HostAnswer::Failed).unwrap();
-    desk.answer(&mut memory, HostAnswer::Good).unwrap();
+    other.answer(&mut copy, HostAnswer::Failed, 0).unwrap();
+    desk.answer(&mut memory, HostAnswer::Good, 0).unwrap();
     assert_eq!(desk.last_error(), None);
     assert_eq!(other.last_error().map(|e| e.fence), Some(7));
 }
@@ -104,7 +109,7 @@ fn a_clone_goes_its_own_way() {
 fn a_reset_keeps_the_error_and_the_ring() {
     let (mut desk, mut memory) = rung();
     desk.run(&mut memory, 100).unwrap();
-    desk.answer(&mut memory, HostAnswer::Failed).unwrap();
+    desk.answer(&mut memory, HostAnswer::Failed, 0).unwrap();
     desk.write(registers::CONTROL, registers::CONTROL_RESET)
         .unwrap();
     assert_eq!(desk.completed_fence(), 0);

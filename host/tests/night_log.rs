@@ -127,14 +127,15 @@ fn a_good_answer_finishes_the_fence_and_writes_head_and_page() {
     guest::put(&mut expected, FENCE_PAGE + 8, &1u64.to_le_bytes());
 
     assert!(!desk.interrupts());
-    assert_eq!(desk.answer(&mut memory, HostAnswer::Good), Ok(()));
+    let answered = desk.answer(&mut memory, HostAnswer::Good, 0);
+    assert_eq!(answered, ran(0, Ended::Paused));
     assert!(memory == expected);
     assert_eq!(desk.completed_fence(), 1);
     assert!(desk.interrupts());
     assert_eq!(desk.last_error(), None);
     assert_eq!(desk.records().count(), 0);
     assert_eq!(
-        desk.answer(&mut memory, HostAnswer::Good),
+        desk.answer(&mut memory, HostAnswer::Good, 100),
         Err(Refused::NothingWaits)
     );
     assert_eq!(desk.run(&mut memory, 100), ran(1, Ended::Idle));
@@ -144,7 +145,8 @@ fn a_good_answer_finishes_the_fence_and_writes_head_and_page() {
 fn a_failed_answer_is_error_27() {
     let (mut desk, mut memory) = example_9();
     desk.run(&mut memory, 4).unwrap();
-    assert_eq!(desk.answer(&mut memory, HostAnswer::Failed), Ok(()));
+    let answered = desk.answer(&mut memory, HostAnswer::Failed, 100);
+    assert_eq!(answered, ran(1, Ended::Idle));
     assert_eq!(
         desk.last_error(),
         Some(ErrorReport {

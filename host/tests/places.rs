@@ -234,7 +234,7 @@ fn the_place_stays_until_the_next_error() {
     assert_eq!(night.submit(&table, &good), Ended::Waiting);
     night
         .desk
-        .answer(&mut night.memory, HostAnswer::Good)
+        .answer(&mut night.memory, HostAnswer::Good, 0)
         .unwrap();
     assert_eq!(night.error_and_place(), there);
 
@@ -242,7 +242,7 @@ fn the_place_stays_until_the_next_error() {
     assert_eq!(night.submit(&table, &good), Ended::Waiting);
     night
         .desk
-        .answer(&mut night.memory, HostAnswer::Failed)
+        .answer(&mut night.memory, HostAnswer::Failed, 0)
         .unwrap();
     assert_eq!(night.error_and_place(), (27, Place::Nowhere));
     assert_eq!(night.detail(), 0);

@@ -63,18 +63,25 @@ fn each_file_has_its_name_and_its_transcript() {
 }
 
 #[test]
-fn both_versions_of_a_script_are_played() {
+fn version_2_is_played_and_version_1_is_not() {
     let first = file("first.desk", b"DESK\x10\x00\x00\x00\x04\x01\x00");
     let second = file("second.desk", b"DSK2\x10\x00\x00\x00any.\x04\x01\x00");
     let said = play(&[&first, &second]);
     assert_eq!(
         said.out,
         format!(
-            "script {}\nrun 0 0 idle\nscript {}\nrun 0 0 idle\n",
+            "script {}\nbad script\nscript {}\nrun 0 0 idle\n",
             first, second
         )
     );
-    assert_eq!((said.status, said.err.as_str()), (Some(0), ""));
+    assert_eq!(said.status, Some(1));
+    assert_eq!(
+        said.err,
+        format!(
+            "play: {}: no desk script of version 2: it does not begin with \"DSK2\" (operations played: 0)\n",
+            first
+        )
+    );
     let short = file("short_head.desk", b"DSK2\x10\x00\x00\x00any");
     let said = play(&[&short]);
     assert_eq!(said.out, format!("script {}\ntruncated\n", short));
@@ -108,7 +115,7 @@ fn a_file_that_is_no_script_is_told_and_the_next_is_played() {
     assert_eq!(
         said.err,
         format!(
-            "play: {}: no desk script: it begins with neither \"DESK\" nor \"DSK2\" (operations played: 0)\n",
+            "play: {}: no desk script of version 2: it does not begin with \"DSK2\" (operations played: 0)\n",
             no_script
         )
     );

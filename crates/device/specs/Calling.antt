@@ -13,7 +13,7 @@ use Rattle.device_calls.specs.declared.RecordRead.{RecordRead}
 use Rattle.run_state.specs.Views.{lent}
 use Rattle.device_memory_calls.specs.Views.{Runs, Answers}
 use Rattle.device_memory_calls.specs.declared.Spent.{Spent}
-use Rattle.device.specs.Views.{stateOf, worldOf, wroteOf, ranOf, answeredOf}
+use Rattle.device.specs.Views.{stateOf, worldOf, wroteOf, ranOf}
 use Rattle.device.specs.declared.Device.{Device}
 
 pub is-made : (memory : ℕ) (s e a b c : List ℕ) → Makes memory s → stateOf (record { words = s; entries = e; first = a; second = b; records = c }) ≡ made memory
@@ -34,8 +34,8 @@ module _ (d : Device) where
       → ranOf (record { answer = x .answer; units = x .units; ended = x .ended; device = record { words = s′; entries = e′; first = a′; second = b′; records = c′ } }) m′ ≡ call-run (worldOf d m) allowance
   ran m allowance x s′ e′ a′ b′ c′ m′ k = k .ran
 
-  pub answered : (m : List ℕ) (good : Bool) (answer : ℕ) (s′ m′ : List ℕ) → Answers (d .words) m good answer s′ m′
-      → answeredOf (record { answer = answer; device = record { words = s′; entries = d .entries; first = d .first; second = d .second; records = d .records } }) m′ ≡ call-answer (worldOf d m) good
-  answered m good answer s′ m′ k = k .answered (d .entries) (d .first) (d .second) (d .records)
+  pub answered : (m : List ℕ) (good : Bool) (allowance : ℕ) (x : Spent) (s′ e′ a′ b′ c′ m′ : List ℕ) → Answers good allowance (lent (d .words) (d .entries) (d .first) (d .second) (d .records) m) x (lent s′ e′ a′ b′ c′ m′)
+      → ranOf (record { answer = x .answer; units = x .units; ended = x .ended; device = record { words = s′; entries = e′; first = a′; second = b′; records = c′ } }) m′ ≡ call-answer (worldOf d m) good allowance
+  answered m good allowance x s′ e′ a′ b′ c′ m′ k = k .ran
 
 pub ruleset calling = (is-made, wrote, read, record-read, ran, answered, needs)

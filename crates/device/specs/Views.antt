@@ -2,12 +2,11 @@
 use mathlib.Core.List.{List}
 use Prim.Native.Nat.{ℕ}
 use Rattle.rules.specs.State.{State, World}
-use Rattle.rules.specs.Calls.{Wrote as WroteBy, Ran as RanBy, Answered as AnsweredBy}
+use Rattle.rules.specs.Calls.{Wrote as WroteBy, Ran as RanBy}
 use Rattle.run_state.specs.Views.{stateIn, deskIn}
 use Rattle.device.specs.declared.Device.{Device}
 use Rattle.device.specs.declared.Wrote.{Wrote}
 use Rattle.device.specs.declared.Ran.{Ran}
-use Rattle.device.specs.declared.Answered.{Answered}
 
 abbrev pub worldOf : Device → List ℕ → World
 worldOf d m = deskIn (d .words) (d .entries) (d .first) (d .second) (d .records) m
@@ -20,6 +19,3 @@ wroteOf r = record { answer = r .answer; state = stateOf (r .device) }
 
 abbrev pub ranOf : Ran → List ℕ → RanBy
 ranOf r m = record { answer = r .answer; units = r .units; ended = r .ended; world = worldOf (r .device) m }
-
-abbrev pub answeredOf : Answered → List ℕ → AnsweredBy
-answeredOf r m = record { answer = r .answer; world = worldOf (r .device) m }

@@ -8,7 +8,7 @@ ghost use mathlib.Core.Path.{_≡_};
 ghost use Rattle.rules.specs.State.{made};
 ghost use Rattle.rules.specs.Calls.{call-write, call-read, call-run, call-record, call-answer};
 ghost use Rattle.device_calls.specs.Views.{valueOf, recordReadOf};
-ghost use Rattle.device.specs.Views.{stateOf, worldOf, wroteOf, ranOf, answeredOf};
+ghost use Rattle.device.specs.Views.{stateOf, worldOf, wroteOf, ranOf};
 
 // A device by value: its words, the entries kept, the two tables of resources and the records.
 pub struct Device {
@@ -25,17 +25,11 @@ pub struct Wrote {
     pub device: Device,
 }
 
-// What a run answers, the units spent, how it ended, and the device after it.
+// What a run or an answer is answered with, the units spent, how it ended, and the device after it.
 pub struct Ran {
     pub answer: u32,
     pub units: u16,
     pub ended: Ended,
-    pub device: Device,
-}
-
-// What the host's answer is answered with, and the device after it.
-pub struct Answered {
-    pub answer: u32,
     pub device: Device,
 }
 
@@ -126,16 +120,27 @@ impl Device {
         }
     }
 
-    // The host's answer to what waits.
-    pub fn answer(self, mem: &mut [u8], good: bool) -> Answered
-        ensures { λ r. ⌜ answeredOf r (now (mem .exit)) ≡ call-answer (worldOf self (now (mem .entry))) good ⌝ }
+    // The host's answer to what waits, and at once as many units as are allowed; says how many were spent and how it ended. An allowance
+    // of 0 is an answer alone.
+    pub fn answer(self, mem: &mut [u8], good: bool, allowance: u16) -> Ran
+        ensures { λ r. ⌜ ranOf r (now (mem .exit)) ≡ call-answer (worldOf self (now (mem .entry))) good allowance ⌝ }
     {
         let mut words = self.words;
-        let entries = self.entries;
-        let first = self.first;
-        let second = self.second;
-        let records = self.records;
-        let answer = device_memory_calls::answer(&mut words, mem, good);
+        let mut entries = self.entries;
+        let mut first = self.first;
+        let mut second = self.second;
+        let mut records = self.records;
+        let x = device_memory_calls::answer(
+            &mut words,
+            &mut entries,
+            &mut first,
+            &mut second,
+            &mut records,
+            mem,
+            good,
+            allowance,
+        );
+        let ended = x.ended;
         let device = Device {
             words,
             entries,
@@ -143,6 +148,11 @@ impl Device {
             second,
             records,
         };
-        Answered { answer, device }
+        Ran {
+            answer: x.answer,
+            units: x.units,
+            ended,
+            device,
+        }
     }
 }

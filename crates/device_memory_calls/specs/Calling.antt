@@ -6,14 +6,14 @@ use Prim.Native.Nat.{ℕ, _≤_, _<_}
 use borrow.Author.Needs.{needs}
 use borrow.Author.Tests.{eq-eqb, ne-eqb}
 use lib.ListN.{length, getD}
-use Rattle.machine.specs.Machine.{pick}
+use Rattle.machine.specs.Machine.{pick, run-none}
 use Rattle.rules.specs.Numbers.{done, other-memory, nothing-waits, host-failed}
 use Rattle.rules.specs.Judging.{refusal, without-place}
 use Rattle.rules.specs.Judging.Finding.{fine, broken}
 use Rattle.rules.specs.State.{World}
-use Rattle.rules.specs.Steps.{run-for, answer-on, answered}
+use Rattle.rules.specs.Steps.{step, go, run-for, waits, answer-on, answered}
 use Rattle.rules.specs.Settle.{settled, settled-keeping}
-use Rattle.rules.specs.Calls.{ending, ran, call-run, call-answer}
+use Rattle.rules.specs.Calls.{lent-another, ending, Ran, ran, call-run, answer-alone, call-answer}
 use Rattle.rules.specs.declared.Ended.{Ended}
 use Rattle.rules.specs.declared.Ended.the-variants.{Idle, Waiting, Paused}
 use Rattle.run_state.specs.Views.{setIn, tagIn, jobIn, heldIn, worldIn, bareIn, sideIn, deskIn, lent}
@@ -22,7 +22,9 @@ use Rattle.run_state.specs.Reading.{unset, is-set}
 use Rattle.run_state.specs.Stages.{rests-in, waits-in, works-on, works-in}
 use Rattle.run_settle.specs.Views.{Refuses, Accepts}
 use Rattle.run_loop.specs.Views.{RanFor}
-use Rattle.device_memory_calls.specs.Views.{Ends, RanOn, Runs, Answers}
+use Rattle.settle.specs.Only.{answered-is-lent-alike}
+use Rattle.device_memory_calls.specs.Views.{Ends, RanOn, refusedWith, CarriesOn, Runs, SettlesAnswered, Answers}
+use Rattle.device_memory_calls.specs.declared.Spent.{Spent}
 
 -- ---- ended_in
 
@@ -66,6 +68,9 @@ pub ruleset ending-in = (ends-waits, ends-off, ends-paused, ends-idle, ends-rung
 
 -- ---- run_on
 
+pub on-nothing : (allowance : ℕ) (s e a b c m : List ℕ) → allowance ≡ 0 → RanOn allowance (lent s e a b c m) 0 (lent s e a b c m)
+on-nothing allowance s e a b c m z = record { run = rw (z, run-none go step (deskIn s e a b c m)) }
+
 module _ (allowance u : ℕ) (s e c m s′ e′ c′ m′ : List ℕ) where
   pub on-first : (a b b′ : List ℕ) → getD s 28 0 ≡ 0 → RanFor allowance s (tables e a b c) m u s′ (tables e′ a b′ c′) m′ → RanOn allowance (lent s e a b c m) u (lent s′ e′ a b′ c′ m′)
   on-first a b b′ z x =
@@ -79,9 +84,18 @@ module _ (allowance u : ℕ) (s e c m s′ e′ c′ m′ : List ℕ) where
       let there : setIn (getD s′ 28 0) ≡ true = is-set (getD s′ 28 0) (λ z. n (sym (x .side) ∙ z)) in
       record { run = rw (here, there) (x .run) }
 
-pub ruleset choosing = (on-first, on-second, needs)
+pub ruleset choosing = (on-nothing, on-first, on-second, needs)
 
--- ---- run
+-- ---- carry_on
+
+pub carries-on : (allowance u : ℕ) (k : Ended) (s e a b c m s′ e′ a′ b′ c′ m′ : List ℕ) → RanOn allowance (lent s e a b c m) u (lent s′ e′ a′ b′ c′ m′) → Ends s′ k
+    → CarriesOn allowance (lent s e a b c m) (record { answer = done; units = u; ended = k }) (lent s′ e′ a′ b′ c′ m′)
+carries-on allowance u k s e a b c m s′ e′ a′ b′ c′ m′ x ends =
+    record { carried = rw (ends .ended e′ (pick (sideIn s′) b′ a′) (pick (sideIn s′) a′ b′) c′ m′) (ap ran (x .run)) }
+
+pub ruleset carrying-on = (carries-on, needs)
+
+-- ---- the memory that is lent
 
 memory-in : (s e a b c m : List ℕ) → deskIn s e a b c m .state .memory ≡ getD s 0 0
 unfolding worldIn
@@ -91,27 +105,36 @@ lent-in : (s e a b c m : List ℕ) → deskIn s e a b c m .mem ≡ m
 unfolding worldIn
 lent-in s e a b c m = refl
 
-module _ (s e a b c m : List ℕ) (allowance memory : ℕ) (is : memory ≡ getD s 0 0) where
-  pub runs-other : (length m ≡ memory → ⊥) → Runs allowance (lent s e a b c m) (record { answer = other-memory; units = 0; ended = Idle }) (lent s e a b c m)
-  unfolding call-run
-  runs-other n = record { ran = rw (memory-in s e a b c m, lent-in s e a b c m, ← is, ne-eqb _ _ n); still = λ q. refl }
+module _ (s e a b c m : List ℕ) (memory : ℕ) (is : memory ≡ getD s 0 0) where
+  other : (length m ≡ memory → ⊥) → lent-another (deskIn s e a b c m) ≡ true
+  other n = rw (memory-in s e a b c m, lent-in s e a b c m, ← is, ne-eqb _ _ n)
 
-  -- what the rules' run then is
-  ran-as : length m ≡ memory → call-run (deskIn s e a b c m) allowance ≡ ran (run-for allowance (deskIn s e a b c m))
-  unfolding call-run
-  ran-as n = rw (memory-in s e a b c m, lent-in s e a b c m, ← is, eq-eqb _ _ n)
+  own : length m ≡ memory → lent-another (deskIn s e a b c m) ≡ false
+  own n = rw (memory-in s e a b c m, lent-in s e a b c m, ← is, eq-eqb _ _ n)
 
-  pub runs-done : (s′ e′ a′ b′ c′ m′ : List ℕ) (u : ℕ) (k : Ended) → length m ≡ memory → RanOn allowance (lent s e a b c m) u (lent s′ e′ a′ b′ c′ m′) → Ends s′ k
-      → Runs allowance (lent s e a b c m) (record { answer = done; units = u; ended = k }) (lent s′ e′ a′ b′ c′ m′)
-  runs-done s′ e′ a′ b′ c′ m′ u k n x ends =
+-- ---- run
+
+-- what was carried on was not refused
+not-refused : (allowance : ℕ) (s e a b c m s′ e′ a′ b′ c′ m′ : List ℕ) (x : Spent) → CarriesOn allowance (lent s e a b c m) x (lent s′ e′ a′ b′ c′ m′) → x .answer ≡ done
+not-refused allowance s e a b c m s′ e′ a′ b′ c′ m′ x k = ap (λ (r : Ran). r .answer) (k .carried)
+
+module _ (s e a b c m : List ℕ) (allowance memory : ℕ) (is : memory ≡ getD s 0 0) (x : Spent) where
+  pub runs-other : (length m ≡ memory → ⊥) → x ≡ refusedWith other-memory → Runs allowance (lent s e a b c m) x (lent s e a b c m)
+  unfolding call-run
+  runs-other n r = record { ran = rw (r, other s e a b c m memory is n); still = λ q. refl }
+
+  pub runs-done : (s′ e′ a′ b′ c′ m′ : List ℕ) → length m ≡ memory → CarriesOn allowance (lent s e a b c m) x (lent s′ e′ a′ b′ c′ m′)
+      → Runs allowance (lent s e a b c m) x (lent s′ e′ a′ b′ c′ m′)
+  unfolding call-run
+  runs-done s′ e′ a′ b′ c′ m′ n k =
       record {
-        ran = rw (ends .ended e′ (pick (sideIn s′) b′ a′) (pick (sideIn s′) a′ b′) c′ m′) (ap ran (x .run) ∙ sym (ran-as n));
-        still = λ q. absurd (q refl);
+        ran = rw (own s e a b c m memory is n) (k .carried);
+        still = λ q. absurd (q (not-refused allowance s e a b c m s′ e′ a′ b′ c′ m′ x k));
       }
 
 pub ruleset running = (runs-other, runs-done, needs)
 
--- ---- answer
+-- ---- settle_answered
 
 -- the rules' answer to what waits
 module _ (s e r h c m : List ℕ) (asked : 3 ≤ tagIn s) where
@@ -123,44 +146,48 @@ module _ (s e r h c m : List ℕ) (asked : 3 ≤ tagIn s) where
   unfolding answered settled worldIn
   failed-answer = ap (answer-on false (worldIn s e r h c m)) (waits-in s e r h c m asked)
 
-module _ (s m : List ℕ) (good : Bool) (memory : ℕ) (is : memory ≡ getD s 0 0) where
-  pub answers-other : (length m ≡ memory → ⊥) → Answers s m good other-memory s m
-  unfolding call-answer
-  answers-other n = record { answered = λ e a b c. rw (memory-in s e a b c m, lent-in s e a b c m, ← is, ne-eqb _ _ n); still = λ q. (refl, refl) }
+module _ (s m : List ℕ) (good : Bool) (asked : 3 ≤ tagIn s) (s′ m′ : List ℕ) where
+  pub settles-good : good ≡ true → Accepts s m s′ m′ → SettlesAnswered s m good s′ m′
+  settles-good g x =
+      record { settled = λ e a b c. x .world e a b c ∙ (sym (good-answer s e (pick (sideIn s) b a) (pick (sideIn s) a b) c m asked) ∙ rw g) }
+
+  pub settles-failed : good ≡ false → Refuses s m (record { code = host-failed; place = 0 }) s′ m′ → SettlesAnswered s m good s′ m′
+  settles-failed g x =
+      record {
+        settled = λ e a b c.
+            ap (λ k. worldIn s′ e (pick (setIn k) b a) (pick (setIn k) a b) c m′) (x .side)
+            ∙ (x .world e (pick (sideIn s) b a) (pick (sideIn s) a b) c ∙ (sym (failed-answer s e (pick (sideIn s) b a) (pick (sideIn s) a b) c m asked) ∙ rw g));
+      }
+
+pub ruleset settling-answered = (settles-good, settles-failed, needs)
+
+-- ---- answer
+
+module _ (s e a b c m : List ℕ) (good : Bool) (allowance memory : ℕ) (is : memory ≡ getD s 0 0) (x : Spent) where
+  pub answers-other : (length m ≡ memory → ⊥) → x ≡ refusedWith other-memory → Answers good allowance (lent s e a b c m) x (lent s e a b c m)
+  unfolding answer-alone call-answer
+  answers-other n r = record { ran = rw (r, other s e a b c m memory is n); still = λ q. refl }
 
   module _ (n : length m ≡ memory) where
-    pub answers-unasked : tagIn s < 3 → Answers s m good nothing-waits s m
-    unfolding call-answer
-    answers-unasked low =
-        record {
-          answered = λ e a b c. rw (memory-in s e a b c m, lent-in s e a b c m, ← is, eq-eqb _ _ n, works-on s e (pick (sideIn s) b a) (pick (sideIn s) a b) c m low);
-          still = λ q. (refl, refl);
-        }
+    pub answers-unasked : tagIn s < 3 → x ≡ refusedWith nothing-waits → Answers good allowance (lent s e a b c m) x (lent s e a b c m)
+    unfolding answer-alone call-answer
+    answers-unasked low r =
+        record { ran = rw (r, own s e a b c m memory is n, works-on s e (pick (sideIn s) b a) (pick (sideIn s) a b) c m low); still = λ q. refl }
 
-    module _ (asked : 3 ≤ tagIn s) (s′ m′ : List ℕ) where
-      -- what the rules' answer then is
-      answered-as : (e a b c : List ℕ) → call-answer (deskIn s e a b c m) good ≡ record { answer = done; world = answered good (deskIn s e a b c m) }
-      unfolding call-answer
-      answered-as e a b c = rw (memory-in s e a b c m, lent-in s e a b c m, ← is, eq-eqb _ _ n, waits-in s e (pick (sideIn s) b a) (pick (sideIn s) a b) c m asked)
+    module _ (asked : 3 ≤ tagIn s) where
+      -- what the rules' call then is
+      answered-as : call-answer (deskIn s e a b c m) good allowance ≡ ran (run-for allowance (answered good (deskIn s e a b c m)))
+      unfolding answer-alone call-answer call-run
+      answered-as =
+          let awaits : waits (deskIn s e a b c m .state) ≡ true = rw (waits-in s e (pick (sideIn s) b a) (pick (sideIn s) a b) c m asked) in
+          rw (own s e a b c m memory is n, awaits, answered-is-lent-alike good (deskIn s e a b c m), own s e a b c m memory is n)
 
-      pub answers-good : good ≡ true → Accepts s m s′ m′ → Answers s m good done s′ m′
-      answers-good g x =
+      pub answers-done : (s₁ m₁ s′ e′ a′ b′ c′ m′ : List ℕ) → SettlesAnswered s m good s₁ m₁ → CarriesOn allowance (lent s₁ e a b c m₁) x (lent s′ e′ a′ b′ c′ m′)
+          → Answers good allowance (lent s e a b c m) x (lent s′ e′ a′ b′ c′ m′)
+      answers-done s₁ m₁ s′ e′ a′ b′ c′ m′ t k =
           record {
-            answered = λ e a b c.
-                ap (λ (w : World). record { answer = done; world = w }) (x .world e a b c ∙ (sym (good-answer s e (pick (sideIn s) b a) (pick (sideIn s) a b) c m asked) ∙ rw g))
-                ∙ sym (answered-as e a b c);
-            still = λ q. absurd (q refl);
+            ran = k .carried ∙ (ap (λ (w : World). ran (run-for allowance w)) (t .settled e a b c) ∙ sym answered-as);
+            still = λ q. absurd (q (not-refused allowance s₁ e a b c m₁ s′ e′ a′ b′ c′ m′ x k));
           }
 
-      pub answers-failed : good ≡ false → Refuses s m (record { code = host-failed; place = 0 }) s′ m′ → Answers s m good done s′ m′
-      answers-failed g x =
-          record {
-            answered = λ e a b c.
-                ap (λ (w : World). record { answer = done; world = w })
-                (ap (λ k. worldIn s′ e (pick (setIn k) b a) (pick (setIn k) a b) c m′) (x .side)
-                ∙ (x .world e (pick (sideIn s) b a) (pick (sideIn s) a b) c ∙ (sym (failed-answer s e (pick (sideIn s) b a) (pick (sideIn s) a b) c m asked) ∙ rw g)))
-                ∙ sym (answered-as e a b c);
-            still = λ q. absurd (q refl);
-          }
-
-pub ruleset answering = (answers-other, answers-unasked, answers-good, answers-failed, needs)
+pub ruleset answering = (answers-other, answers-unasked, answers-done, needs)

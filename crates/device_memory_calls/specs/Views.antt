@@ -4,9 +4,10 @@ use mathlib.Core.Path.{_≡_}
 use mathlib.Core.Bool.{Bool}
 use mathlib.Core.List.{List}
 use Prim.Native.Nat.{ℕ}
-use Rattle.rules.specs.Steps.{run-for}
-use Rattle.rules.specs.Calls.{ending, Ran, Answered, call-run, call-answer}
+use Rattle.rules.specs.Steps.{run-for, answered}
+use Rattle.rules.specs.Calls.{ending, Ran, ran, call-run, call-answer}
 use Rattle.rules.specs.declared.Ended.{Ended}
+use Rattle.rules.specs.declared.Ended.the-variants.{Idle}
 use Rattle.run_state.specs.Views.{worldIn, deskIn, Lent, deskOf, Refused}
 use Rattle.device_memory_calls.specs.declared.Spent.{Spent}
 
@@ -18,11 +19,24 @@ pub record Ends (s : List ℕ) (x : Ended) : Type 0 where
 pub record RanOn (allowance : ℕ) (l : Lent) (units : ℕ) (l′ : Lent) : Type 0 where
   pub run : record { state = deskOf l′; units = units } ≡ run-for allowance (deskOf l)
 
+-- what was spent, and the device that then stands, as the rules have it
+abbrev pub ranOf : Spent → Lent → Ran
+ranOf x l′ = record { answer = x .answer; units = x .units; ended = x .ended; world = deskOf l′ }
+
+abbrev pub refusedWith : ℕ → Spent
+refusedWith answer = record { answer = answer; units = 0; ended = Idle }
+
+pub record CarriesOn (allowance : ℕ) (l : Lent) (x : Spent) (l′ : Lent) : Type 0 where
+  pub carried : ranOf x l′ ≡ ran (run-for allowance (deskOf l))
+
 pub record Runs (allowance : ℕ) (l : Lent) (x : Spent) (l′ : Lent) : Type 0 where
-  pub ran : _≡_ {A = Ran} (record { answer = x .answer; units = x .units; ended = x .ended; world = deskOf l′ }) (call-run (deskOf l) allowance)
+  pub ran : ranOf x l′ ≡ call-run (deskOf l) allowance
   pub still : Refused (x .answer) → l′ ≡ l
 
--- whatever stands in the tables
-pub record Answers (s m : List ℕ) (good : Bool) (answer : ℕ) (s′ m′ : List ℕ) : Type 0 where
-  pub answered : (e a b c : List ℕ) → _≡_ {A = Answered} (record { answer = answer; world = deskIn s′ e a b c m′ }) (call-answer (deskIn s e a b c m) good)
-  pub still : Refused answer → (s′ ≡ s) × (m′ ≡ m)
+-- what waits is settled, whatever stands in the tables
+pub record SettlesAnswered (s m : List ℕ) (good : Bool) (s′ m′ : List ℕ) : Type 0 where
+  pub settled : (e a b c : List ℕ) → deskIn s′ e a b c m′ ≡ answered good (deskIn s e a b c m)
+
+pub record Answers (good : Bool) (allowance : ℕ) (l : Lent) (x : Spent) (l′ : Lent) : Type 0 where
+  pub ran : ranOf x l′ ≡ call-answer (deskOf l) good allowance
+  pub still : Refused (x .answer) → l′ ≡ l

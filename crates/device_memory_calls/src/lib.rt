@@ -20,9 +20,12 @@ use run_state::TAG;
 use run_state::WAITING;
 use run_state::Words;
 use widths::word_to_usize;
-ghost use Rattle.device_memory_calls.specs.Views.{Ends, RanOn, Runs, Answers};
+ghost use mathlib.Core.Path.{_≡_};
+ghost use Prim.Native.Nat.{_≤_};
+ghost use Rattle.run_state.specs.Views.{tagIn};
+ghost use Rattle.device_memory_calls.specs.Views.{Ends, RanOn, refusedWith, CarriesOn, Runs, SettlesAnswered, Answers};
 
-// What a run answers: the call's answer, the units spent and how it ended.
+// What a run or an answer is answered with: the call's answer, the units spent and how it ended.
 pub struct Spent {
     pub answer: u32,
     pub units: u16,
@@ -49,7 +52,7 @@ fn ended_in(words: &Words) -> Ended
     Ended::Paused
 }
 
-// A run, with the table of resources that is the device's and the other.
+// A run, with the table of resources that is the device's and the other. Without an allowance nothing is looked at.
 fn run_on(
     words: &mut Words,
     entries: &mut Entries,
@@ -78,10 +81,62 @@ fn run_on(
           mem = now (mem .exit);
         }) ⌝ }
 {
+    if allowance == 0 {
+        return 0;
+    }
     if words[SIDE] == 0 {
         return run_loop::run(words, mem, entries, first, second, records, allowance);
     }
     run_loop::run(words, mem, entries, second, first, records, allowance)
+}
+
+// A call that is refused with this answer: nothing was spent, and it says idle.
+fn refused(answer: u32) -> Spent
+    ensures { λ r. ⌜ r ≡ refusedWith answer ⌝ }
+{
+    Spent {
+        answer,
+        units: 0,
+        ended: Ended::Idle,
+    }
+}
+
+// The units that are due, as many as are allowed, and how the device then stands.
+fn carry_on(
+    words: &mut Words,
+    entries: &mut Entries,
+    first: &mut Resources,
+    second: &mut Resources,
+    records: &mut Records,
+    mem: &mut [u8],
+    allowance: u16,
+) -> Spent
+    ensures { λ r. ⌜ CarriesOn allowance
+        (record {
+          words = now (words .entry);
+          entries = now (entries .entry);
+          first = now (first .entry);
+          second = now (second .entry);
+          records = now (records .entry);
+          mem = now (mem .entry);
+        })
+        r
+        (record {
+          words = now (words .exit);
+          entries = now (entries .exit);
+          first = now (first .exit);
+          second = now (second .exit);
+          records = now (records .exit);
+          mem = now (mem .exit);
+        }) ⌝ }
+{
+    let units = run_on(words, entries, first, second, records, mem, allowance);
+    let ended = ended_in(words);
+    Spent {
+        answer: DONE,
+        units,
+        ended,
+    }
 }
 
 // As many units as are allowed, over the memory lent now; says how many were spent and how it ended.
@@ -115,40 +170,65 @@ pub fn run(
 {
     let memory = word_to_usize(words[MEMORY]);
     if mem.len() != memory {
-        return Spent {
-            answer: OTHER_MEMORY,
-            units: 0,
-            ended: Ended::Idle,
-        };
+        return refused(OTHER_MEMORY);
     }
-    let units = run_on(words, entries, first, second, records, mem, allowance);
-    let ended = ended_in(words);
-    Spent {
-        answer: DONE,
-        units,
-        ended,
-    }
+    carry_on(words, entries, first, second, records, mem, allowance)
 }
 
-// The host's answer to what waits. No table is needed: a good answer only says which one is the device's from now on.
-pub fn answer(words: &mut Words, mem: &mut [u8], good: bool) -> u32
-    ensures { λ r. ⌜ Answers (now (words .entry)) (now (mem .entry)) good r (now (words .exit)) (now (mem .exit)) ⌝ }
+// Settles what waits with the host's answer. No table is needed: a good answer only says which one is the device's from now on.
+fn settle_answered(words: &mut Words, mem: &mut [u8], good: bool)
+    requires { ⌜ 3 ≤ tagIn (now words) ⌝ }
+    ensures { λ _. ⌜ SettlesAnswered (now (words .entry)) (now (mem .entry)) good (now (words .exit)) (now (mem .exit)) ⌝ }
 {
-    let memory = word_to_usize(words[MEMORY]);
-    if mem.len() != memory {
-        return OTHER_MEMORY;
-    }
-    if words[TAG] < WAITING {
-        return NOTHING_WAITS;
-    }
     if good {
         settle_accepted(words, mem);
-        return DONE;
+        return;
     }
     let fault = Fault {
         code: HOST_FAILED,
         place: 0,
     };
     settle_refused(words, mem, fault);
-    DONE
+}
+
+// The host's answer to what waits, and at once as many units as are allowed; says how many were spent and how it ended. An allowance of 0
+// is an answer alone.
+pub fn answer(
+    words: &mut Words,
+    entries: &mut Entries,
+    first: &mut Resources,
+    second: &mut Resources,
+    records: &mut Records,
+    mem: &mut [u8],
+    good: bool,
+    allowance: u16,
+) -> Spent
+    ensures { λ r. ⌜ Answers good allowance
+        (record {
+          words = now (words .entry);
+          entries = now (entries .entry);
+          first = now (first .entry);
+          second = now (second .entry);
+          records = now (records .entry);
+          mem = now (mem .entry);
+        })
+        r
+        (record {
+          words = now (words .exit);
+          entries = now (entries .exit);
+          first = now (first .exit);
+          second = now (second .exit);
+          records = now (records .exit);
+          mem = now (mem .exit);
+        }) ⌝ }
+{
+    let memory = word_to_usize(words[MEMORY]);
+    if mem.len() != memory {
+        return refused(OTHER_MEMORY);
+    }
+    if words[TAG] < WAITING {
+        return refused(NOTHING_WAITS);
+    }
+    settle_answered(words, mem, good);
+    carry_on(words, entries, first, second, records, mem, allowance)
 }

@@ -97,24 +97,28 @@ fn run_lines(example: u32, d: Device, mem: &mut [u8], allowance: u16) -> Device 
     r.device
 }
 
-// The host's good answer, and the fence after it.
-fn answer_lines(example: u32, d: Device, mem: &mut [u8]) -> Device {
-    let t = d.answer(mem, true);
+// The host's good answer with the run that it goes on to, and the fence after it. Where nothing waits it is refused, and the run comes by
+// itself.
+fn answer_lines(example: u32, d: Device, mem: &mut [u8], allowance: u16) {
+    let r = d.answer(mem, true, allowance);
     say_example(example);
-    say_named(b"answer good: ", t.answer as u64);
+    say_named(b"answer good: ", r.answer as u64);
     say(b"\n");
-    register_line(example, t.device, b"completed ", offsets::COMPLETED_LOW);
-    t.device
+    register_line(example, r.device, b"completed ", offsets::COMPLETED_LOW);
+    if r.answer == DONE {
+        run_line(example, r, allowance);
+        return;
+    }
+    run_lines(example, r.device, mem, allowance);
 }
 
-// The host's part: the records and the error, its answer, and a run after it.
+// The host's part: the records and the error, its answer and the run after it.
 fn host_lines(example: u32, d: Device, mem: &mut [u8], allowance: u16) {
     record_line(example, d, 0);
     record_line(example, d, 1);
     record_line(example, d, 2);
     register_line(example, d, b"error ", offsets::ERROR_CODE);
-    let answered = answer_lines(example, d, mem);
-    run_lines(example, answered, mem, allowance);
+    answer_lines(example, d, mem, allowance);
 }
 
 // What comes of the submission at the head of the ring.

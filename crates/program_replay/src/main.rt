@@ -6,12 +6,13 @@ mod script;
 mod state;
 
 use crate::operations::operation;
+use crate::script::FRONT;
+use crate::script::HEAD;
 use crate::script::LONGEST_MEMORY;
 use crate::script::LONGEST_SCRIPT;
+use crate::script::MAGIC;
 use crate::script::Next;
-use crate::script::SHORTEST_HEAD;
 use crate::script::after;
-use crate::script::head_size;
 use device::Device;
 use program_lines::say;
 use program_lines::say_named;
@@ -62,16 +63,15 @@ fn play_over(script: &[u8], memory: &mut [u8], n: usize)
 
 // The script's own head: what it is, and how long the memory is that the device is made for. It is read whole before the length is judged.
 fn open(script: &[u8]) {
-    if script.len() < SHORTEST_HEAD {
+    if script.len() < FRONT {
         say_end(Next::Cut);
         return;
     }
-    let head = head_size(words::u32_at(script, 0));
-    if head == 0 {
+    if words::u32_at(script, 0) != MAGIC {
         say_end(Next::Bad);
         return;
     }
-    if script.len() < head {
+    if script.len() < HEAD {
         say_end(Next::Cut);
         return;
     }
@@ -81,7 +81,7 @@ fn open(script: &[u8]) {
         return;
     }
     let mut memory = io::large_buffer();
-    play_over(&script[head..], &mut memory, length);
+    play_over(&script[HEAD..], &mut memory, length);
 }
 
 // Room for the longest script, and a byte more, to tell one that is too long.

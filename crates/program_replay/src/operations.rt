@@ -15,6 +15,7 @@ use crate::script::WRITE;
 use crate::script::u16_at;
 use crate::state::say_state;
 use device::Device;
+use device::Ran;
 use program_lines::say;
 use program_lines::say_named;
 use rules::Ended;
@@ -102,10 +103,9 @@ fn read_register(device: Device, fields: &[u8]) -> Next {
 
 // ---- running
 
-// Runs over the memory given, and prints the line.
-fn run_over(device: Device, memory: &mut [u8], allowance: u16) -> Device {
-    let r = device.run(memory, allowance);
-    say_answer(b"run", r.answer);
+// The line of a run, or of an answer that runs on: its answer, the units and how it ended.
+fn say_ran(call: &[u8], r: Ran) {
+    say_answer(call, r.answer);
     say_named(b" ", r.units as u64);
     let ended = r.ended;
     match ended {
@@ -113,6 +113,12 @@ fn run_over(device: Device, memory: &mut [u8], allowance: u16) -> Device {
         Ended::Waiting => say(b" waiting\n"),
         Ended::Paused => say(b" paused\n"),
     }
+}
+
+// Runs over the memory given, and prints the line.
+fn run_over(device: Device, memory: &mut [u8], allowance: u16) -> Device {
+    let r = device.run(memory, allowance);
+    say_ran(b"run", r);
     r.device
 }
 
@@ -178,44 +184,43 @@ fn record(device: Device, fields: &[u8]) -> Next {
     Next::Took(4)
 }
 
-// Answers over the memory given, and prints the line.
-fn answer_over(device: Device, memory: &mut [u8], told: u8) -> Device {
-    let t = device.answer(memory, told == 1);
-    say_answer(b"answer", t.answer);
-    say(b"\n");
-    t.device
+// Answers over the memory given and runs on, and prints the line.
+fn answer_over(device: Device, memory: &mut [u8], told: u8, allowance: u16) -> Device {
+    let r = device.answer(memory, told == 1, allowance);
+    say_ran(b"answer", r);
+    r.device
 }
 
 fn answer(device: Device, memory: &mut [u8], fields: &[u8]) -> Played {
-    if fields.len() < 1 {
+    if fields.len() < 3 {
         return Played {
             device,
             next: Next::Cut,
         };
     }
-    let left = answer_over(device, memory, fields[0]);
+    let left = answer_over(device, memory, fields[0], u16_at(fields, 1));
     Played {
         device: left,
-        next: Next::Took(1),
+        next: Next::Took(3),
     }
 }
 
 // Answers over the first `n` bytes of the memory given.
-fn answer_front(device: Device, memory: &mut [u8], n: usize, told: u8) -> Device
+fn answer_front(device: Device, memory: &mut [u8], n: usize, told: u8, allowance: u16) -> Device
     requires { ⌜ n ≤ length (now memory) ⌝ }
 {
-    answer_over(device, &mut memory[0..n], told)
+    answer_over(device, &mut memory[0..n], told, allowance)
 }
 
 // An answer that is lent zeros of another length.
 fn answer_elsewhere(device: Device, fields: &[u8]) -> Played {
-    if fields.len() < 5 {
+    if fields.len() < 7 {
         return Played {
             device,
             next: Next::Cut,
         };
     }
-    let length = words::u32_at(fields, 1) as usize;
+    let length = words::u32_at(fields, 3) as usize;
     if length > LONGEST_MEMORY {
         return Played {
             device,
@@ -223,10 +228,10 @@ fn answer_elsewhere(device: Device, fields: &[u8]) -> Played {
         };
     }
     let mut memory = io::large_buffer();
-    let left = answer_front(device, &mut memory, length, fields[0]);
+    let left = answer_front(device, &mut memory, length, fields[0], u16_at(fields, 1));
     Played {
         device: left,
-        next: Next::Took(5),
+        next: Next::Took(7),
     }
 }
 

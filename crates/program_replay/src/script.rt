@@ -1,28 +1,17 @@
-// The desk script, versions 1 and 2: its head, its limits, the fields of an operation, and how playing one may end.
+// The desk script, version 2: its head, its limits, the fields of an operation, and how playing one may end.
 // An operation is lent what stands after its tag, and says how much of that it took.
 ghost use Prim.Native.Nat.{_+_, _<_, _≤_};
 ghost use lib.ListN.{length};
 ghost use mathlib.Core.Path.{_≡_};
 
-// The bytes "DESK" and "DSK2".
-const MAGIC_1: u32 = 1263748420;
+// The bytes "DSK2".
+pub const MAGIC: u32 = 843797316;
 
-const MAGIC_2: u32 = 843797316;
+// Magic and memory length: from so many bytes on the magic is judged.
+pub const FRONT: usize = 8;
 
-// Magic and memory length, which a head of either version begins with.
-pub const SHORTEST_HEAD: usize = 8;
-
-// Version 2 has a word more, which says which wishes the writer knew; nobody asks for it.
-const HEAD_2: usize = 12;
-
-// The bytes of the head that begins with this word; 0 where no script does.
-pub fn head_size(magic: u32) -> usize {
-    match magic {
-        MAGIC_1 => SHORTEST_HEAD,
-        MAGIC_2 => HEAD_2,
-        _ => 0,
-    }
-}
+// The whole head: one word more, which says which wishes the writer knew; nobody asks for it.
+pub const HEAD: usize = 12;
 
 pub const LONGEST_SCRIPT: usize = 1048576;
 

@@ -8,14 +8,14 @@ use native.Mathlib.Nat.{zero-add, suc-add}
 use native.Mathlib.Numerals.{one-add}
 use lib.Dec.{eqb}
 use Rattle.machine.specs.Machine.{pick, run-none, run-stop, run-go}
-use Rattle.rules.specs.Numbers.{done, other-memory, nothing-waits}
+use Rattle.rules.specs.Numbers.{done}
 use Rattle.rules.specs.State.{State, World, with-state, registering}
 use Rattle.rules.specs.Steps.{step, go, run-for, waits, answered}
-use Rattle.rules.specs.Calls.{lent-another, Ran, call-run, Answered, call-answer}
+use Rattle.rules.specs.Calls.{Ran, call-run, call-answer}
 use Rattle.rules.specs.declared.Registers.{Registers}
 use Rattle.packet_apply.specs.Held.{Every}
 use Rattle.promises.specs.Writes.{resets, registers-written, write-is-by-registers}
-use Rattle.promises.specs.Runs.{of-run}
+use Rattle.promises.specs.Runs.{of-run, of-answer}
 use Rattle.promises.specs.Called.{Call, after, units-of, taken-by, after-all, units-of-all, taken-by-all, is-reset}
 use Rattle.promises.specs.Called.Call.{writes, reads, runs, records, answers}
 
@@ -30,13 +30,17 @@ unfoldable pub in-a-row : ℕ → List Act
 in-a-row zero = []
 in-a-row (suc n) = unit ∷ in-a-row n
 
--- the acts of one call: the units that it reports, the register that it writes, the answer that it takes
+-- an answer that is taken, and the units after it
+abbrev pub answer-acts : Bool → Ran → List Act
+answer-acts good r = pick (eqb (r .answer) done) (answer good ∷ in-a-row (r .units)) []
+
+-- the acts of one call: the register that it writes, the answer that it takes, then the units that it reports
 unfoldable pub acts-of : Call → World → List Act
 acts-of (writes offset v) w = write offset v ∷ []
 acts-of (reads offset) w = []
 acts-of (runs n) w = in-a-row (call-run w n .units)
 acts-of (records i) w = []
-acts-of (answers good) w = pick (eqb (call-answer w good .answer) done) (answer good ∷ []) []
+acts-of (answers good n) w = answer-acts good (call-answer w good n)
 
 -- and of calls one after the other, each lent what the one before left
 unfoldable pub acts-of-all : List Call → World → List Act
@@ -100,11 +104,8 @@ call-units (writes offset v) w = refl
 call-units (reads offset) w = refl
 call-units (runs n) w = row-units (call-run w n .units)
 call-units (records i) w = refl
-call-units (answers good) w = by-test (eqb (call-answer w good .answer) done)
-  where
-    by-test : (b : Bool) → units-in (pick b (answer good ∷ []) []) ≡ 0
-    by-test true = refl
-    by-test false = refl
+call-units (answers good n) w =
+    of-answer (λ (r : Ran). units-in (answer-acts good r) ≡ r .units) w good n (λ e. refl) (λ e f. refl) (λ e f. row-units (run-for n (answered good w) .units))
 
 call-answers : (c : Call) (w : World) → answers-in (acts-of c w) ≡ taken-by c w
 unfolding answers-in acts-of taken-by
@@ -112,10 +113,10 @@ call-answers (writes offset v) w = refl
 call-answers (reads offset) w = refl
 call-answers (runs n) w = row-answers (call-run w n .units)
 call-answers (records i) w = refl
-call-answers (answers good) w = by-test (eqb (call-answer w good .answer) done)
+call-answers (answers good n) w = by-test (eqb (call-answer w good n .answer) done)
   where
-    by-test : (b : Bool) → answers-in (pick b (answer good ∷ []) []) ≡ pick b (good ∷ []) []
-    by-test true = refl
+    by-test : (b : Bool) → answers-in (pick b (answer good ∷ in-a-row (call-answer w good n .units)) []) ≡ pick b (good ∷ []) []
+    by-test true = ap (λ l. good ∷ l) (row-answers (call-answer w good n .units))
     by-test false = refl
 
 -- the units of calls' acts are those that the calls report
@@ -157,23 +158,14 @@ run-leads (suc n) w = by-test (go w) refl (run-leads n (step w))
     by-test false g later = rw (run-stop go step (suc n) w g) stays
 
 call-leads : (c : Call) (w : World) → is-reset c ≡ false → Led w (acts-of c w) (after c w)
-unfolding acts-of after in-a-row call-answer
+unfolding acts-of after in-a-row
 call-leads (writes offset v) w n =
     subst (λ (s : State). Led w (write offset v ∷ []) (with-state s w)) (sym (write-is-by-registers (w .state) offset v n)) (writes-one offset v n stays)
 call-leads (reads offset) w n = stays
 call-leads (runs k) w n = of-run (λ (r : Ran). Led w (in-a-row (r .units)) (r .world)) w k (λ e. stays) (λ e. run-leads k w)
 call-leads (records i) w n = stays
-call-leads (answers good) w n = by-tests (lent-another w) (waits (w .state)) refl
-  where
-    reply : Bool → Bool → Answered
-    reply a b =
-        pick a (record { answer = other-memory; world = w })
-        (pick b (record { answer = done; world = answered good w }) (record { answer = nothing-waits; world = w }))
-
-    by-tests : (a b : Bool) → waits (w .state) ≡ b → Led w (pick (eqb (reply a b .answer) done) (answer good ∷ []) []) (reply a b .world)
-    by-tests true b e = stays
-    by-tests false true e = takes good e stays
-    by-tests false false e = stays
+call-leads (answers good k) w n =
+    of-answer (λ (r : Ran). Led w (answer-acts good r) (r .world)) w good k (λ e. stays) (λ e f. stays) (λ e f. takes good f (run-leads k (answered good w)))
 
 -- none of some calls is a reset
 abbrev pub NoReset : List Call → Type 0

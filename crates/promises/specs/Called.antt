@@ -9,13 +9,13 @@ use Rattle.rules.specs.State.{State, World, made, with-state}
 use Rattle.rules.specs.Calls.{call-write, call-run, call-answer}
 use Rattle.promises.specs.Writes.{resets}
 
--- the five calls: write and read a register, run for an allowance, ask for a record, answer
+-- the five calls: write and read a register, run for an allowance, ask for a record, answer and run for an allowance
 pub data Call : Type 0 where
   writes : ℕ → ℕ → Call
   reads : ℕ → Call
   runs : ℕ → Call
   records : ℕ → Call
-  answers : Bool → Call
+  answers : Bool → ℕ → Call
 
 -- what stands after a call that is lent the memory that stands there
 unfoldable pub after : Call → World → World
@@ -23,7 +23,7 @@ after (writes offset v) w = with-state (call-write (w .state) offset v .state) w
 after (reads offset) w = w
 after (runs n) w = call-run w n .world
 after (records i) w = w
-after (answers good) w = call-answer w good .world
+after (answers good n) w = call-answer w good n .world
 
 -- the units that a call reports
 unfoldable pub units-of : Call → World → ℕ
@@ -31,7 +31,7 @@ units-of (writes offset v) w = 0
 units-of (reads offset) w = 0
 units-of (runs n) w = call-run w n .units
 units-of (records i) w = 0
-units-of (answers good) w = 0
+units-of (answers good n) w = call-answer w good n .units
 
 -- the answer of the host that a call took, by the call's own answer
 unfoldable pub taken-by : Call → World → List Bool
@@ -39,7 +39,7 @@ taken-by (writes offset v) w = []
 taken-by (reads offset) w = []
 taken-by (runs n) w = []
 taken-by (records i) w = []
-taken-by (answers good) w = pick (eqb (call-answer w good .answer) done) (good ∷ []) []
+taken-by (answers good n) w = pick (eqb (call-answer w good n .answer) done) (good ∷ []) []
 
 -- calls over still memory: each is lent what the one before left
 unfoldable pub after-all : List Call → World → World
@@ -60,7 +60,7 @@ is-reset (writes offset v) = resets offset v
 is-reset (reads offset) = false
 is-reset (runs n) = false
 is-reset (records i) = false
-is-reset (answers good) = false
+is-reset (answers good n) = false
 
 -- a device that was made and called: any calls, each lent any memory at all. A later way to come to a device is one more case.
 pub data Called : State → Type 0 where

@@ -76,13 +76,14 @@ module _ {A : Type 0} {by : Event → A → A} {part : World → A} (c : Changed
   unfolding through
   call-through w k es w′ (refused-write offset v h) = refl
   call-through w k es w′ (refused-run n h) = refl
-  call-through w k es w′ (refused-answer good h) = refl
+  call-through w k es w′ (refused-answer good n h) = refl
   call-through w k es w′ (asks-register offset) = refl
   call-through w k es w′ (asks-record i) = refl
   call-through w k es w′ (changes-registers offset v r n q d e) = c .writes r w d e
   call-through w k es w′ (resets-all offset v h q) = c .resets (bit-of 0 v) w
   call-through w k es w′ (spends n d u) = units-through w es w′ u
-  call-through w k es w′ (settles-answered good j table h l e) = answer-through good w j table h e
+  call-through w k es w′ (settles-answered good n j table h {fs = fs} l e u) =
+      units-through (answered good w) fs w′ u ∙ ap (through by fs) (answer-through good w j table h e)
 
   pub calls-through : (w : World) (cs : List Call) (es : List Event) (w′ : World) → History w cs es w′ → part w′ ≡ through by es (part w)
   unfolding through

@@ -5,8 +5,8 @@ use mathlib.Core.Bool.{Bool, true, false}
 use mathlib.Core.List.{List, [], _∷_, _++_}
 use Prim.Native.Nat.{ℕ, zero, suc}
 use native.Mathlib.Omega.{arith}
-use Rattle.machine.specs.Machine.{pick, run-none, run-stop, run-go}
-use Rattle.rules.specs.Numbers.{done, other-memory, nothing-waits, host-failed}
+use Rattle.machine.specs.Machine.{run-none, run-stop, run-go}
+use Rattle.rules.specs.Numbers.{done, host-failed}
 use Rattle.rules.specs.Lists.{Found, pushed}
 use Rattle.rules.specs.Lists.Found.{none, found}
 use Rattle.rules.specs.Judging.{refusal, Finding, without-place}
@@ -16,14 +16,14 @@ use Rattle.rules.specs.State.{Work, State, World, made, with-regs, with-state, 
 use Rattle.rules.specs.State.Work.{resting, entries, packets, waiting}
 use Rattle.rules.specs.Registers.{Write, bit-of, reset, write-of}
 use Rattle.rules.specs.Steps.{step, go, run-for, waits-on, waits, answered}
-use Rattle.rules.specs.Calls.{lent-another, wrote, call-write, ran, call-run, Answered, call-answer}
-use Rattle.rules.specs.declared.Ended.the-variants.{Idle}
+use Rattle.rules.specs.Calls.{lent-another, wrote, call-write, Ran, call-run, call-answer}
 use Rattle.rules.specs.declared.Entry.{Entry}
 use Rattle.rules.specs.declared.Resource.{Resource}
 use Rattle.rules.specs.declared.Job.{Job}
 use Rattle.rules.specs.declared.Registers.{Registers}
 use Rattle.promises.specs.Writes.{resets, Written, write-keeps-or-drops}
 use Rattle.promises.specs.Writes.Written.{keeps, drops}
+use Rattle.promises.specs.Runs.{of-run, of-answer, taken-and-run}
 use Rattle.promises.specs.Refused.{refused-run-changes-nothing, refused-answer-changes-nothing, refused-write-changes-nothing}
 use Rattle.promises.specs.Called.{Call, after, after-all, Called}
 use Rattle.promises.specs.Called.Called.{makes, calls}
@@ -62,7 +62,7 @@ pub data Happens (w : World) : Call → List Event → World → Type 0 where
   -- it is refused, or only asks
   refused-write : (offset v : ℕ) → (call-write (w .state) offset v .answer ≡ done → ⊥) → Happens w (writes offset v) [] w
   refused-run : (n : ℕ) → (call-run w n .answer ≡ done → ⊥) → Happens w (runs n) [] w
-  refused-answer : (good : Bool) → (call-answer w good .answer ≡ done → ⊥) → Happens w (answers good) [] w
+  refused-answer : (good : Bool) (n : ℕ) → (call-answer w good n .answer ≡ done → ⊥) → Happens w (answers good n) [] w
   asks-register : (offset : ℕ) → Happens w (reads offset) [] w
   asks-record : (i : ℕ) → Happens w (records i) [] w
   -- registers are written, but not those that the device tells its fence and its error by
@@ -73,9 +73,10 @@ pub data Happens (w : World) : Call → List Event → World → Type 0 where
       → Happens w (writes offset v) (resetting ∷ []) (with-state (reset (bit-of 0 v) (w .state)) w)
   -- memory of the right length is lent, and units are spent
   spends : (n : ℕ) {es : List Event} → lent-another w ≡ false → Units w es (run-for n w .state) → Happens w (runs n) es (run-for n w .state)
-  -- the submission that waits is answered, and settled with the host's word
-  settles-answered : (good : Bool) (j : Job) (es : List Entry) (h : Holdings) → lent-another w ≡ false → w .state .work ≡ waiting j es h
-      → Happens w (answers good) (settling j (finding-of good) (h .resources) (answered good w .state) ∷ []) (answered good w)
+  -- the submission that waits is answered, and settled with the host's word; then units are spent
+  settles-answered : (good : Bool) (n : ℕ) (j : Job) (es : List Entry) (h : Holdings) {fs : List Event} → lent-another w ≡ false → w .state .work ≡ waiting j es h
+      → Units (answered good w) fs (run-for n (answered good w) .state)
+      → Happens w (answers good n) (settling j (finding-of good) (h .resources) (answered good w .state) ∷ fs) (run-for n (answered good w) .state)
 
 -- calls one after the other over still memory, and their events
 pub data History : World → List Call → List Event → World → Type 0 where
@@ -114,13 +115,9 @@ write-has-events offset v w = by-found (write-of (w .state) offset v) refl (writ
         by-written (x .state) (ap (λ f. wrote (w .state) f .state) e) (subst (λ f. Written (w .state) offset v (wrote (w .state) f .state)) e k)
 
 run-call-has-events : (n : ℕ) (w : World) → (es : List Event) × Happens w (runs n) es (call-run w n .world)
-unfolding call-run
-run-call-has-events n w = by-test (lent-another w) refl (run-has-events n w)
-  where
-    by-test : (b : Bool) → lent-another w ≡ b → ((es : List Event) × Units w es (run-for n w .state))
-        → (es : List Event) × Happens w (runs n) es (pick b (record { answer = other-memory; units = 0; ended = Idle; world = w }) (ran (run-for n w)) .world)
-    by-test true e q = ([], refused-run n (λ d. absurd (let z : _≡_ {A = ℕ} 0 1 = cc in omega arith)))
-    by-test false e q = (q .0, spends n e (q .1))
+run-call-has-events n w =
+    of-run (λ (r : Ran). call-run w n .answer ≡ r .answer → (es : List Event) × Happens w (runs n) es (r .world)) w n
+    (λ e a. ([], refused-run n (λ d. absurd (omega arith)))) (λ e a. let q : (es : List Event) × Units w es (run-for n w .state) = run-has-events n w in (q .0, spends n e (q .1))) refl
 
 -- a device that waits has a submission that waits
 waits-for : (k : Work) → waits-on k ≡ true → (j : Job) × (es : List Entry) × (h : Holdings) × (k ≡ waiting j es h)
@@ -129,17 +126,16 @@ waits-for (entries o kept) e = absurd (let z : _≡_ {A = ℕ} 0 1 = cc in omega
 waits-for (packets j s at es h) e = absurd (let z : _≡_ {A = ℕ} 0 1 = cc in omega arith)
 waits-for (waiting j es h) e = (j, es, h, refl)
 
-answer-call-has-events : (good : Bool) (w : World) → (es : List Event) × Happens w (answers good) es (call-answer w good .world)
-unfolding call-answer
-answer-call-has-events good w = by-tests (lent-another w) (waits (w .state)) refl refl
+answer-call-has-events : (good : Bool) (n : ℕ) (w : World) → (es : List Event) × Happens w (answers good n) es (call-answer w good n .world)
+answer-call-has-events good n w =
+    of-answer (λ (r : Ran). call-answer w good n .answer ≡ r .answer → (es : List Event) × Happens w (answers good n) es (r .world)) w good n
+    (λ e a. ([], refused-answer good n (λ d. absurd (omega arith)))) (λ e f a. ([], refused-answer good n (λ d. absurd (omega arith)))) (λ e f a. taken e f) refl
   where
-    by-tests : (a b : Bool) → lent-another w ≡ a → waits (w .state) ≡ b
-        → (es : List Event) × Happens w (answers good) es (pick {A = Answered} a (record { answer = other-memory; world = w }) (pick {A = Answered} b (record { answer = done; world = answered good w }) (record { answer = nothing-waits; world = w })) .world)
-    by-tests true b e f = ([], refused-answer good (λ d. absurd (let z : _≡_ {A = ℕ} 0 1 = cc in omega arith)))
-    by-tests false true e f =
+    taken : lent-another w ≡ false → waits (w .state) ≡ true → (es : List Event) × Happens w (answers good n) es (run-for n (answered good w) .state)
+    taken e f =
         let its : (j : Job) × (es : List Entry) × (h : Holdings) × (w .state .work ≡ waiting j es h) = waits-for (w .state .work) f in
-        (_, settles-answered good (its .0) (its .1) (its .2) e (its .3))
-    by-tests false false e f = ([], refused-answer good (λ d. absurd (let z : _≡_ {A = ℕ} 0 3 = cc in omega arith)))
+        let later : (es : List Event) × Units (answered good w) es (run-for n (answered good w) .state) = run-has-events n (answered good w) in
+        (_, settles-answered good n (its .0) (its .1) (its .2) e (its .3) (later .1))
 
 pub call-has-events : (c : Call) (w : World) → (es : List Event) × Happens w c es (after c w)
 unfolding after
@@ -147,7 +143,7 @@ call-has-events (writes offset v) w = write-has-events offset v w
 call-has-events (reads offset) w = ([], asks-register offset)
 call-has-events (runs n) w = run-call-has-events n w
 call-has-events (records i) w = ([], asks-record i)
-call-has-events (answers good) w = answer-call-has-events good w
+call-has-events (answers good n) w = answer-call-has-events good n w
 
 pub calls-have-events : (cs : List Call) (w : World) → (es : List Event) × History w cs es (after-all cs w)
 unfolding after-all
@@ -167,19 +163,17 @@ called-has-life s (calls {s = t} c m k) =
 -- ---- and they are the events of these calls alone
 
 pub happens-is-after : (w : World) (c : Call) (es : List Event) (w′ : World) → Happens w c es w′ → after c w ≡ w′
-unfolding after call-run call-answer
+unfolding after
 happens-is-after w c es w′ (refused-write offset v h) = ap (λ s. with-state s w) (refused-write-changes-nothing (w .state) offset v h)
 happens-is-after w c es w′ (refused-run n h) = refused-run-changes-nothing w n h
-happens-is-after w c es w′ (refused-answer good h) = refused-answer-changes-nothing w good h
+happens-is-after w c es w′ (refused-answer good n h) = refused-answer-changes-nothing w good n h
 happens-is-after w c es w′ (asks-register offset) = refl
 happens-is-after w c es w′ (asks-record i) = refl
 happens-is-after w c es w′ (changes-registers offset v r n q d e) = ap (λ s. with-state s w) q
 happens-is-after w c es w′ (resets-all offset v h q) = ap (λ s. with-state s w) q
 happens-is-after w c es w′ (spends n e u) =
-    ap (λ b. pick b (record { answer = other-memory; units = 0; ended = Idle; world = w }) (ran (run-for n w)) .world) e
-happens-is-after w c es w′ (settles-answered good j table h e f) =
-    ap (λ b. pick {A = Answered} b (record { answer = other-memory; world = w }) (pick {A = Answered} (waits (w .state)) (record { answer = done; world = answered good w }) (record { answer = nothing-waits; world = w })) .world) e
-    ∙ ap (λ k. pick {A = Answered} (waits-on k) (record { answer = done; world = answered good w }) (record { answer = nothing-waits; world = w }) .world) f
+    of-run (λ (r : Ran). r .world ≡ run-for n w .state) w n (λ l. absurd (let z : _≡_ {A = ℕ} 0 1 = cc in omega arith)) (λ l. refl)
+happens-is-after w c es w′ (settles-answered good n j table h e f u) = ap (λ (r : Ran). r .world) (taken-and-run w good n e (ap waits-on f))
 
 pub history-is-after-all : (w : World) (cs : List Call) (es : List Event) (w′ : World) → History w cs es w′ → after-all cs w ≡ w′
 unfolding after-all

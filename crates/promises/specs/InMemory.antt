@@ -9,7 +9,7 @@ use borrow.Author.Tests.{eqb-true, ltb-false, not-false}
 use lib.Dec.{ltb, eqb}
 use lib.ListN.{length}
 use Rattle.machine.specs.Machine.{pick, run-none, run-stop, run-go}
-use Rattle.rules.specs.Numbers.{bad-entry, other-memory, done, nothing-waits}
+use Rattle.rules.specs.Numbers.{bad-entry}
 use Rattle.rules.specs.Lists.{lookup}
 use Rattle.rules.specs.Lists.Found.{found}
 use Rattle.rules.specs.Judging.{refusal, rule, Finding, at-place}
@@ -23,9 +23,8 @@ use Rattle.rules.specs.State.{Work, State, World, made}
 use Rattle.rules.specs.State.Work.{resting, entries, packets, waiting}
 use Rattle.rules.specs.Registers.{reset}
 use Rattle.rules.specs.Settle.{settled}
-use Rattle.rules.specs.Steps.{packets-at, entries-at, after-opening, open-step, after-entry, entry-step, after-packet, next-place, packet-step, step-on, step, go, run-for, waits, answer-on, answered}
-use Rattle.rules.specs.Calls.{lent-another, Answered, ran, call-run, call-answer, call-write}
-use Rattle.rules.specs.declared.Ended.the-variants.{Idle}
+use Rattle.rules.specs.Steps.{packets-at, entries-at, after-opening, open-step, after-entry, entry-step, after-packet, next-place, packet-step, step-on, step, go, run-for, answer-on, answered}
+use Rattle.rules.specs.Calls.{lent-another, Ran, call-run, call-answer, call-write}
 use Rattle.rules.specs.declared.Entry.{Entry}
 use Rattle.rules.specs.declared.Record.{Record}
 use Rattle.rules.specs.declared.Resource.{Resource}
@@ -39,8 +38,10 @@ use Rattle.rules.specs.declared.Opening.{Opening}
 use Rattle.rules.specs.declared.Opening.the-variants.{BadRing, NoWork, Refused, Started}
 use Rattle.packet_apply.specs.Held.{Every, every-none, every-pushed, Within, Inside}
 use Rattle.rule_laws.specs.Fine.{fine-first, fine-later, kept-rule}
+use Rattle.settle.specs.Only.{answered-keeps-memory, answered-is-lent-alike}
 use Rattle.promises.specs.Sound.{SoundState, waiting-ranges-inside}
 use Rattle.promises.specs.Memory.{unit-writes-by-settling, touched-length}
+use Rattle.promises.specs.Runs.{of-run, of-answer}
 use Rattle.promises.specs.Writes.{Written, write-keeps-or-drops}
 use Rattle.promises.specs.Writes.Written.{keeps, drops}
 
@@ -179,14 +180,6 @@ module _ (w : World) where
   on-made (packets j t at es held) = packet-made j t (next-place at (left (w .mem) t at)) es (take-packet es held (left (w .mem) t at) .held) (at-place at (take-packet es held (left (w .mem) t at) .verdict))
   on-made (waiting j es held) = refl
 
-  answer-made : (good : Bool) (k : Work) → answer-on good w k .state .memory ≡ w .state .memory
-  unfolding settled
-  answer-made good resting = refl
-  answer-made good (entries o kept) = refl
-  answer-made good (packets j t at es held) = refl
-  answer-made true (waiting j es held) = refl
-  answer-made false (waiting j es held) = refl
-
 step-made : (w : World) → step w .state .memory ≡ w .state .memory
 unfolding step
 step-made w = on-made w (w .state .work)
@@ -199,24 +192,23 @@ run-made (suc k) w = by-test (go w) refl (run-made k (step w))
     by-test true g q = rw (run-go go step k w g) (q ∙ step-made w)
     by-test false g q = rw (run-stop go step (suc k) w g)
 
-pub run-call-lies : (w : World) (k : ℕ) → Lies (w .state) → Lies (call-run w k .world .state)
-unfolding call-run
-run-call-lies w k h = by-test (lent-another w) refl
-  where
-    by-test : (b : Bool) → lent-another w ≡ b → Lies (pick b (record { answer = other-memory; units = 0; ended = Idle; world = w }) (ran (run-for k w)) .world .state)
-    by-test true e = h
-    by-test false e =
-        subst (λ i. LiesIn i (run-for k w .state .state .work)) (sym (run-made k w))
-        (run-lies k (w .state .memory) w (eqb-true (length (w .mem)) (w .state .memory) (not-false (eqb (length (w .mem)) (w .state .memory)) e)) h)
+ran-lies : (w : World) (k : ℕ) → lent-another w ≡ false → Lies (w .state) → Lies (run-for k w .state .state)
+ran-lies w k e h =
+    subst (λ i. LiesIn i (run-for k w .state .state .work)) (sym (run-made k w))
+    (run-lies k (w .state .memory) w (eqb-true (length (w .mem)) (w .state .memory) (not-false (eqb (length (w .mem)) (w .state .memory)) e)) h)
 
-pub answer-call-lies : (w : World) (good : Bool) → Lies (w .state) → Lies (call-answer w good .world .state)
-unfolding call-answer answered
-answer-call-lies w good h = by-tests (lent-another w) (waits (w .state))
-  where
-    by-tests : (a b : Bool) → Lies (pick {A = Answered} a (record { answer = other-memory; world = w }) (pick {A = Answered} b (record { answer = done; world = answer-on good w (w .state .work) }) (record { answer = nothing-waits; world = w })) .world .state)
-    by-tests true b = h
-    by-tests false true = subst (λ i. LiesIn i (answer-on good w (w .state .work) .state .work)) (sym (answer-made w good (w .state .work))) (answer-on-lies w good (w .state .memory) (w .state .work) refl h)
-    by-tests false false = h
+answered-lies : (good : Bool) (w : World) → Lies (w .state) → Lies (answered good w .state)
+unfolding answered
+answered-lies good w h =
+    subst (λ i. LiesIn i (answered good w .state .work)) (sym (answered-keeps-memory good w)) (answer-on-lies w good (w .state .memory) (w .state .work) refl h)
+
+pub run-call-lies : (w : World) (k : ℕ) → Lies (w .state) → Lies (call-run w k .world .state)
+run-call-lies w k h = of-run (λ (r : Ran). Lies (r .world .state)) w k (λ e. h) (λ e. ran-lies w k e h)
+
+pub answer-call-lies : (w : World) (good : Bool) (k : ℕ) → Lies (w .state) → Lies (call-answer w good k .world .state)
+answer-call-lies w good k h =
+    of-answer (λ (r : Ran). Lies (r .world .state)) w good k (λ e. h) (λ e f. h)
+    (λ e f. ran-lies (answered good w) k (answered-is-lent-alike good w ∙ e) (answered-lies good w h))
 
 written-lies : (s s′ : State) (offset v : ℕ) → Lies s → Written s offset v s′ → Lies s′
 unfolding reset

@@ -15,10 +15,11 @@ use Rattle.rules.specs.State.Work.{resting, waiting}
 use Rattle.rules.specs.Registers.{reset}
 use Rattle.rules.specs.Settle.{ended-by, marked, settled}
 use Rattle.rules.specs.Steps.{answered}
+use Rattle.rules.specs.Calls.{lent-another}
 use Rattle.rules.specs.declared.Entry.{Entry}
 use Rattle.rules.specs.declared.Job.{Job}
 use Rattle.rules.specs.declared.Registers.{Registers}
-use Rattle.settle.specs.Only.{marked-length}
+use Rattle.settle.specs.Only.{answered-is-lent-alike, marked-length}
 use Rattle.promises.specs.Fences.{good-settles, failed-settles}
 use Rattle.promises.specs.Called.{Call, after, Called}
 use Rattle.promises.specs.Called.Called.{makes, calls}
@@ -88,18 +89,27 @@ module _ {Kind : List ℕ → Type 0} {Fact : ℕ → Work → Type 0} (c : Kept
   answer-keeps true w j es h e = rw (good-settles w j es h e) (c .rests (w .state .memory))
   answer-keeps false w j es h e = rw (failed-settles w j es h e) (c .rests (w .state .memory))
 
+  answer-marks : (good : Bool) (w : World) (j : Job) (es : List Entry) (h : Holdings) → w .state .work ≡ waiting j es h → Kind (w .mem) → Kind (answered good w .mem)
+  unfolding settled
+  answer-marks true w j es h e l = rw (good-settles w j es h e) (c .marks j _ (w .mem) l)
+  answer-marks false w j es h e l = rw (failed-settles w j es h e) (c .marks j _ (w .mem) l)
+
+  lends : (w : World) → lent-another w ≡ false → Kind (w .mem) → Lends w
+  lends w e l = (eqb-true (length (w .mem)) (w .state .memory) (not-false (eqb (length (w .mem)) (w .state .memory)) e), l)
+
   call-keeps : (w : World) (k : Call) (es : List Event) (w′ : World) → Happens w k es w′ → Kind (w .mem) → Holds (w .state) → Holds (w′ .state)
   unfolding reset
   call-keeps w k es w′ (refused-write offset v h) l own = own
   call-keeps w k es w′ (refused-run n h) l own = own
-  call-keeps w k es w′ (refused-answer good h) l own = own
+  call-keeps w k es w′ (refused-answer good n h) l own = own
   call-keeps w k es w′ (asks-register offset) l own = own
   call-keeps w k es w′ (asks-record i) l own = own
   call-keeps w k es w′ (changes-registers offset v r n q d e) l own = own
   call-keeps w k es w′ (resets-all offset v h q) l own = c .rests (w .state .memory)
   call-keeps w k es w′ (spends n e u) l own =
-      units-keep w es w′ u (eqb-true (length (w .mem)) (w .state .memory) (not-false (eqb (length (w .mem)) (w .state .memory)) e), l) own
-  call-keeps w k es w′ (settles-answered good j table h d e) l own = answer-keeps good w j table h e
+      units-keep w es w′ u (lends w e l) own
+  call-keeps w k es w′ (settles-answered good n j table h {fs = fs} d e u) l own =
+      units-keep (answered good w) fs w′ u (lends (answered good w) (answered-is-lent-alike good w ∙ d) (answer-marks good w j table h e l)) (answer-keeps good w j table h e)
 
   -- of any device that was made and called
   pub called-keeps : (s : State) (k : Called s) → EachLent Kind s k → Fact (s .memory) (s .work)

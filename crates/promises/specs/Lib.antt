@@ -13,6 +13,7 @@ pub mod AnyRegisters
 pub mod Night
 pub mod Called
 pub mod Runs
+pub mod AnswerAndRun
 pub mod Acts
 pub mod Chains
 pub mod Courses

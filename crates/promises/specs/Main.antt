@@ -2,12 +2,11 @@
 -- `after` and what a call reports are in Called.antt; the calls' own definitions in rules/specs/Calls.antt are what the code's contracts cite. All
 -- else in this crate serves these. Assumes nothing.
 use mathlib.Core.Path.{_≡_, refl, ap, _∙_}
-use mathlib.Core.Bool.{true, false}
+use mathlib.Core.Bool.{Bool, true, false}
 use mathlib.Core.List.{List, []}
-use mathlib.Core.Bool.{true, false}
 use mathlib.Core.Logic.{_⊎_}
 use native.Mathlib.Omega.{arith}
-use Rattle.machine.specs.Machine.{run-stop}
+use Rattle.machine.specs.Machine.{run-none, run-stop}
 use Prim.Native.Nat.{ℕ, _≤_}
 use lib.ListN.{length}
 use Rattle.rules.specs.Numbers.{done, no-record, host-failed}
@@ -20,9 +19,9 @@ use Rattle.rules.specs.Registers.{Read, register}
 use Rattle.rules.specs.State.{State, World, working, registering}
 use Rattle.rules.specs.State.Work.{resting, waiting}
 use Rattle.rules.specs.Settle.{settled, settled-keeping}
-use Rattle.rules.specs.Steps.{go, step, waits-on, waits}
+use Rattle.rules.specs.Steps.{go, step, waits-on, waits, answered}
 use Rattle.rules.specs.Unsliced.{Submission, submission, finished, submitted-on}
-use Rattle.rules.specs.Calls.{lent-another, ending, Ran, Answered, valued, record-read, handed-out, no-range, call-write, call-read, call-run, call-record, call-answer}
+use Rattle.rules.specs.Calls.{lent-another, ending, Ran, ran, Answered, valued, record-read, handed-out, no-range, call-write, call-read, call-run, call-record, answer-alone, call-answer}
 use Rattle.rules.specs.Lists.{Found, nth}
 use Rattle.rules.specs.Lists.Found.{none, found}
 use Rattle.rules.specs.declared.Ended.the-variants.{Idle, Paused}
@@ -47,7 +46,8 @@ use Rattle.promises.specs.Units.{Breaks, Unit, unit}
 use Rattle.promises.specs.Chains.{submitted-under, Stands}
 use Rattle.promises.specs.ChainsStand.{calls-stand, same-acts}
 use Rattle.promises.specs.Slicing.{NoWrite, same-units-same-answers}
-use Rattle.promises.specs.Runs.{of-run, never-more-than-allowed, run-spends-all-or-is-done, paused-spent-all}
+use Rattle.promises.specs.Runs.{of-run, of-answer, taken-and-run, never-more-than-allowed, run-spends-all-or-is-done, paused-spent-all, answer-never-more-than-allowed, answer-spends-all-or-is-done, answer-paused-spent-all}
+use Rattle.promises.specs.AnswerAndRun.{taken-alone, IsBoth, answer-and-run-is-both, allowance-0-is-the-old-call}
 use Rattle.promises.specs.Events.{Event, History, calls-have-events}
 use Rattle.promises.specs.Changes.{told, Says, calls-say}
 use Rattle.promises.specs.Kept.{EachLent}
@@ -66,7 +66,7 @@ answer-of (writes offset v) w = call-write (w .state) offset v .answer
 answer-of (reads offset) w = call-read (w .state) offset .answer
 answer-of (runs n) w = call-run w n .answer
 answer-of (records i) w = call-record (w .state) i .answer
-answer-of (answers good) w = call-answer w good .answer
+answer-of (answers good n) w = call-answer w good n .answer
 
 -- 1. "A refused call gives its number and changes no state and no byte."
 pub refused-call-changes-nothing : (c : Call) (w : World) → (answer-of c w ≡ done → ⊥) → after c w ≡ w
@@ -75,13 +75,15 @@ refused-call-changes-nothing (writes offset v) w h = rw (refused-write-changes-n
 refused-call-changes-nothing (reads offset) w h = refl
 refused-call-changes-nothing (runs n) w h = refused-run-changes-nothing w n h
 refused-call-changes-nothing (records i) w h = refl
-refused-call-changes-nothing (answers good) w h = refused-answer-changes-nothing w good h
+refused-call-changes-nothing (answers good n) w h = refused-answer-changes-nothing w good n h
 
 -- "a value returned beside them is zero (idle for run)"
 pub record SaysNothing (w : World) : Type 0 where
   pub run : (n : ℕ) → (call-run w n .answer ≡ done → ⊥) → (call-run w n .units ≡ 0) × (call-run w n .ended ≡ Idle)
   pub read : (offset : ℕ) → (call-read (w .state) offset .answer ≡ done → ⊥) → call-read (w .state) offset .value ≡ 0
   pub range : (i : ℕ) → (call-record (w .state) i .answer ≡ done → ⊥) → call-record (w .state) i .range ≡ no-range
+  -- wish 6: nothing was run
+  pub answer : (good : Bool) (n : ℕ) → (call-answer w good n .answer ≡ done → ⊥) → (call-answer w good n .units ≡ 0) × (call-answer w good n .ended ≡ Idle)
 
 pub refused-call-says-nothing : (w : World) → SaysNothing w
 unfolding call-read call-record
@@ -90,6 +92,9 @@ refused-call-says-nothing w =
       run = λ n. of-run (λ (r : Ran). (r .answer ≡ done → ⊥) → (r .units ≡ 0) × (r .ended ≡ Idle)) w n (λ e h. (refl, refl)) (λ e h. absurd (h refl));
       read = λ offset. by-register (register (w .state .regs) offset);
       range = λ i. by-record (nth (handed-out (w .state .work)) i);
+      answer = λ good n.
+          of-answer (λ (r : Ran). (r .answer ≡ done → ⊥) → (r .units ≡ 0) × (r .ended ≡ Idle)) w good n (λ e h. (refl, refl)) (λ e f h. (refl, refl))
+          (λ e f h. absurd (h refl));
     }
   where
     by-register : (f : Found Read) → (valued f .answer ≡ done → ⊥) → valued f .value ≡ 0
@@ -204,16 +209,27 @@ waits-until-answered cs w n k a = led-waits (calls-lead cs w n) k (acts-answers 
     led-waits (writes-one offset v h p) k a = led-waits p k a
     led-waits (takes good h p) k a = absurd (let z : _≡_ {A = ℕ} 0 1 = cc in omega arith)
 
+-- an answer is taken and leads to v, with an allowance of 0; with any other, v is run from there
+pub record Settles (w : World) (good : Bool) (v : World) : Type 0 where
+  pub alone : call-answer w good 0 ≡ record { answer = done; units = 0; ended = ending (v .state); world = v }
+  pub runs-on : (n : ℕ) → (call-answer w good n ≡ call-run v n) × (call-answer w good n .answer ≡ done)
+
 -- and an answer that is lent the device's memory is taken: it settles the submission, with its resources or with error 27 and place 0
 pub an-answer-settles : (w : World) (j : Job) (es : List Entry) (h : Holdings) → w .state .work ≡ waiting j es h → lent-another w ≡ false
-    → (call-answer w true ≡ record { answer = done; world = settled j fine (h .resources) w })
-    × (call-answer w false ≡ record { answer = done; world = settled-keeping j (broken (without-place (refusal host-failed))) w })
-unfolding call-answer
-an-answer-settles w j es h e l =
-    let awaits : waits (w .state) ≡ true = ap waits-on e in (
-      rw (l, awaits) (ap {B = Answered} (λ (x : World). record { answer = done; world = x }) (good-settles w j es h e)),
-      rw (l, awaits) (ap {B = Answered} (λ (x : World). record { answer = done; world = x }) (failed-settles w j es h e)),
-    )
+    → Settles w true (settled j fine (h .resources) w) × Settles w false (settled-keeping j (broken (without-place (refusal host-failed))) w)
+an-answer-settles w j es h e l = (settles true _ (good-settles w j es h e), settles false _ (failed-settles w j es h e))
+  where
+    settles : (good : Bool) (v : World) → answered good w ≡ v → Settles w good v
+    settles good v is =
+        let old : answer-alone w good ≡ record { answer = done; world = answered good w } = taken-alone w good l (ap waits-on e) in
+        record {
+          alone = taken-and-run w good 0 l (ap waits-on e)
+              ∙ (ap ran (run-none go step (answered good w)) ∙ ap {B = Ran} (λ (x : World). record { answer = done; units = 0; ended = ending (x .state); world = x }) is);
+          runs-on = λ n.
+              let both : (call-answer w good n ≡ call-run (answer-alone w good .world) n) × (call-answer w good n .answer ≡ done) =
+              answer-and-run-is-both w good n .taken (ap (λ (a : Answered). a .answer) old) in
+              (both .0 ∙ ap (λ (x : World). call-run x n) (ap (λ (a : Answered). a .world) old ∙ is), both .1);
+        }
 
 -- while it waits, each of its records is handed out
 pub each-record-is-handed-out : (s : State) (j : Job) (es : List Entry) (h : Holdings) → s .work ≡ waiting j es h → (i : ℕ) (c : Record)
@@ -257,6 +273,33 @@ a-run-spends-its-allowance w n =
       ends = λ l. of-run (λ (r : Ran). r .ended ≡ ending (r .world .state)) w n (λ e. absurd (let z : _≡_ {A = ℕ} 0 1 = cc in omega arith)) (λ e. refl);
       still = λ g. of-run (λ (r : Ran). (r .units ≡ 0) × (r .world ≡ w)) w n (λ e. (refl, refl)) (λ e. rw (run-stop go step n w g) (refl, refl));
     }
+
+-- and so does the run after an answer
+pub record AllowedAfter (w : World) (good : Bool) (n : ℕ) : Type 0 where
+  pub most : call-answer w good n .units ≤ n
+  pub all-or-done : call-answer w good n .answer ≡ done → (call-answer w good n .units ≡ n) ⊎ (go (call-answer w good n .world) ≡ false)
+  pub paused : call-answer w good n .ended ≡ Paused → call-answer w good n .units ≡ n
+  pub ends : call-answer w good n .answer ≡ done → call-answer w good n .ended ≡ ending (call-answer w good n .world .state)
+
+pub an-answer-spends-its-allowance : (w : World) (good : Bool) (n : ℕ) → AllowedAfter w good n
+an-answer-spends-its-allowance w good n =
+    record {
+      most = answer-never-more-than-allowed w good n;
+      all-or-done = answer-spends-all-or-is-done w good n;
+      paused = answer-paused-spent-all w good n;
+      ends =
+          of-answer (λ (r : Ran). r .answer ≡ done → r .ended ≡ ending (r .world .state)) w good n (λ e h. absurd (omega arith))
+          (λ e f h. absurd (omega arith)) (λ e f h. refl);
+    }
+
+-- Wish 6, "answer and carry on in one call": where the old answer is taken, "it must equal the two old calls one after the other"; else
+-- nothing is run. "an allowance of 0 is the old call".
+pub answer-and-carry-on : (w : World) (good : Bool) (n : ℕ) → IsBoth w good n
+answer-and-carry-on = answer-and-run-is-both
+
+pub an-allowance-of-0-is-the-old-call : (w : World) (good : Bool)
+    → (call-answer w good 0 .answer ≡ answer-alone w good .answer) × (call-answer w good 0 .world ≡ answer-alone w good .world) × (call-answer w good 0 .units ≡ 0)
+an-allowance-of-0-is-the-old-call = allowance-0-is-the-old-call
 
 -- each unit is one of the rules' units: it works on; or finds a bad ring or no work; or settles with a rule that is broken there
 pub a-unit-is-the-rules : (w : World) → Unit w (step w)

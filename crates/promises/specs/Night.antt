@@ -181,32 +181,46 @@ night-on {w} {x} {v} {answers} {t} {n} begun q = subst (λ k. Night w answers k 
 night-on {w} {x} {v} {answers} {t} {n} (submission {n = k} rest g p) q =
     subst (λ i. Night w answers i v) (sym (add-assoc (submitted w .units) k n)) (submission rest g (night-on p q))
 
-night-of : (es : List (Event Bool)) (w : World) (j : ℕ) (x : World) → At w j x → Clear (played es x .state) → Night w (played es x .accepted) (j + played es x .units) (played es x .state)
+-- wherever a schedule from x stands clear, whole submissions lead there from where x is j units into one
+abbrev Leads : List (Event Bool) → World → ℕ → World → Type 0
+Leads es w j x = At w j x → Clear (played es x .state) → Night w (played es x .accepted) (j + played es x .units) (played es x .state)
+
+-- a run, and then the rest
+run-night : (n : ℕ) (es : List (Event Bool)) → ((w : World) (j : ℕ) (x : World) → Leads es w j x) → (w : World) (j : ℕ) (x : World) → Leads (run n ∷ es) w j x
 unfolding play
-night-of [] w j x a c =
-    let same : (j ≡ 0) × (w ≡ x) = at-clear w x j a c in
-    subst (λ k. Night w [] k x) (sym (ap (λ i. i + 0) (same .0))) (subst (λ (y : World). Night w [] 0 y) (same .1) begun)
-night-of (run n ∷ es) w j x a c =
+run-night n es later w j x a c =
     let r : Reached w (j + n) = reached (j + n) (j + n) w (omega arith) (a .clear) in
     let onward : run-for (j + n) w ≡ spent j (run-for n x) = sliced go step j n w ∙ ap (λ (o : Out World). spent (o .units) (run-for n (o .state))) (a .here) in
     let there : At (r .point) (r .into) (run-for n x .state) = subst (λ (y : World). At (r .point) (r .into) y) (ap (λ (o : Out World). o .state) onward) (r .at) in
     let sum : r .past + r .into ≡ j + run-for n x .units = r .sum ∙ ap (λ (o : Out World). o .units) onward in
     let e : r .past + (r .into + played es (run-for n x .state) .units) ≡ j + (run-for n x .units + played es (run-for n x .state) .units) = omega arith in
     subst (λ k. Night w (played es (run-for n x .state) .accepted) k (played es (run-for n x .state) .state)) e
-    (night-on (r .night) (night-of es (r .point) (r .into) (run-for n x .state) there c))
-night-of (answers good ∷ es) w j x a c = by-test (waits (x .state)) refl (night-of es w j x a) (λ h. night-of es (answered good x) 0 (answered good x) (at-once (answered good x) (answered-clear good x h))) c
+    (night-on (r .night) (later (r .point) (r .into) (run-for n x .state) there c))
+
+night-of : (es : List (Event Bool)) (w : World) (j : ℕ) (x : World) → Leads es w j x
+unfolding play
+night-of [] w j x a c =
+    let same : (j ≡ 0) × (w ≡ x) = at-clear w x j a c in
+    subst (λ k. Night w [] k x) (sym (ap (λ i. i + 0) (same .0))) (subst (λ (y : World). Night w [] 0 y) (same .1) begun)
+night-of (run n ∷ es) w j x a c = run-night n es (night-of es) w j x a c
+night-of (answers good n ∷ es) w j x a c = by-test (waits (x .state)) refl (night-of es w j x a) (run-night n es (night-of es) (answered good x) 0 (answered good x)) c
   where
+    -- the run after the answer, and the rest
+    carried : Played World Bool
+    carried = played (run n ∷ es) (answered good x)
+
     then : Bool → Played World Bool
-    then t = pick t (took go step world-waits answered good (played es (answered good x))) (played es x)
+    then t = pick t (took go step world-waits answered good carried) (played es x)
 
     by-test : (t : Bool) → waits (x .state) ≡ t → (Clear (played es x .state) → Night w (played es x .accepted) (j + played es x .units) (played es x .state))
-        → (waits (x .state) ≡ true → Clear (played es (answered good x) .state) → Night (answered good x) (played es (answered good x) .accepted) (0 + played es (answered good x) .units) (played es (answered good x) .state))
+        → Leads (run n ∷ es) (answered good x) 0 (answered good x)
         → Clear (then t .state) → Night w (then t .accepted) (j + then t .units) (then t .state)
     by-test false t p q d = p d
     by-test true t p q d =
         let same : (j ≡ 0) × (w ≡ x) = at-clear w x j a (waits-clear (x .state .work) t) in
-        subst (λ k. Night w (good ∷ played es (answered good x) .accepted) (k + played es (answered good x) .units) (played es (answered good x) .state)) (sym (same .0))
-        (subst (λ (y : World). Night y (good ∷ played es (answered good x) .accepted) (0 + played es (answered good x) .units) (played es (answered good x) .state)) (sym (same .1)) (answer good t (q t d)))
+        subst (λ k. Night w (good ∷ carried .accepted) (k + carried .units) (carried .state)) (sym (same .0))
+        (subst (λ (y : World). Night y (good ∷ carried .accepted) (0 + carried .units) (carried .state)) (sym (same .1))
+        (answer good t (q (at-once (answered good x) (answered-clear good x t)) d)))
 
 -- wherever a schedule that began clear stands clear again, whole submissions of the unsliced rules have led there, with their count of units
 pub finished-or-waiting-is-unsliced : (es : List (Event Bool)) (w : World) → Clear w → Clear (played es w .state) → Night w (played es w .accepted) (played es w .units) (played es w .state)

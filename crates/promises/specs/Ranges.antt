@@ -39,7 +39,7 @@ call-keeps-sound (writes offset v) w k = write-call-keeps-sound (w .state) offse
 call-keeps-sound (reads offset) w k = k
 call-keeps-sound (runs n) w k = run-call-keeps-sound w n k
 call-keeps-sound (records i) w k = k
-call-keeps-sound (answers good) w k = answer-call-keeps-sound w good k
+call-keeps-sound (answers good n) w k = answer-call-keeps-sound w good n k
 
 pub call-lies : (c : Call) (w : World) → Lies (w .state) → Lies (after c w .state)
 unfolding after
@@ -47,7 +47,7 @@ call-lies (writes offset v) w k = write-call-lies (w .state) offset v k
 call-lies (reads offset) w k = k
 call-lies (runs n) w k = run-call-lies w n k
 call-lies (records i) w k = k
-call-lies (answers good) w k = answer-call-lies w good k
+call-lies (answers good n) w k = answer-call-lies w good n k
 
 pub called-sound : (s : State) → Called s → SoundState s
 called-sound s (makes memory) = made-sound memory

@@ -23,7 +23,7 @@ pub waiting-stands-still : (w : World) → world-waits w ≡ true → go w ≡ f
 unfolding go
 waiting-stands-still w h = still-on (w .state .regs .enabled) (w .state .regs .doorbell) (w .state .work) h
 
--- runs and host answers, in order; an answer that nothing waits for is not accepted
+-- runs, and host answers with a run after each, in order; an answer that nothing waits for is not accepted, and nothing is run
 abbrev pub played : List (Event Bool) → World → Played World Bool
 played = play go step world-waits answered
 

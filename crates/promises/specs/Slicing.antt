@@ -26,7 +26,7 @@ is-write (writes offset v) = true
 is-write (reads offset) = false
 is-write (runs n) = false
 is-write (records i) = false
-is-write (answers good) = false
+is-write (answers good n) = false
 
 -- none of some calls writes a register
 abbrev pub NoWrite : List Call → Type 0
@@ -56,10 +56,10 @@ call-unwritten (writes offset v) w h = absurd (let z : _≡_ {A = ℕ} 0 1 = cc 
 call-unwritten (reads offset) w h = omega arith
 call-unwritten (runs n) w h = row-unwritten (call-run w n .units)
 call-unwritten (records i) w h = omega arith
-call-unwritten (answers good) w h = by-test (eqb (call-answer w good .answer) done)
+call-unwritten (answers good n) w h = by-test (eqb (call-answer w good n .answer) done)
   where
-    by-test : (b : Bool) → Unwritten (pick b (answer good ∷ []) [])
-    by-test true = (refl, omega arith)
+    by-test : (b : Bool) → Unwritten (pick b (answer good ∷ in-a-row (call-answer w good n .units)) [])
+    by-test true = (refl, row-unwritten (call-answer w good n .units))
     by-test false = omega arith
 
 calls-unwritten : (cs : List Call) (w : World) → NoWrite cs → Unwritten (acts-of-all cs w)
@@ -73,7 +73,7 @@ no-reset (writes offset v) h = absurd (let z : _≡_ {A = ℕ} 0 1 = cc in omega
 no-reset (reads offset) h = refl
 no-reset (runs n) h = refl
 no-reset (records i) h = refl
-no-reset (answers good) h = refl
+no-reset (answers good n) h = refl
 
 -- calls that write no register do not reset
 pub no-write-no-reset : (cs : List Call) → NoWrite cs → NoReset cs

@@ -4,17 +4,16 @@ use mathlib.Core.Path.{_≡_, refl, ap}
 use mathlib.Core.Bool.{Bool}
 use mathlib.Core.List.{List}
 use Prim.Native.Nat.{ℕ}
-use Rattle.rules.specs.State.{made}
-use Rattle.rules.specs.Calls.{Wrote as WroteBy, Value, Ran as RanBy, RecordRead as RecordReadBy, Answered as AnsweredBy, call-write, call-read, call-run, call-record, call-answer}
+use Rattle.rules.specs.State.{World, made}
+use Rattle.rules.specs.Calls.{Wrote as WroteBy, Value, Ran as RanBy, RecordRead as RecordReadBy, call-write, call-read, call-run, call-record, call-answer}
 use Rattle.run_state.specs.Views.{worldIn}
 use Rattle.device_calls.specs.Views.{valueOf, recordReadOf}
 use Rattle.device_calls.specs.declared.ValueRead.{ValueRead}
 use Rattle.device_calls.specs.declared.RecordRead.{RecordRead}
-use Rattle.device.specs.Views.{stateOf, worldOf, wroteOf, ranOf, answeredOf}
+use Rattle.device.specs.Views.{stateOf, worldOf, wroteOf, ranOf}
 use Rattle.device.specs.declared.Device.{Device}
 use Rattle.device.specs.declared.Wrote.{Wrote}
 use Rattle.device.specs.declared.Ran.{Ran}
-use Rattle.device.specs.declared.Answered.{Answered}
 use Rattle.promises.specs.Called.{Call, after}
 use Rattle.promises.specs.Called.Call.{writes, reads, runs, records, answers}
 use Rattle.promises.specs.Locality.{lent}
@@ -26,7 +25,8 @@ pub data Gives (d : Device) (m : List ℕ) : Call → Reply → Device → List 
   read-gives : (offset : ℕ) (x : ValueRead) → valueOf x ≡ call-read (stateOf d) offset → Gives d m (reads offset) (showing (x .answer) (x .value)) d m
   run-gives : (n : ℕ) (r : Ran) (m′ : List ℕ) → ranOf r m′ ≡ call-run (worldOf d m) n → Gives d m (runs n) (spending (r .answer) (r .units) (r .ended)) (r .device) m′
   record-gives : (i : ℕ) (x : RecordRead) → recordReadOf x ≡ call-record (stateOf d) i → Gives d m (records i) (handing (x .answer) (x .range)) d m
-  answer-gives : (good : Bool) (t : Answered) (m′ : List ℕ) → answeredOf t m′ ≡ call-answer (worldOf d m) good → Gives d m (answers good) (answering (t .answer)) (t .device) m′
+  answer-gives : (good : Bool) (n : ℕ) (r : Ran) (m′ : List ℕ) → ranOf r m′ ≡ call-answer (worldOf d m) good n
+      → Gives d m (answers good n) (spending (r .answer) (r .units) (r .ended)) (r .device) m′
 
 -- `Device::new` handed it back
 abbrev pub Makes : ℕ → Device → Type 0
@@ -39,7 +39,7 @@ gives-reply d m c r d′ m′ (write-gives offset v x k) = ap (λ (y : WroteBy).
 gives-reply d m c r d′ m′ (read-gives offset x k) = ap (λ (y : Value). showing (y .answer) (y .value)) k
 gives-reply d m c r d′ m′ (run-gives n x n′ k) = ap (λ (y : RanBy). spending (y .answer) (y .units) (y .ended)) k
 gives-reply d m c r d′ m′ (record-gives i x k) = ap (λ (y : RecordReadBy). handing (y .answer) (y .range)) k
-gives-reply d m c r d′ m′ (answer-gives good t n′ k) = ap (λ (y : AnsweredBy). answering (y .answer)) k
+gives-reply d m c r d′ m′ (answer-gives good n x n′ k) = ap (λ (y : RanBy). spending (y .answer) (y .units) (y .ended)) k
 
 -- and leaves what the rules' call leaves
 pub gives-world : (d : Device) (m : List ℕ) (c : Call) (r : Reply) (d′ : Device) (m′ : List ℕ) → Gives d m c r d′ m′ → lent (stateOf d′) m′ ≡ after c (lent (stateOf d) m)
@@ -48,7 +48,11 @@ gives-world d m c r d′ m′ (write-gives offset v x k) = ap (λ (y : WroteBy).
 gives-world d m c r d′ m′ (read-gives offset x k) = refl
 gives-world d m c r d′ m′ (run-gives n x n′ k) = ap (λ (y : RanBy). y .world) k
 gives-world d m c r d′ m′ (record-gives i x k) = refl
-gives-world d m c r d′ m′ (answer-gives good t n′ k) = ap (λ (y : AnsweredBy). y .world) k
+gives-world d m c r d′ m′ (answer-gives good n x n′ k) = ap (λ (y : RanBy). y .world) k
+
+pub reply-answers : (good : Bool) (n : ℕ) (w : World) → reply-to (answers good n) w .answer ≡ call-answer w good n .answer
+unfolding reply-to
+reply-answers good n w = refl
 
 -- a layer whose devices are such structs and whose calls are calls of the device by value: what was made, what was called, and why both are so
 abbrev pub layer-of : (Made : ℕ → Device → Type 0) (Called : Device → List ℕ → Call → Reply → Device → List ℕ → Type 0)
@@ -66,7 +70,7 @@ layer-of Made Called is-made is-called =
       Makes = Made;
       Gives = Called;
       units-read = λ c w. refl;
-      answered-as = λ good r. refl;
+      answered-as = λ good n w. reply-answers good n w;
       record-read-as = λ i r. refl;
       makes-made = is-made;
       gives-reply = λ d m c r d′ m′ k. gives-reply d m c r d′ m′ (is-called d m c r d′ m′ k);

@@ -51,7 +51,7 @@ acts-in (writes offset v) u a = write offset v ∷ []
 acts-in (reads offset) u a = []
 acts-in (runs n) u a = in-a-row u
 acts-in (records i) u a = []
-acts-in (answers good) u a = pick (eqb a done) (answer good ∷ []) []
+acts-in (answers good n) u a = pick (eqb a done) (answer good ∷ in-a-row u) []
 
 reply-units : (c : Call) (w : World) → reply-to c w .units ≡ units-of c w
 unfolding reply-to units-of
@@ -59,15 +59,14 @@ reply-units (writes offset v) w = refl
 reply-units (reads offset) w = refl
 reply-units (runs n) w = refl
 reply-units (records i) w = refl
-reply-units (answers good) w = refl
+reply-units (answers good n) w = refl
 
 module _ (L : Layer) (w : World) (x : L .Said) where
   says-units : (c : Call) → x ≡ L .said c (reply-to c w) → L .units c x ≡ units-of c w
   says-units c e = ap (L .units c) e ∙ (L .units-read c w ∙ reply-units c w)
 
-  says-answered : (good : Bool) → x ≡ L .said (answers good) (reply-to (answers good) w) → L .answered x ≡ call-answer w good .answer
-  unfolding reply-to
-  says-answered good e = ap (L .answered) e ∙ L .answered-as good (reply-to (answers good) w)
+  says-answered : (good : Bool) (n : ℕ) → x ≡ L .said (answers good n) (reply-to (answers good n) w) → L .answered x ≡ call-answer w good n .answer
+  says-answered good n e = ap (L .answered) e ∙ L .answered-as good n w
 
   says-taken : (c : Call) → x ≡ L .said c (reply-to c w) → taken-in c (L .answered x) ≡ taken-by c w
   unfolding taken-by
@@ -75,7 +74,7 @@ module _ (L : Layer) (w : World) (x : L .Said) where
   says-taken (reads offset) e = refl
   says-taken (runs n) e = refl
   says-taken (records i) e = refl
-  says-taken (answers good) e = ap (taken-in (answers good)) (says-answered good e)
+  says-taken (answers good n) e = ap (taken-in (answers good n)) (says-answered good n e)
 
   says-acts : (c : Call) → x ≡ L .said c (reply-to c w) → acts-in c (L .units c x) (L .answered x) ≡ acts-of c w
   unfolding acts-of units-of
@@ -83,7 +82,8 @@ module _ (L : Layer) (w : World) (x : L .Said) where
   says-acts (reads offset) e = refl
   says-acts (runs n) e = ap in-a-row (says-units (runs n) e)
   says-acts (records i) e = refl
-  says-acts (answers good) e = ap (acts-in (answers good) 0) (says-answered good e)
+  says-acts (answers good n) e =
+      ap (λ u. acts-in (answers good n) u (L .answered x)) (says-units (answers good n) e) ∙ ap (acts-in (answers good n) (call-answer w good n .units)) (says-answered good n e)
 
 -- what it says and leaves is what the rules say and leave
 pub record AsCall {L : Layer} {c : Call} (k : CallMade L c) : Type 0 where

@@ -2,7 +2,7 @@
 -- where the rules' calls lead, and what its calls said adds up to what the rules' calls report; so every theorem about lists of calls is one
 -- about chains. Assumes nothing.
 use mathlib.Core.Path.{_≡_, refl, sym, ap, subst, _∙_}
-use mathlib.Core.Bool.{Bool, true, false}
+use mathlib.Core.Bool.{Bool, false}
 use mathlib.Core.List.{List, [], _∷_, _++_, append-nil}
 use Prim.Native.Nat.{ℕ, _+_}
 use native.Mathlib.Nat.{zero-add, add-zero}
@@ -11,15 +11,15 @@ use lib.Dec.{eqb}
 use Rattle.machine.specs.Machine.{pick}
 use Rattle.machine.specs.Schedule.{Event as Turn, Played, play}
 use Rattle.machine.specs.Schedule.Event.{run, answers}
-use Rattle.rules.specs.Numbers.{done, other-memory, nothing-waits}
+use Rattle.rules.specs.Numbers.{done}
 use Rattle.rules.specs.State.{World}
-use Rattle.rules.specs.Steps.{run-for, waits, answered}
-use Rattle.rules.specs.Calls.{lent-another, Ran, Answered, call-answer}
+use Rattle.rules.specs.Steps.{run-for}
+use Rattle.rules.specs.Calls.{Ran}
 use Rattle.packet_apply.specs.Held.{Every}
 use Rattle.promises.specs.Slices.{played}
 use Rattle.promises.specs.Slicing.{is-write, NoWrite, same-units-same-answers}
 use Rattle.promises.specs.Night.{Clear, Night, finished-or-waiting-is-unsliced}
-use Rattle.promises.specs.Runs.{of-run}
+use Rattle.promises.specs.Runs.{of-run, of-answer}
 use Rattle.promises.specs.Called.{Call, after, units-of, taken-by, after-all, units-of-all, taken-by-all}
 use Rattle.promises.specs.Called.Call.{writes, reads, runs, records, answers}
 use Rattle.promises.specs.Acts.{Act, acts-of, acts-of-all, units-in, NoReset}
@@ -105,24 +105,17 @@ no-units-ahead : (bs : List Bool) (p : Played World Bool) → record { state = p
 no-units-ahead bs p = ap {B = Played World Bool} (λ u. record { state = p .state; units = u; accepted = bs ++ p .accepted }) (sym (zero-add (p .units)))
 
 call-plays : (c : Call) (w : World) (p : Played World Bool) → is-write c ≡ false → Plays (after c w) p → Plays w (ahead (units-of c w) (taken-by c w) p)
-unfolding after units-of taken-by play call-answer
+unfolding after units-of taken-by play
 call-plays (writes offset v) w p h q = absurd (let z : _≡_ {A = ℕ} 0 1 = cc in omega arith)
 call-plays (reads offset) w p h q = (q .0, q .1 ∙ no-units-ahead [] p)
 call-plays (runs n) w p h q =
     of-run (λ (r : Ran). Plays (r .world) p → Plays w (ahead (r .units) [] p)) w n (λ e k. (k .0, k .1 ∙ no-units-ahead [] p))
     (λ e k. (run n ∷ k .0, ap (ahead (run-for n w .units) []) (k .1))) q
 call-plays (records i) w p h q = (q .0, q .1 ∙ no-units-ahead [] p)
-call-plays (answers good) w p h q = by-tests (lent-another w) (waits (w .state)) refl q
-  where
-    gave : Bool → Bool → Answered
-    gave a b =
-        pick a (record { answer = other-memory; world = w })
-        (pick b (record { answer = done; world = answered good w }) (record { answer = nothing-waits; world = w }))
-
-    by-tests : (a b : Bool) → waits (w .state) ≡ b → Plays (gave a b .world) p → Plays w (ahead 0 (pick (eqb (gave a b .answer) done) (good ∷ []) []) p)
-    by-tests true b e k = (k .0, k .1 ∙ no-units-ahead [] p)
-    by-tests false true e k = (answers good ∷ k .0, rw (e, k .1) (no-units-ahead (good ∷ []) p))
-    by-tests false false e k = (k .0, k .1 ∙ no-units-ahead [] p)
+call-plays (answers good n) w p h q =
+    of-answer (λ (r : Ran). Plays (r .world) p → Plays w (ahead (r .units) (pick (eqb (r .answer) done) (good ∷ []) []) p)) w good n
+    (λ e k. (k .0, k .1 ∙ no-units-ahead [] p)) (λ e f k. (k .0, k .1 ∙ no-units-ahead [] p))
+    (λ e f k. (answers good n ∷ k .0, rw (f, k .1))) q
 
 calls-play : (cs : List Call) (w : World) → NoWrite cs → Plays w (record { state = after-all cs w; units = units-of-all cs w; accepted = taken-by-all cs w })
 unfolding after-all units-of-all taken-by-all play Every

@@ -21,17 +21,16 @@ use Rattle.rules.specs.Settle.{faulted, signalled, ended-by, written, head-writ
 use Rattle.rules.specs.Registers.{controlled, write-of}
 use Rattle.rules.specs.Steps.{open-step, entry-step, packet-step, step, go, answered}
 use Rattle.rules.specs.Unsliced.{judge-packets, submission, submitted}
-use Rattle.rules.specs.Calls.{ending, call-write, call-run, call-record, call-answer}
+use Rattle.rules.specs.Calls.{ending, call-write, call-run, call-record, answer-alone, call-answer}
 use Rattle.rows.specs.Rows.{tab, rowAt, table}
 use Rattle.run_state.specs.Views.{countIn, worldIn}
 use Rattle.device.specs.Views.{stateOf, worldOf}
 use Rattle.device.specs.declared.Device.{Device}
 use Rattle.promises.specs.NightLog.{zeros}
 use Rattle.packet_apply.specs.Held.{Every}
-use Rattle.zelezmut.specs.Said.{SaysRun, SaysRecord}
+use Rattle.zelezmut.specs.Said.{SaysRun, SaysAnswer, SaysRecord}
 use Rattle.registers.specs.Views.{Writes}
 use Rattle.device_calls.specs.Views.{Makes}
-use Rattle.device_memory_calls.specs.Views.{Answers}
 use Rattle.promises.specs.Chains.{Served}
 use Rattle.promises.specs.Night.{Night}
 use Rattle.promises.specs.Ranges.{InOneEntry}
@@ -149,10 +148,10 @@ pub says-the-record : SaysRecord (waiting-device .words) (waiting-device .record
 unfolding waiting-device worldIn countIn tab rowAt table zeros call-record nth
 says-the-record = record { answer = λ e a b. refl; range = λ e a b. refl }
 
--- a good answer
-pub takes-the-answer : Answers (waiting-device .words) (guest 1) true 0 (answered-device .words) (answered true awaiting .mem)
-unfolding waiting-device answered-device worldIn countIn tab rowAt table zeros awaiting asking begun in-bytes ring-words slot-words table-words entry-words stream-words guest bytesOf call-answer answered settled ended-by signalled marked head-written page-written written over
-takes-the-answer = record { answered = λ e a b c. refl; still = λ z. absurd (z refl) }
+-- a good answer with an allowance of 0: it ends paused (2), since the doorbell flag is still set
+pub takes-the-answer : SaysAnswer true 0 (lent-of waiting-device (guest 1)) (0 + (256 * 2 + 65536 * 0)) (lent-of answered-device (answered true awaiting .mem))
+unfolding waiting-device answered-device worldIn countIn tab rowAt table zeros awaiting asking begun in-bytes ring-words slot-words table-words entry-words stream-words guest bytesOf answer-alone call-answer answered settled ended-by signalled marked head-written page-written written over call-run runFor ending
+takes-the-answer = record { spent = refl; world = refl; still = λ z. absurd (z refl) }
 
 -- ---- chains of them
 
@@ -162,7 +161,7 @@ beginning = writes 0x108 128 ∷ writes 0x10c 1 ∷ writes 0x200 0 ∷ []
 
 -- the submission served: run, its record asked for, answered
 abbrev serving : List Call
-serving = runs 65535 ∷ records 0 ∷ answers true ∷ []
+serving = runs 65535 ∷ records 0 ∷ answers true 0 ∷ []
 
 unfoldable pub some-beginning : (n : ℕ) → Chain exports (new-device n) (guest n) beginning (asking-device n) (guest n)
 unfolding new-device sized-device enabled-device asking-device
@@ -179,7 +178,7 @@ unfolding asking-device waiting-device answered-device
 some-serving =
     call-then (returning (0 + (256 * 1 + 65536 * 3))) (zelezmut-run 65535 (0 + (256 * 1 + 65536 * 3)) waiting-device (guest 1) runs-to-waiting)
     (call-then (record { number = 0; words = 1 ∷ 1 ∷ 5 ∷ 80 ∷ 32 ∷ [] }) asks-record
-    (call-then (returning 0) (zelezmut-answer 1 0 (answered-device .words) (answered true awaiting .mem) takes-the-answer) no-call))
+    (call-then (returning (0 + (256 * 2 + 65536 * 0))) (zelezmut-answer 1 0 (0 + (256 * 2 + 65536 * 0)) answered-device (answered true awaiting .mem) takes-the-answer) no-call))
 
 -- its calls said 3 units, and the answer was taken
 pub serving-says : (units-said some-serving ≡ 3) × (answers-taken some-serving ≡ true ∷ [])

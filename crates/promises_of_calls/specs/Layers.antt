@@ -26,7 +26,7 @@ pub record Reply : Type 0 where
   pub ended : Ended
   pub range : Record
 
--- a write's and an answer's
+-- a write's
 abbrev pub answering : ℕ → Reply
 answering a = record { answer = a; value = 0; units = 0; ended = Idle; range = no-range }
 
@@ -34,7 +34,7 @@ answering a = record { answer = a; value = 0; units = 0; ended = Idle; range = n
 abbrev pub showing : ℕ → ℕ → Reply
 showing a value = record { answer = a; value = value; units = 0; ended = Idle; range = no-range }
 
--- a run's
+-- a run's, and an answer's that runs on
 abbrev pub spending : ℕ → ℕ → Ended → Reply
 spending a units ended = record { answer = a; value = 0; units = units; ended = ended; range = no-range }
 
@@ -48,7 +48,7 @@ reply-to (writes offset v) w = answering (call-write (w .state) offset v .answer
 reply-to (reads offset) w = showing (call-read (w .state) offset .answer) (call-read (w .state) offset .value)
 reply-to (runs n) w = spending (call-run w n .answer) (call-run w n .units) (call-run w n .ended)
 reply-to (records i) w = handing (call-record (w .state) i .answer) (call-record (w .state) i .range)
-reply-to (answers good) w = answering (call-answer w good .answer)
+reply-to (answers good n) w = spending (call-answer w good n .answer) (call-answer w good n .units) (call-answer w good n .ended)
 
 -- the host's answer that a call took, by the number that the call answered
 abbrev pub taken-in : Call → ℕ → List Bool
@@ -56,7 +56,7 @@ taken-in (writes offset v) a = []
 taken-in (reads offset) a = []
 taken-in (runs n) a = []
 taken-in (records i) a = []
-taken-in (answers good) a = pick (eqb a done) (good ∷ []) []
+taken-in (answers good n) a = pick (eqb a done) (good ∷ []) []
 
 -- ---- layers
 
@@ -77,7 +77,7 @@ pub record Layer : Type 1 where
   pub Gives : Device → List ℕ → Call → Said → Device → List ℕ → Type 0
   -- and so the contracts say of each what the rules say
   pub units-read : (c : Call) (w : World) → units c (said c (reply-to c w)) ≡ reply-to c w .units
-  pub answered-as : (good : Bool) (r : Reply) → answered (said (answers good) r) ≡ r .answer
+  pub answered-as : (good : Bool) (n : ℕ) (w : World) → answered (said (answers good n) (reply-to (answers good n) w)) ≡ call-answer w good n .answer
   pub record-read-as : (i : ℕ) (r : Reply) → record-read (said (records i) r) ≡ record { answer = r .answer; range = r .range }
   pub makes-made : (memory : ℕ) (d : Device) → Makes memory d → state d ≡ made memory
   pub gives-reply : (d : Device) (m : List ℕ) (c : Call) (x : Said) (d′ : Device) (m′ : List ℕ) → Gives d m c x d′ m′ → x ≡ said c (reply-to c (lent (state d) m))

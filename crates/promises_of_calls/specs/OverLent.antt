@@ -22,7 +22,7 @@ use Rattle.promises_of_calls.specs.ByValue.Gives.{write-gives, read-give
 abbrev pub with-words : List ℕ → Device → Device
 with-words s d = record { words = s; entries = d .entries; first = d .first; second = d .second; records = d .records }
 
--- all that a run is lent
+-- all that a run or an answer is lent
 abbrev pub lent-of : Device → List ℕ → Lent
 lent-of d m = lending (d .words) (d .entries) (d .first) (d .second) (d .records) m
 
@@ -32,7 +32,8 @@ pub data Gives (d : Device) (m : List ℕ) : Call → Reply → Device → List 
   lent-read : (offset : ℕ) (x : ValueRead) → Reads (d .words) offset x → Gives d m (reads offset) (showing (x .answer) (x .value)) d m
   lent-run : (n : ℕ) (x : Spent) (d′ : Device) (m′ : List ℕ) → Runs n (lent-of d m) x (lent-of d′ m′) → Gives d m (runs n) (spending (x .answer) (x .units) (x .ended)) d′ m′
   lent-record : (i : ℕ) (x : RecordRead) → GivesRecord (d .words) (d .records) i x → Gives d m (records i) (handing (x .answer) (x .range)) d m
-  lent-answer : (good : Bool) (answer : ℕ) (s′ m′ : List ℕ) → Answers (d .words) m good answer s′ m′ → Gives d m (answers good) (answering answer) (with-words s′ d) m′
+  lent-answer : (good : Bool) (n : ℕ) (x : Spent) (d′ : Device) (m′ : List ℕ) → Answers good n (lent-of d m) x (lent-of d′ m′)
+      → Gives d m (answers good n) (spending (x .answer) (x .units) (x .ended)) d′ m′
 
 -- it is a call of the device by value that those words and tables are
 pub is-by-value : {d : Device} {m : List ℕ} {c : Call} {r : Reply} {d′ : Device} {m′ : List ℕ} → Gives d m c r d′ m′ → GivesByValue d m c r d′ m′
@@ -42,8 +43,9 @@ is-by-value {d} {m} (lent-run n x d′ m′ k) =
     run-gives n (record { answer = x .answer; units = x .units; ended = x .ended; device = d′ }) m′
     (ran d m n x (d′ .words) (d′ .entries) (d′ .first) (d′ .second) (d′ .records) m′ k)
 is-by-value {d} {m} (lent-record i x k) = record-gives i x (record-read d i x k)
-is-by-value {d} {m} (lent-answer good answer s′ m′ k) =
-    answer-gives good (record { answer = answer; device = with-words s′ d }) m′ (answered d m good answer s′ m′ k)
+is-by-value {d} {m} (lent-answer good n x d′ m′ k) =
+    answer-gives good n (record { answer = x .answer; units = x .units; ended = x .ended; device = d′ }) m′
+    (answered d m good n x (d′ .words) (d′ .entries) (d′ .first) (d′ .second) (d′ .records) m′ k)
 
 -- the layer
 abbrev pub over-lent : Layer

@@ -64,20 +64,22 @@ valued (found r) = record { answer = done; value = r .value }
 unfoldable pub call-read : State → ℕ → Value
 call-read s offset = valued (register (s .regs) offset)
 
--- "Answers 1 to 4 change no state or byte; a value returned beside them is zero (idle for run)."
 pub record Ran : Type 0 where
   pub answer : ℕ
   pub units : ℕ
   pub ended : Ended
   pub world : World
 
+-- "Answers 1 to 4 change no state or byte; a value returned beside them is zero (idle for run)."
+abbrev pub not-run : ℕ → World → Ran
+not-run answer w = record { answer = answer; units = 0; ended = Idle; world = w }
+
 abbrev pub ran : Out World → Ran
 ran o = record { answer = done; units = o .units; ended = ending (o .state .state); world = o .state }
 
 unfoldable pub call-run : World → ℕ → Ran
 call-run w allowance =
-    pick (lent-another w) (record { answer = other-memory; units = 0; ended = Idle; world = w })
-    (ran (run-for allowance w))
+    pick (lent-another w) (not-run other-memory w) (ran (run-for allowance w))
 
 pub record RecordRead : Type 0 where
   pub answer : ℕ
@@ -105,8 +107,17 @@ pub record Answered : Type 0 where
   pub answer : ℕ
   pub world : World
 
--- "1 comes before 3."
-unfoldable pub call-answer : World → Bool → Answered
-call-answer w good =
+-- what 01 calls "give the host's answer". "1 comes before 3."
+unfoldable pub answer-alone : World → Bool → Answered
+answer-alone w good =
     pick (lent-another w) (record { answer = other-memory; world = w })
     (pick (waits (w .state)) (record { answer = done; world = answered good w }) (record { answer = nothing-waits; world = w }))
+
+-- By wish 6 it is no call of its own any more: "Make that one call, with the answer, an allowance and the memory, and drop the separate answer
+-- call; an allowance of 0 is the old call. Answers 1 and 3 refuse the whole call, nothing run; else it must equal the two old calls one after
+-- the other."
+abbrev pub and-run : Answered → ℕ → Ran
+and-run a allowance = pick (eqb (a .answer) done) (call-run (a .world) allowance) (not-run (a .answer) (a .world))
+
+unfoldable pub call-answer : World → Bool → ℕ → Ran
+call-answer w good allowance = and-run (answer-alone w good) allowance

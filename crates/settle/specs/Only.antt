@@ -17,7 +17,11 @@ use Rattle.rules.specs.Lists.{over}
 use Rattle.rules.specs.Judging.{Finding}
 use Rattle.rules.specs.Judging.Finding.{fine, broken}
 use Rattle.rules.specs.Layouts.{word, head-offset, page-bytes}
-use Rattle.rules.specs.Settle.{faulted, signalled, faulted-by, ended-by, written, next-head, head-written, page-written, marked}
+use Rattle.rules.specs.State.{Work, World}
+use Rattle.rules.specs.State.Work.{resting, entries, packets, waiting}
+use Rattle.rules.specs.Steps.{answer-on, answered}
+use Rattle.rules.specs.Calls.{lent-another}
+use Rattle.rules.specs.Settle.{faulted, signalled, faulted-by, ended-by, written, next-head, head-written, page-written, marked, settled}
 use Rattle.rules.specs.declared.Registers.{Registers}
 use Rattle.rules.specs.declared.Job.{Job}
 use Rattle.rules.specs.declared.Fault.{Fault}
@@ -169,3 +173,31 @@ module _ (j : Job) (v : Finding) (r : Registers) where
       by-test : (t : Bool) → ltb (r .completed) (j .signal) ≡ t → (r .completed ≤ pick t (j .signal) (r .completed)) × (j .signal ≤ pick t (j .signal) (r .completed))
       by-test true e = (omega (arith, ltb-true), omega arith)
       by-test false e = (omega arith, omega (arith, ltb-false))
+
+-- ---- the host's answer: a memory of the device's own length is one after it too
+
+module _ (good : Bool) (w : World) where
+  pub answered-keeps-memory : answered good w .state .memory ≡ w .state .memory
+  unfolding answered settled
+  answered-keeps-memory = by-work good (w .state .work)
+    where
+      by-work : (g : Bool) (k : Work) → answer-on g w k .state .memory ≡ w .state .memory
+      by-work g resting = refl
+      by-work g (entries o kept) = refl
+      by-work g (packets j s at es h) = refl
+      by-work true (waiting j es h) = refl
+      by-work false (waiting j es h) = refl
+
+  pub answered-keeps-length : length (answered good w .mem) ≡ length (w .mem)
+  unfolding answered settled
+  answered-keeps-length = by-work good (w .state .work)
+    where
+      by-work : (g : Bool) (k : Work) → length (answer-on g w k .mem) ≡ length (w .mem)
+      by-work g resting = refl
+      by-work g (entries o kept) = refl
+      by-work g (packets j s at es h) = refl
+      by-work true (waiting j es h) = marked-length j _ (w .mem)
+      by-work false (waiting j es h) = marked-length j _ (w .mem)
+
+  pub answered-is-lent-alike : lent-another (answered good w) ≡ lent-another w
+  answered-is-lent-alike = rw (answered-keeps-memory, answered-keeps-length)

@@ -1,18 +1,23 @@
 -- What the exports say: the values of the rules' own call, in one number or in five words.
 use mathlib.Core.Path.{_≡_}
+use mathlib.Core.Bool.{Bool}
 use mathlib.Core.List.{List, [], _∷_}
 use Prim.Native.Nat.{ℕ, _+_, _*_}
-use Rattle.rules.specs.Calls.{ended-number, Value, Ran, call-read, call-run, call-record}
+use Rattle.rules.specs.Calls.{ended-number, Value, Ran, call-read, call-run, call-record, call-answer}
 use Rattle.rules.specs.declared.Record.{Record}
 use Rattle.run_state.specs.Views.{stateIn, Lent, deskOf, Refused}
+use Rattle.device_memory_calls.specs.declared.Spent.{Spent}
 
 -- a read's value, its answer above it
 abbrev pub saidValue : Value → ℕ
 saidValue x = x .value + 4294967296 * x .answer
 
--- a run's answer, how it ended and its units, each above the one before
+-- a run's or an answer's answer, how it ended and its units, each above the one before
 abbrev pub saidRun : Ran → ℕ
 saidRun x = x .answer + (256 * ended-number (x .ended) + 65536 * x .units)
+
+abbrev pub saidSpent : Spent → ℕ
+saidSpent x = x .answer + (256 * ended-number (x .ended) + 65536 * x .units)
 
 abbrev pub recordWords : Record → List ℕ
 recordWords c = c .kind ∷ c .handle ∷ c .id ∷ c .gpa ∷ c .length ∷ []
@@ -23,11 +28,19 @@ recordWords c = c .kind ∷ c .handle ∷ c .id ∷ c .gpa ∷ c .length ∷ []
 pub record SaysValue (s : List ℕ) (offset said : ℕ) : Type 0 where
   pub value : (e a b c : List ℕ) → said ≡ saidValue (call-read (stateIn s e a b c) offset)
 
--- the rules' run, of the device in the words and tables
-pub record SaysRun (allowance : ℕ) (l : Lent) (said : ℕ) (l′ : Lent) : Type 0 where
-  pub spent : said ≡ saidRun (call-run (deskOf l) allowance)
-  pub world : deskOf l′ ≡ call-run (deskOf l) allowance .world
-  pub still : Refused (call-run (deskOf l) allowance .answer) → l′ ≡ l
+-- what the rules' call comes to, of the device in the words and tables
+pub record SaysSpent (r : Ran) (l : Lent) (said : ℕ) (l′ : Lent) : Type 0 where
+  pub spent : said ≡ saidRun r
+  pub world : deskOf l′ ≡ r .world
+  pub still : Refused (r .answer) → l′ ≡ l
+
+-- the rules' run
+abbrev pub SaysRun : ℕ → Lent → ℕ → Lent → Type 0
+SaysRun allowance l = SaysSpent (call-run (deskOf l) allowance) l
+
+-- the rules' answer and run
+abbrev pub SaysAnswer : Bool → ℕ → Lent → ℕ → Lent → Type 0
+SaysAnswer good allowance l = SaysSpent (call-answer (deskOf l) good allowance) l
 
 -- the rules' record, of the device in the words
 pub record SaysRecord (s c : List ℕ) (i n : ℕ) (said : List ℕ) : Type 0 where

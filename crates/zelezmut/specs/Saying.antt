@@ -7,15 +7,15 @@ use native.Mathlib.Omega.{arith}
 use borrow.Author.Needs.{needs}
 use lib.ListN.{length, set, drop, drop-of-length-le}
 use lib.Seq.{sets-eq}
-use Rattle.rules.specs.Calls.{ended-number, RecordRead as RecordReadBy, Ran}
+use Rattle.rules.specs.Calls.{ended-number, RecordRead as RecordReadBy, Ran, call-run, call-answer}
 use Rattle.rules.specs.declared.Record.{Record}
-use Rattle.run_state.specs.Views.{setIn, deskIn, lent}
+use Rattle.run_state.specs.Views.{setIn, deskIn, lent, Refused}
 use Rattle.device_calls.specs.Views.{Makes, Reads, GivesRecord}
 use Rattle.device_calls.specs.declared.ValueRead.{ValueRead}
 use Rattle.device_calls.specs.declared.RecordRead.{RecordRead}
-use Rattle.device_memory_calls.specs.Views.{Runs, Answers}
+use Rattle.device_memory_calls.specs.Views.{ranOf, Runs, Answers}
 use Rattle.device_memory_calls.specs.declared.Spent.{Spent}
-use Rattle.zelezmut.specs.Said.{saidValue, saidRun, recordWords, SaysValue, SaysRun, SaysRecord}
+use Rattle.zelezmut.specs.Said.{saidValue, saidRun, saidSpent, recordWords, SaysValue, SaysSpent, SaysRun, SaysAnswer, SaysRecord}
 use Rattle.rules.specs.Table.{table-finding, table-error, table-place}
 use Rattle.rules.specs.declared.Fault.{Fault}
 use Rattle.table_whole.specs.Whole.{shown}
@@ -28,21 +28,32 @@ says-value s offset v a x k p q =
 
 pub ruleset saying-value = (says-value, needs)
 
--- ---- zelezmut_run
+-- ---- zelezmut_run, zelezmut_answer
 
-module _ (allowance : ℕ) (s e a b c m s′ e′ a′ b′ c′ m′ : List ℕ) (x : Spent) (k : Runs allowance (lent s e a b c m) x (lent s′ e′ a′ b′ c′ m′)) (n v u : ℕ) where
-  abbrev given : Ran
-  given = record { answer = x .answer; units = x .units; ended = x .ended; world = deskIn s′ e′ a′ b′ c′ m′ }
+pub says-number : (x : Spent) (n u v : ℕ) → (n ≡ ended-number (x .ended)) × (n ≤ 2) → u ≡ x .units → (v ≡ x .answer) × (v < 4294967296) → v + (256 * n + 65536 * u) ≡ saidSpent x
+says-number x n u v p q t = rw (p .0, q, t .0)
 
-  pub says-run : (n ≡ ended-number (x .ended)) × (n ≤ 2) → u ≡ x .units → (v ≡ x .answer) × (v < 4294967296) → SaysRun allowance (lent s e a b c m) (v + (256 * n + 65536 * u)) (lent s′ e′ a′ b′ c′ m′)
-  says-run p q t =
+pub ruleset saying-number = (says-number, needs)
+
+module _ (s e a b c m s′ e′ a′ b′ c′ m′ : List ℕ) (x : Spent) (n : ℕ) (is : n ≡ saidSpent x) where
+  says-spent : (r : Ran) → ranOf x (lent s′ e′ a′ b′ c′ m′) ≡ r → (Refused (x .answer) → lent s′ e′ a′ b′ c′ m′ ≡ lent s e a b c m) → SaysSpent r (lent s e a b c m) n (lent s′ e′ a′ b′ c′ m′)
+  says-spent r k still =
       record {
-        spent = rw (p .0, q, t .0) (ap saidRun (k .ran));
-        world = ap (λ (r : Ran). r .world) (k .ran);
-        still = λ z. k .still (λ d. z (sym (ap (λ (r : Ran). r .answer) (k .ran)) ∙ d));
+        spent = is ∙ ap saidRun k;
+        world = ap (λ (y : Ran). y .world) k;
+        still = λ z. still (λ d. z (sym (ap (λ (y : Ran). y .answer) k) ∙ d));
       }
 
-pub ruleset saying-run = (says-run, needs)
+  pub says-run : (allowance : ℕ) → Runs allowance (lent s e a b c m) x (lent s′ e′ a′ b′ c′ m′) → SaysRun allowance (lent s e a b c m) n (lent s′ e′ a′ b′ c′ m′)
+  says-run allowance k = says-spent (call-run (deskIn s e a b c m) allowance) (k .ran) (k .still)
+
+  pub says-answer : (good w allowance : ℕ) (g : Bool) → (w ≡ good) × (w < 4294967296) → g ≡ setIn w → Answers g allowance (lent s e a b c m) x (lent s′ e′ a′ b′ c′ m′)
+      → SaysAnswer (setIn good) allowance (lent s e a b c m) n (lent s′ e′ a′ b′ c′ m′)
+  says-answer good w allowance g p q k =
+      let same : g ≡ setIn good = q ∙ ap setIn (p .0) in
+      says-spent (call-answer (deskIn s e a b c m) (setIn good) allowance) (k .ran ∙ ap (λ y. call-answer (deskIn s e a b c m) y allowance) same) (k .still)
+
+pub ruleset saying-run = (says-run, says-answer, needs)
 
 -- ---- zelezmut_record
 
@@ -64,15 +75,12 @@ says-record s c i x said k p =
 
 pub ruleset saying-record = (says-words, says-record, needs)
 
--- ---- zelezmut_make, zelezmut_answer
+-- ---- zelezmut_make
 
 pub made-at : (memory n : ℕ) (s′ : List ℕ) → n ≡ memory → Makes n s′ → Makes memory s′
 made-at memory n s′ p k = rw (← p) k
 
-pub answered-as : (s m : List ℕ) (good n answer : ℕ) (b : Bool) (s′ m′ : List ℕ) → (n ≡ good) × (n < 4294967296) → b ≡ setIn n → Answers s m b answer s′ m′ → Answers s m (setIn good) answer s′ m′
-answered-as s m good n answer b s′ m′ p q k = rw (← p .0, ← q) k
-
-pub ruleset handing-on = (made-at, answered-as, needs)
+pub ruleset handing-on = (made-at, needs)
 
 -- ---- zelezmut_table_error, zelezmut_table_place
 

@@ -1,5 +1,6 @@
 // The device over state that the host owns: its words and its four tables. Zero or not, any words mean some device; `zelezmut_make` makes a
 // new one of them. A call's values stand beside its answer in one number, or, for a record, in five words.
+use device_memory_calls::Spent;
 use kept_entries::Entries;
 use kept_records::Records;
 use kept_resources::resources::Resources;
@@ -16,8 +17,7 @@ ghost use Rattle.rules.specs.Calls.{ended-number};
 ghost use Rattle.run_state.specs.Views.{setIn};
 ghost use Rattle.registers.specs.Views.{Writes};
 ghost use Rattle.device_calls.specs.Views.{Makes};
-ghost use Rattle.device_memory_calls.specs.Views.{Answers};
-ghost use Rattle.zelezmut.specs.Said.{recordWords, SaysValue, SaysRun, SaysRecord};
+ghost use Rattle.zelezmut.specs.Said.{recordWords, saidSpent, SaysValue, SaysRun, SaysAnswer, SaysRecord};
 
 // A read's answer stands above its value's four bytes.
 const ABOVE_VALUE: u64 = 4294967296;
@@ -36,6 +36,16 @@ fn number_of(ended: Ended) -> u64
         Ended::Waiting => 1,
         Ended::Paused => 2,
     }
+}
+
+// What was spent in one number: the call's answer, 2^8 times how it ended and 2^16 times the units.
+fn said(x: Spent) -> u64
+    ensures { λ r. ⌜ r ≡ saidSpent x ⌝ }
+{
+    let how = x.ended;
+    let ended = number_of(how);
+    let units = u16_to_word(x.units);
+    u32_to_word(x.answer) + (ABOVE_ANSWER * ended + ABOVE_ENDED * units)
 }
 
 // Says a record: kind, handle, id, GPA, length.
@@ -109,10 +119,7 @@ pub extern "C" fn zelezmut_run(
         }) ⌝ }
 {
     let x = device_memory_calls::run(words, entries, first, second, records, mem, allowance);
-    let how = x.ended;
-    let ended = number_of(how);
-    let units = u16_to_word(x.units);
-    u32_to_word(x.answer) + (ABOVE_ANSWER * ended + ABOVE_ENDED * units)
+    said(x)
 }
 
 // Record i of the submission that waits: the call's answer, and says kind, handle, id, GPA and length.
@@ -131,11 +138,47 @@ pub extern "C" fn zelezmut_record(
     x.answer
 }
 
-// The host's answer to what waits, 0 for failed: the call's answer.
+// The host's answer to what waits, 0 for failed, and at once a run over the memory lent now: said as a run says it.
 #[no_mangle]
-pub extern "C" fn zelezmut_answer(words: &mut Words, mem: &mut [u8], good: u32) -> u32
-    ensures { λ r. ⌜ Answers (now (words .entry)) (now (mem .entry)) (setIn good) r (now (words .exit)) (now (mem .exit)) ⌝ }
+pub extern "C" fn zelezmut_answer(
+    words: &mut Words,
+    entries: &mut Entries,
+    first: &mut Resources,
+    second: &mut Resources,
+    records: &mut Records,
+    mem: &mut [u8],
+    good: u32,
+    allowance: u16,
+) -> u64
+    ensures { λ r. ⌜ SaysAnswer (setIn good) allowance
+        (record {
+          words = now (words .entry);
+          entries = now (entries .entry);
+          first = now (first .entry);
+          second = now (second .entry);
+          records = now (records .entry);
+          mem = now (mem .entry);
+        })
+        r
+        (record {
+          words = now (words .exit);
+          entries = now (entries .exit);
+          first = now (first .exit);
+          second = now (second .exit);
+          records = now (records .exit);
+          mem = now (mem .exit);
+        }) ⌝ }
 {
     let accepted = is_set(u32_to_word(good));
-    device_memory_calls::answer(words, mem, accepted)
+    let x = device_memory_calls::answer(
+        words,
+        entries,
+        first,
+        second,
+        records,
+        mem,
+        accepted,
+        allowance,
+    );
+    said(x)
 }

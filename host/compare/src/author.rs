@@ -22,6 +22,8 @@ pub(crate) struct Author {
     /// The ring's head, and the device's resources, as believed.
     pub(crate) head: u32,
     pub(crate) live: Vec<Resource>,
+    /// The units of the next submission that the last answer has carried on into, as believed.
+    pub(crate) ahead: usize,
     /// The last signal fence given.
     pub(crate) signal: u64,
     /// The belief holds: nothing was done whose outcome was left open.
@@ -42,6 +44,7 @@ impl Author {
             head: world.ring.header.head,
             world,
             live: Vec::new(),
+            ahead: 0,
             signal: random.pick(&[0, 0, 6, u32::MAX.into(), 1 << 63]),
             sure: true,
             restless,
@@ -98,17 +101,29 @@ impl Author {
         self.operations.push(Operation::Run { allowance });
     }
 
-    pub(crate) fn answer(&mut self, good: bool) {
-        let answer = if good {
-            HostAnswer::Good
-        } else {
-            HostAnswer::Failed
-        };
-        self.operations.push(Operation::Answer { answer });
+    pub(crate) fn answer(&mut self, good: bool, allowance: u16) {
+        let answer = told(good);
+        self.operations
+            .push(Operation::Answer { answer, allowance });
+    }
+
+    /// For a call that is to be refused, or whose run nobody reckons with.
+    pub(crate) fn any_allowance(&mut self) -> u16 {
+        let few = self.random.within(1..=5) as u16;
+        self.random.pick(&[0, 1, few, PLENTY])
     }
 
     pub(crate) fn ring_doorbell(&mut self) {
         let value = self.random.pick(&[0, 1, u32::MAX]);
         self.write(DOORBELL, value);
+    }
+}
+
+/// What the host says.
+pub(crate) fn told(good: bool) -> HostAnswer {
+    if good {
+        HostAnswer::Good
+    } else {
+        HostAnswer::Failed
     }
 }

@@ -1,9 +1,10 @@
 //! One case of the benchmark set up on any front, to be played again and again.
 //!
-//! A guest memory with a ring of one slot at 0, a table, and room for a stream of 60 KiB. Before the measured submission another
-//! one creates the resources. The guest arms the ring again before each submission: it moves the tail on.
+//! A guest memory with a ring at 0, a table, and room for a stream of 60 KiB. Before the measured submission another one creates the
+//! resources. The guest arms the ring again before each submission: it moves the tail on. All slots of the ring name the same
+//! submission; where each has its answer before the next, there is one slot, and where one waits while the next is armed, two.
 
-use crate::cases::{Case, Mode};
+use crate::cases::{Case, Mode, Way};
 use crate::front::{Ended, Front, Ran};
 use crate::host::Host;
 use crate::image::{put32, Descriptor, Entry, Range, RingHeader, Stream, Table};
@@ -22,17 +23,34 @@ pub struct Bench<F> {
     pub seat: Seat<F>,
     /// The units of a submission.
     pub units: u64,
+    slots: u32,
 }
 
 impl<F: Front> Bench<F> {
     pub fn new(case: Case) -> Bench<F> {
+        Bench::with_slots(case, 1)
+    }
+
+    /// One submission waits already, and there is room for the next behind it.
+    pub fn waiting(case: Case) -> Bench<F> {
+        let mut bench = Bench::with_slots(case, 2);
+        bench.arm();
+        bench.run_until_waiting(Mode::Whole);
+        bench
+    }
+
+    fn with_slots(case: Case, slots: u32) -> Bench<F> {
         let mut random = Random::new(1);
-        let ring = RingHeader::new(1, DESCRIPTOR, 0);
+        let ring = RingHeader::new(slots, DESCRIPTOR, 0);
         let mut seat = Seat::<F>::new(case.memory() as u32);
         seat.memory[..RING_HEADER as usize].copy_from_slice(&ring.bytes(&mut random));
         seat.front.write(RING_SIZE, ring.size);
         seat.front.write(CONTROL, CONTROL_ENABLE);
-        let mut bench = Bench { seat, units: 0 };
+        let mut bench = Bench {
+            seat,
+            units: 0,
+            slots,
+        };
 
         let created = (0..case.live())
             .map(|row| case.created(&mut random, row))
@@ -71,7 +89,10 @@ impl<F: Front> Bench<F> {
         if !packets.is_empty() {
             descriptor.stream = self.lay(STREAM_AT, &Stream::new(packets).bytes(random));
         }
-        self.lay(RING_HEADER as usize, &descriptor.bytes(random));
+        let descriptor = descriptor.bytes(random);
+        for slot in 0..self.slots {
+            self.lay((RING_HEADER + slot * DESCRIPTOR) as usize, &descriptor);
+        }
     }
 
     fn lay(&mut self, at: usize, bytes: &[u8]) -> Range {
@@ -84,16 +105,29 @@ impl<F: Front> Bench<F> {
 
     /// Moves the tail on, so that one submission is pending.
     pub fn arm(&mut self) {
+        self.put_tail(1);
+    }
+
+    /// Moves the tail on, so that one submission is pending behind the one that waits.
+    pub fn arm_behind(&mut self) {
+        self.put_tail(2);
+    }
+
+    fn put_tail(&mut self, pending: u32) {
         let memory = &mut self.seat.memory;
         let head = [0, 1, 2, 3].map(|i| memory[RING_HEAD as usize + i]);
-        put32(memory, TAIL_AT, u32::from_le_bytes(head).wrapping_add(1));
+        put32(
+            memory,
+            TAIL_AT,
+            u32::from_le_bytes(head).wrapping_add(pending),
+        );
     }
 
     /// Rings, runs until the submission waits, and answers good.
     pub fn submission(&mut self, mode: Mode) {
         self.run_until_waiting(mode);
-        let answer = self.seat.front.answer(&mut self.seat.memory, true);
-        assert_eq!(answer, 0, "{} was not waiting", F::NAME);
+        let ran = self.seat.front.answer(&mut self.seat.memory, true, 0);
+        assert_eq!(ran.answer, 0, "{} was not waiting", F::NAME);
     }
 
     /// Rings and runs until the submission waits.
@@ -127,6 +161,20 @@ impl<F: Host> Bench<F> {
     /// Rings, runs once and answers good, in the front's own words.
     pub fn submission_at_once(&mut self) {
         let units = self.seat.front.submission(&mut self.seat.memory);
+        self.has_spent(units);
+    }
+
+    /// Rings, answers the submission that waits, and runs until the next one waits, in the front's own words.
+    pub fn next(&mut self, way: Way) {
+        let Seat { front, memory } = &mut self.seat;
+        let units = match way {
+            Way::Joined => front.next_joined(memory),
+            Way::Apart => front.next_apart(memory),
+        };
+        self.has_spent(units);
+    }
+
+    fn has_spent(&self, units: u16) {
         assert_eq!(
             u64::from(units),
             self.units,

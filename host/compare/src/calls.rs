@@ -17,16 +17,19 @@ pub enum Call {
     Record,
     /// A run of an enabled device that has nothing to do.
     Run,
-    /// A good answer to a submission of one unknown packet, nothing live.
+    /// A good answer to a submission of one unknown packet, nothing live, and no run.
     Answer,
+    /// The same, and a run until the next such submission waits.
+    AnswerAndRun,
 }
 
-pub const CALLS: [Call; 5] = [
+pub const CALLS: [Call; 6] = [
     Call::Write,
     Call::Read,
     Call::Record,
     Call::Run,
     Call::Answer,
+    Call::AnswerAndRun,
 ];
 
 impl Call {
@@ -37,6 +40,7 @@ impl Call {
             Call::Record => "record",
             Call::Run => "idle-run",
             Call::Answer => "answer",
+            Call::AnswerAndRun => "answer-and-run",
         }
     }
 
@@ -47,7 +51,8 @@ impl Call {
             Call::Read => "each of the 19 registers that can be read, in turn",
             Call::Record => "each of the 64 records of a waiting submission, in turn",
             Call::Run => "a run of 65,535 units on an enabled device that has nothing to do",
-            Call::Answer => "a good answer to a waiting submission of one unknown packet, nothing live; each to a device of its own",
+            Call::Answer => "a good answer with allowance 0 to a waiting submission of one unknown packet, nothing live; each to a device of its own",
+            Call::AnswerAndRun => "as answer, with allowance 65,535 and another such submission behind it, which waits after its two units",
         }
     }
 
@@ -56,12 +61,17 @@ impl Call {
             Call::Write => WRITABLE.to_vec(),
             Call::Read => READABLE.to_vec(),
             Call::Record => (0..MOST_RECORDS as u32).collect(),
-            Call::Run | Call::Answer => vec![0],
+            Call::Run | Call::Answer | Call::AnswerAndRun => vec![0],
         }
+    }
+
+    /// Whether a device can take the call only once.
+    fn is_answer(self) -> bool {
+        matches!(self, Call::Answer | Call::AnswerAndRun)
     }
 }
 
-/// A call with its fronts made ready for it: an answer needs a new one each time.
+/// A call with its fronts made ready for it: an answer needs a new one each time, that waits.
 pub struct Calls<F> {
     call: Call,
     arguments: Vec<u32>,
@@ -77,9 +87,14 @@ impl<F: Host> Calls<F> {
                 Call::Record => waiting(COPY),
                 Call::Run => idle(Case::Unknown),
                 Call::Answer => waiting(Case::OneUnknown { live: 0 }),
+                Call::AnswerAndRun => {
+                    let mut bench = Bench::waiting(Case::OneUnknown { live: 0 });
+                    bench.arm_behind();
+                    bench
+                }
             }
         };
-        let benches = if call == Call::Answer { rounds } else { 1 };
+        let benches = if call.is_answer() { rounds } else { 1 };
         Calls {
             call,
             arguments: call.arguments(),
@@ -109,7 +124,12 @@ impl<F: Host> Calls<F> {
             Call::Read => sum(&steps, |offset| front.value(offset).into()),
             Call::Record => sum(&steps, |i| front.length(i)),
             Call::Run => sum(&steps, |_| front.spent(memory).into()),
-            Call::Answer => answers(&mut self.benches, rounds),
+            Call::Answer => answers(&mut self.benches, rounds, |Seat { front, memory }| {
+                front.answered(memory).into()
+            }),
+            Call::AnswerAndRun => answers(&mut self.benches, rounds, |Seat { front, memory }| {
+                front.carried_on(memory).into()
+            }),
         }
     }
 }
@@ -138,11 +158,15 @@ fn sum(steps: &[(u32, bool)], mut call: impl FnMut(u32) -> u64) -> u64 {
     sum
 }
 
-fn answers<F: Host>(benches: &mut [Bench<F>], rounds: &[bool]) -> u64 {
+fn answers<F: Host>(
+    benches: &mut [Bench<F>],
+    rounds: &[bool],
+    mut call: impl FnMut(&mut Seat<F>) -> u64,
+) -> u64 {
     let mut sum = 0;
     for (bench, &marked) in benches.iter_mut().zip(rounds) {
         if marked {
-            sum += u64::from(bench.seat.front.answered(&mut bench.seat.memory));
+            sum += call(&mut bench.seat);
         }
     }
     sum

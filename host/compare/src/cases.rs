@@ -240,6 +240,15 @@ fn handle_of_row(row: usize) -> u32 {
     row as u32 + 1
 }
 
+/// How a host goes from one submission to the next.
+#[derive(Clone, Copy, Debug, PartialEq, Eq)]
+pub enum Way {
+    /// It answers and runs in one call.
+    Joined,
+    /// It answers, and then it runs.
+    Apart,
+}
+
 #[derive(Clone, Copy, Debug, PartialEq, Eq)]
 pub enum Mode {
     /// As many units a run as the submission has.

@@ -1,8 +1,9 @@
 //! What the desks of a run reached. A comparison that meets no rule says nothing, so tests hold these counts to a least number.
 
-use crate::detail::{seen, Detail, Errors, DETAILS};
+use crate::carried::{self, Carried, CARRIED};
+use crate::detail::{self, Detail, Errors, DETAILS};
 use crate::event::{Event, EVENTS};
-use crate::front::{Ended, Front};
+use crate::front::{Ended, Front, Ran};
 use crate::generator::Drawn;
 use crate::numbers::error::{HOST_FAILED, RING};
 use crate::player::{Said, Seat};
@@ -24,6 +25,8 @@ pub enum Met {
     Answer(&'static str, u32),
     /// How a run ended.
     Ended(&'static str),
+    /// What became of an answer and the run behind it.
+    Carried(Carried),
     /// A record of this kind, of a submission that came to wait.
     Record(u32),
     /// The IRQ status after an operation.
@@ -59,6 +62,7 @@ impl Met {
             .iter()
             .map(|&(call, answer)| Met::Answer(call, answer));
         let endings = [IDLE, WAITING, PAUSED].map(Met::Ended);
+        let carried = CARRIED.iter().copied().map(Met::Carried);
         let records = (1..=3).map(Met::Record);
         let statuses = (0..=3).map(Met::Status);
         let events = EVENTS.iter().copied().map(Met::Event);
@@ -66,6 +70,7 @@ impl Met {
             .chain(details)
             .chain(answers)
             .chain(endings)
+            .chain(carried)
             .chain(records)
             .chain(statuses)
             .chain(events)
@@ -77,6 +82,7 @@ impl Met {
             Met::Detail(_) => "detail",
             Met::Answer(..) => "answer",
             Met::Ended(_) => "ending",
+            Met::Carried(_) => "carried",
             Met::Record(_) => "record",
             Met::Status(_) => "status",
             Met::Event(_) => "event",
@@ -89,6 +95,7 @@ impl Met {
             Met::Detail(detail) => format!("{:?}", detail),
             Met::Answer(call, answer) => format!("{} {}", call, answer),
             Met::Ended(ended) => ended.to_string(),
+            Met::Carried(carried) => format!("{:?}", carried),
             Met::Event(event) => format!("{:?}", event),
         }
     }
@@ -157,12 +164,12 @@ impl Coverage {
             Said::Wrote(answer) => self.count(Met::Answer("write", *answer)),
             Said::Read(answer, _) => self.count(Met::Answer("read", *answer)),
             Said::Recorded(answer, _) => self.count(Met::Answer("record", *answer)),
-            Said::Answered(answer) | Said::AnsweredElsewhere(answer, _) => {
-                self.count(Met::Answer("answer", *answer));
+            Said::Answered(ran) | Said::AnsweredElsewhere(ran, _) => {
+                self.count(Met::Answer("answer", ran.answer));
+                self.ran(watch, *ran, seat);
             }
             Said::Ran(ran) | Said::RanElsewhere(ran, _) => {
                 self.count(Met::Answer("run", ran.answer));
-                self.units += u64::from(ran.units);
                 if ran.answer == 0 {
                     self.count(Met::Ended(match ran.ended {
                         Ended::Idle => IDLE,
@@ -170,15 +177,25 @@ impl Coverage {
                         Ended::Paused => PAUSED,
                     }));
                 }
-                if ran.ended == Ended::Waiting && ran.units > 0 {
-                    watch.waited.extend(watch.head(&seat.memory));
-                    self.records(seat);
-                }
+                self.ran(watch, *ran, seat);
             }
         }
-        self.errors(watch, operation, seat);
+        let (before, after) = (watch.registers, Errors::of(&seat.front));
+        for carried in carried::seen(operation, said, before, after) {
+            self.count(Met::Carried(carried));
+        }
+        self.errors(watch, operation, after);
         let (_, status) = seat.front.read(IRQ_STATUS);
         self.count(Met::Status(status));
+    }
+
+    /// Counts what a run spent, by itself or behind an answer, and that it came upon a submission that waits.
+    fn ran<F: Front>(&mut self, watch: &mut Watch, ran: Ran, seat: &Seat<F>) {
+        self.units += u64::from(ran.units);
+        if ran.ended == Ended::Waiting && ran.units > 0 {
+            watch.waited.extend(watch.head(&seat.memory));
+            self.records(seat);
+        }
     }
 
     fn records<F: Front>(&mut self, seat: &Seat<F>) {
@@ -191,13 +208,13 @@ impl Coverage {
     }
 
     /// Of several errors in one operation only the last can be seen.
-    fn errors<F: Front>(&mut self, watch: &mut Watch, operation: &Operation, seat: &Seat<F>) {
-        let (before, after) = (watch.registers, Errors::of(&seat.front));
+    fn errors(&mut self, watch: &mut Watch, operation: &Operation, after: Errors) {
+        let before = watch.registers;
         if before.count != after.count {
             watch.errors.insert(after.code);
             self.count(Met::Error(after.code));
         }
-        for detail in seen(operation, before, after) {
+        for detail in detail::seen(operation, before, after) {
             self.count(Met::Detail(detail));
         }
         watch.registers = after;

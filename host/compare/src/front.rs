@@ -2,7 +2,7 @@
 
 use crate::shape::Shape;
 pub use plain::{Ended, Ran, Record};
-use zelezmut::HostAnswer;
+use zelezmut::{HostAnswer, Refused};
 
 pub trait Front {
     /// What messages call it.
@@ -15,7 +15,7 @@ pub trait Front {
     fn run(&mut self, memory: &mut [u8], allowance: u16) -> Ran;
     /// The call's answer and the record.
     fn record(&self, i: u32) -> (u32, Record);
-    fn answer(&mut self, memory: &mut [u8], good: bool) -> u32;
+    fn answer(&mut self, memory: &mut [u8], good: bool, allowance: u16) -> Ran;
 
     /// 0 is a bad shape.
     fn packed_size(shape: Shape) -> u64;
@@ -48,8 +48,8 @@ impl Front for plain::Desk {
         plain::Desk::record(self, i)
     }
 
-    fn answer(&mut self, memory: &mut [u8], good: bool) -> u32 {
-        plain::Desk::answer(self, memory, good)
+    fn answer(&mut self, memory: &mut [u8], good: bool, allowance: u16) -> Ran {
+        plain::Desk::answer(self, memory, good, allowance)
     }
 
     fn packed_size(shape: Shape) -> u64 {
@@ -94,18 +94,7 @@ impl Front for zelezmut::Desk {
     }
 
     fn run(&mut self, memory: &mut [u8], allowance: u16) -> Ran {
-        match zelezmut::Desk::run(self, memory, allowance) {
-            Ok(ran) => Ran {
-                answer: 0,
-                units: ran.units,
-                ended: ended(ran.ended),
-            },
-            Err(refused) => Ran {
-                answer: refused.number(),
-                units: 0,
-                ended: Ended::Idle,
-            },
-        }
+        ran(zelezmut::Desk::run(self, memory, allowance))
     }
 
     fn record(&self, i: u32) -> (u32, Record) {
@@ -115,16 +104,13 @@ impl Front for zelezmut::Desk {
         }
     }
 
-    fn answer(&mut self, memory: &mut [u8], good: bool) -> u32 {
+    fn answer(&mut self, memory: &mut [u8], good: bool, allowance: u16) -> Ran {
         let answer = if good {
             HostAnswer::Good
         } else {
             HostAnswer::Failed
         };
-        match zelezmut::Desk::answer(self, memory, answer) {
-            Ok(()) => 0,
-            Err(refused) => refused.number(),
-        }
+        ran(zelezmut::Desk::answer(self, memory, answer, allowance))
     }
 
     fn packed_size(shape: Shape) -> u64 {
@@ -147,6 +133,21 @@ impl Front for zelezmut::Desk {
         zelezmut::table_error(table, memory)
             .and_then(|found| found.entry)
             .unwrap_or(0)
+    }
+}
+
+fn ran(ran: Result<zelezmut::Ran, Refused>) -> Ran {
+    match ran {
+        Ok(ran) => Ran {
+            answer: 0,
+            units: ran.units,
+            ended: ended(ran.ended),
+        },
+        Err(refused) => Ran {
+            answer: refused.number(),
+            units: 0,
+            ended: Ended::Idle,
+        },
     }
 }
 

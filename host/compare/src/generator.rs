@@ -102,8 +102,9 @@ impl Author {
         let ring = self.twist_ring(ring);
         self.put_ring(&ring);
         self.ring_doorbell();
-        for (submission, good) in &submissions {
-            self.work_off(submission, *good);
+        for (i, (submission, good)) in submissions.iter().enumerate() {
+            let next = submissions.get(i + 1).map(|(next, _)| next);
+            self.work_off(submission, *good, next);
             self.head = self.head.wrapping_add(1);
             if self.world.fence_overlaps || submission.belief == Belief::Unsure {
                 self.sure = false;

@@ -15,8 +15,10 @@ pub trait Host: Front {
     fn length(&self, i: u32) -> u64;
     /// The units that a run with the largest allowance spent.
     fn spent(&mut self, memory: &mut [u8]) -> u16;
-    /// Whether something waited for this good answer.
+    /// Whether something waited for this good answer, after which nothing is run.
     fn answered(&mut self, memory: &mut [u8]) -> bool;
+    /// The units spent behind a good answer with the largest allowance.
+    fn carried_on(&mut self, memory: &mut [u8]) -> u16;
 
     /// A submission from doorbell to good answer: its units.
     #[inline]
@@ -29,6 +31,27 @@ pub trait Host: Front {
             Self::NAME
         );
         units
+    }
+
+    /// From one submission that waits to the next that does, in one call behind the doorbell: the units.
+    #[inline]
+    fn next_joined(&mut self, memory: &mut [u8]) -> u16 {
+        let rang = self.wrote(DOORBELL, 1);
+        let units = self.carried_on(memory);
+        assert!(rang, "{} has no doorbell", Self::NAME);
+        units
+    }
+
+    /// The same, answer and run apart.
+    #[inline]
+    fn next_apart(&mut self, memory: &mut [u8]) -> u16 {
+        let rang = self.wrote(DOORBELL, 1);
+        assert!(
+            self.answered(memory) && rang,
+            "{} was not waiting",
+            Self::NAME
+        );
+        self.spent(memory)
     }
 }
 
@@ -55,7 +78,13 @@ impl Host for zelezmut::Desk {
 
     #[inline]
     fn answered(&mut self, memory: &mut [u8]) -> bool {
-        self.answer(memory, HostAnswer::Good).is_ok()
+        self.answer(memory, HostAnswer::Good, 0).is_ok()
+    }
+
+    #[inline]
+    fn carried_on(&mut self, memory: &mut [u8]) -> u16 {
+        self.answer(memory, HostAnswer::Good, u16::MAX)
+            .map_or(0, |ran| ran.units)
     }
 }
 
@@ -82,6 +111,11 @@ impl Host for plain::Desk {
 
     #[inline]
     fn answered(&mut self, memory: &mut [u8]) -> bool {
-        self.answer(memory, true) == 0
+        self.answer(memory, true, 0).answer == 0
+    }
+
+    #[inline]
+    fn carried_on(&mut self, memory: &mut [u8]) -> u16 {
+        self.answer(memory, true, u16::MAX).units
     }
 }

@@ -1,7 +1,7 @@
 //! Holds the proved front, [`zelezmut::Desk`], against a plain program of the same rules, [`plain::Desk`].
 //!
 //! - Random desks ([`generator`]) are played through both ([`player`]): every answer, value, register, record and byte is equal.
-//! - One desk's runs cut into random slices come to the same ([`slicing`]).
+//! - One desk's runs, those behind answers too, cut into random slices come to the same ([`slicing`]).
 //! - The small exports, about a shape or a table alone, give the same on random and boundary ones ([`exports`]).
 //! - What the desks reach is counted ([`coverage`]), so that the generator cannot become empty.
 //! - [`measures`] is what the benchmark measures: submissions ([`mod@bench`]) of its inputs ([`cases`]), and single calls ([`calls`]).
@@ -11,6 +11,7 @@
 mod author;
 pub mod bench;
 pub mod calls;
+mod carried;
 pub mod cases;
 pub mod chart;
 mod contents;

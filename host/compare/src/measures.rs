@@ -2,7 +2,7 @@
 
 use crate::bench::Bench;
 use crate::calls::{Call, Calls, CALLS};
-use crate::cases::{Case, Mode, Published, MODES, PUBLISHED};
+use crate::cases::{Case, Mode, Published, Way, MODES, PUBLISHED};
 use crate::host::Host;
 use crate::numbers::MOST_RESOURCES;
 
@@ -32,6 +32,9 @@ pub enum Task {
     Published(Case, Mode),
     /// A submission from doorbell to good answer in one run, in each front's own words.
     Submission(Case),
+    /// A submission of a night without a pause: it comes while another waits, and the host goes on from that one to this, in each
+    /// front's own words.
+    Night(Case, Way),
     /// A call by itself, in each front's own words.
     Call(Call),
 }
@@ -47,6 +50,8 @@ pub fn measures() -> Vec<Measure> {
         (1.05, textures()),
         (1.25, vec![one_packet(0)]),
         (0.75, vec![one_packet(MOST_RESOURCES)]),
+        (1.25, night(0)),
+        (0.75, night(MOST_RESOURCES)),
         (2.0, calls()),
     ];
     let with_goal = |(goal, group): (f64, Vec<(String, Task)>)| {
@@ -111,6 +116,20 @@ fn one_packet(live: usize) -> (String, Task) {
     (format!("one-packet-{}-live", live), task)
 }
 
+fn night(live: usize) -> Vec<(String, Task)> {
+    let case = Case::OneUnknown { live };
+    vec![
+        (
+            format!("night-{}-live", live),
+            Task::Night(case, Way::Joined),
+        ),
+        (
+            format!("night-apart-{}-live", live),
+            Task::Night(case, Way::Apart),
+        ),
+    ]
+}
+
 fn calls() -> Vec<(String, Task)> {
     CALLS
         .map(|call| (call.key().to_string(), Task::Call(call)))
@@ -121,6 +140,7 @@ impl Task {
     /// What a number is of.
     pub fn piece(self) -> &'static str {
         match self {
+            Task::Night(..) => "submission",
             Task::Submission(case) if case.is_small() => "submission",
             Task::Published(..) | Task::Submission(_) => "unit",
             Task::Call(_) => "call",
@@ -139,6 +159,14 @@ impl Task {
     pub fn input(self) -> String {
         match self {
             Task::Published(case, _) | Task::Submission(case) => case.input(),
+            Task::Night(case, Way::Joined) => format!(
+                "{}; it comes while the one before it waits: doorbell, and a good answer to that with allowance 65,535",
+                case.input()
+            ),
+            Task::Night(case, Way::Apart) => format!(
+                "{}; it comes while the one before it waits: doorbell, a good answer to that with allowance 0, and a run of 65,535 units",
+                case.input()
+            ),
             Task::Call(call) => call.input().to_string(),
         }
     }
@@ -146,7 +174,7 @@ impl Task {
     /// Whether times are taken too: of the published cases and of small submissions.
     pub fn is_timed(self) -> bool {
         match self {
-            Task::Published(..) => true,
+            Task::Published(..) | Task::Night(..) => true,
             Task::Submission(case) => case.is_small(),
             Task::Call(_) => false,
         }
@@ -157,6 +185,7 @@ impl Task {
 pub enum Ready<F> {
     Published(Bench<F>, Mode),
     Submission(Bench<F>, u64),
+    Night(Bench<F>, Way),
     Calls(Calls<F>),
 }
 
@@ -170,6 +199,7 @@ impl<F: Host> Ready<F> {
                 let pieces = if case.is_small() { 1 } else { bench.units };
                 Ready::Submission(bench, pieces)
             }
+            Task::Night(case, way) => Ready::Night(Bench::waiting(case), way),
             Task::Call(call) => Ready::Calls(Calls::new(call, rounds)),
         }
     }
@@ -179,6 +209,7 @@ impl<F: Host> Ready<F> {
         match self {
             Ready::Published(bench, _) => bench.units,
             Ready::Submission(_, pieces) => *pieces,
+            Ready::Night(..) => 1,
             Ready::Calls(calls) => calls.calls(),
         }
     }
@@ -188,9 +219,14 @@ impl<F: Host> Ready<F> {
     pub fn play(&mut self, rounds: &[bool]) -> u64 {
         match self {
             Ready::Published(bench, mode) => {
-                play_armed(bench, rounds, |bench| bench.submission(*mode))
+                play_armed(bench, rounds, Bench::arm, |bench| bench.submission(*mode))
             }
-            Ready::Submission(bench, _) => play_armed(bench, rounds, Bench::submission_at_once),
+            Ready::Submission(bench, _) => {
+                play_armed(bench, rounds, Bench::arm, Bench::submission_at_once)
+            }
+            Ready::Night(bench, way) => {
+                play_armed(bench, rounds, Bench::arm_behind, |bench| bench.next(*way))
+            }
             Ready::Calls(calls) => return calls.play(rounds),
         }
         0
@@ -199,7 +235,9 @@ impl<F: Host> Ready<F> {
     /// The fronts that it plays on.
     pub fn benches(&self) -> &[Bench<F>] {
         match self {
-            Ready::Published(bench, _) | Ready::Submission(bench, _) => std::slice::from_ref(bench),
+            Ready::Published(bench, _) | Ready::Submission(bench, _) | Ready::Night(bench, _) => {
+                std::slice::from_ref(bench)
+            }
             Ready::Calls(calls) => &calls.benches,
         }
     }
@@ -208,10 +246,11 @@ impl<F: Host> Ready<F> {
 fn play_armed<F: Host>(
     bench: &mut Bench<F>,
     rounds: &[bool],
+    arm: impl Fn(&mut Bench<F>),
     mut submission: impl FnMut(&mut Bench<F>),
 ) {
     for &marked in rounds {
-        bench.arm();
+        arm(bench);
         if marked {
             submission(bench);
         }

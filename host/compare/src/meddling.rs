@@ -30,8 +30,8 @@ impl Author {
                 self.unsure(Event::NoiseAnywhere);
             }
             13 => {
-                let good = self.random.coin();
-                self.answer(good);
+                let (good, allowance) = (self.random.coin(), self.any_allowance());
+                self.answer(good, allowance);
                 self.sure &= submission.belief == Belief::Waits && spent < submission.units();
             }
             14 => {
@@ -55,7 +55,7 @@ impl Author {
     }
 
     /// What happened may change what the submission comes to.
-    fn unsure(&mut self, event: Event) {
+    pub(crate) fn unsure(&mut self, event: Event) {
         self.events.push(event);
         self.sure = false;
     }
@@ -91,7 +91,11 @@ impl Author {
             },
             4 => Operation::Record { index },
             5 => Operation::RunElsewhere { allowance, length },
-            6 => Operation::AnswerElsewhere { answer, length },
+            6 => Operation::AnswerElsewhere {
+                answer,
+                allowance,
+                length,
+            },
             7 => Operation::Run { allowance: 0 },
             _ => Operation::State,
         };
@@ -249,8 +253,8 @@ impl Author {
                     self.run(allowance);
                 }
                 3 => {
-                    let good = self.random.coin();
-                    self.answer(good);
+                    let (good, allowance) = (self.random.coin(), self.any_allowance());
+                    self.answer(good, allowance);
                 }
                 4 => {
                     let (gpa, length) = (

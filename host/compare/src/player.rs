@@ -15,10 +15,10 @@ pub enum Said {
     Read(u32, u32),
     Ran(Ran),
     Recorded(u32, Record),
-    Answered(u32),
-    /// Beside the answer, what became of the other memory.
+    Answered(Ran),
+    /// Beside what was said, what became of the other memory.
     RanElsewhere(Ran, Vec<u8>),
-    AnsweredElsewhere(u32, Vec<u8>),
+    AnsweredElsewhere(Ran, Vec<u8>),
 }
 
 /// Where two fronts part.
@@ -81,20 +81,25 @@ impl<F: Front> Seat<F> {
                 let (answer, record) = self.front.record(*index);
                 Said::Recorded(answer, record)
             }
-            Operation::Answer { answer } => Said::Answered(
-                self.front
-                    .answer(&mut self.memory, *answer == HostAnswer::Good),
-            ),
+            Operation::Answer { answer, allowance } => {
+                let good = *answer == HostAnswer::Good;
+                Said::Answered(self.front.answer(&mut self.memory, good, *allowance))
+            }
             Operation::State => Said::Nothing,
             Operation::RunElsewhere { allowance, length } => {
                 let mut other = vec![0; *length as usize];
                 let ran = self.front.run(&mut other, *allowance);
                 Said::RanElsewhere(ran, other)
             }
-            Operation::AnswerElsewhere { answer, length } => {
+            Operation::AnswerElsewhere {
+                answer,
+                allowance,
+                length,
+            } => {
                 let mut other = vec![0; *length as usize];
-                let answered = self.front.answer(&mut other, *answer == HostAnswer::Good);
-                Said::AnsweredElsewhere(answered, other)
+                let good = *answer == HostAnswer::Good;
+                let ran = self.front.answer(&mut other, good, *allowance);
+                Said::AnsweredElsewhere(ran, other)
             }
         }
     }

@@ -1,8 +1,9 @@
-//! How submissions are worked off: in slices, by a host that looks at records and answers.
+//! How submissions are worked off: in slices, by a host that looks at records, answers and carries on.
 
-use crate::author::{Author, PLENTY};
+use crate::author::{told, Author, PLENTY};
 use crate::event::Event;
 use crate::submission::{Belief, Submission};
+use std::mem;
 use zelezmut::registers::{CONTROL_ENABLE, RING_GPA_LO, RING_SIZE};
 use zelezmut::script::Operation;
 
@@ -10,26 +11,37 @@ use zelezmut::script::Operation;
 const MOST_SLICES: usize = 40;
 
 impl Author {
-    /// Runs until the submission waits or is refused, as believed, and lets the host answer.
-    pub(crate) fn work_off(&mut self, submission: &Submission, good: bool) {
-        let slices = self.slices(submission.units());
-        let mut spent = 0;
+    /// Runs until the submission waits or is refused, as believed, and lets the host answer; the next one may be on its way then.
+    pub(crate) fn work_off(
+        &mut self,
+        submission: &Submission,
+        good: bool,
+        next: Option<&Submission>,
+    ) {
+        let mut spent = mem::take(&mut self.ahead);
+        let slices = self.slices(submission.units() - spent);
         for (i, &allowance) in slices.iter().enumerate() {
-            if i > 0 && self.random.percent(self.restless) {
+            if i + spent > 0 && self.random.percent(self.restless) {
                 self.between(submission, spent);
             }
             self.run(allowance);
             spent += usize::from(allowance);
         }
         match submission.belief {
-            Belief::Waits => self.host(good),
+            Belief::Waits => self.host(good, next),
             Belief::Refused if self.random.percent(95) => {}
-            _ => self.answer(good),
+            _ => {
+                let allowance = self.any_allowance();
+                self.answer(good, allowance);
+            }
         }
     }
 
     /// Allowances that add up to the units or more.
     fn slices(&mut self, units: usize) -> Vec<u16> {
+        if units == 0 {
+            return Vec::new();
+        }
         let all = units.min(PLENTY.into()) as u16;
         match self.random.within(0..=9) {
             0..=2 => vec![PLENTY],
@@ -52,15 +64,30 @@ impl Author {
         }
     }
 
-    /// The host looks at the records of a waiting submission and answers.
-    fn host(&mut self, good: bool) {
+    /// How far the host carries on in the call that answers: not at all, into the next submission, just until it waits, or over it.
+    fn carried(&mut self, next: Option<&Submission>) -> u16 {
+        // Where there is no other, one unit finds that out.
+        let units = next.map_or(1, Submission::units).min(PLENTY.into()) as u16;
+        match self.random.within(0..=9) {
+            0..=3 => 0,
+            4 => 1,
+            5 => units,
+            6 => units - 1,
+            7 => self.random.within(0..=units.into()) as u16,
+            _ => PLENTY,
+        }
+    }
+
+    /// The host looks at the records of a waiting submission, answers and carries on.
+    fn host(&mut self, good: bool, next: Option<&Submission>) {
         if self.random.percent(60) {
             let index = self.random.pick(&[0, 0, 1, 2, 63, 64, u32::MAX]);
             self.say(Operation::Record { index });
         }
+        let mut allowance = None;
         let mut ring_moved = false;
         if self.random.percent(self.restless) {
-            match self.random.within(0..=5) {
+            match self.random.within(0..=6) {
                 0..=1 => self.small_talk(),
                 2 => self.disabled_for_a_while(),
                 3 => self.move_fence(),
@@ -71,23 +98,47 @@ impl Author {
                     self.write(RING_SIZE, size);
                     ring_moved = true;
                     self.events.push(Event::RingMoved);
+                    // The run behind the answer goes where they point.
+                    let run = self.any_allowance();
+                    self.sure &= run == 0;
+                    allowance = Some(run);
+                }
+                5 => {
+                    let run = self.any_allowance();
+                    self.say(Operation::AnswerElsewhere {
+                        answer: told(good),
+                        allowance: run,
+                        length: self.world.memory as u32,
+                    });
+                    self.unsure(Event::OtherMemoryOfThisLength);
+                    allowance = Some(run);
                 }
                 _ => {
                     self.events.push(Event::AnsweredWhileDisabled);
                     self.write_control(0);
-                    self.answer(good);
+                    let run = self.any_allowance();
+                    self.answer(good, run);
                     self.run(PLENTY);
                     self.write_control(CONTROL_ENABLE);
+                    allowance = Some(run);
                 }
             }
         }
-        self.answer(good);
+        match allowance {
+            Some(allowance) => self.answer(good, allowance),
+            None => {
+                let allowance = self.carried(next);
+                self.answer(good, allowance);
+                self.ahead = next.map_or(0, Submission::units).min(allowance.into());
+            }
+        }
         if ring_moved {
             let (gpa, size) = (self.world.ring.gpa, self.world.ring.size);
             self.write_ring(gpa, size);
         }
-        if self.random.percent(4) {
-            self.answer(good);
+        if self.ahead == 0 && self.random.percent(4) {
+            let allowance = self.any_allowance();
+            self.answer(good, allowance);
         }
     }
 }

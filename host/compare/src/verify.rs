@@ -9,7 +9,7 @@ use crate::player::{equal, Difference};
 pub fn verify(task: Task) -> Result<(), Difference> {
     match task {
         Task::Published(case, mode) => equal_while_waiting(case, mode)?,
-        Task::Submission(case) => equal_while_waiting(case, Mode::Whole)?,
+        Task::Submission(case) | Task::Night(case, _) => equal_while_waiting(case, Mode::Whole)?,
         Task::Call(_) => {}
     }
     let rounds = [true, true, false, true];

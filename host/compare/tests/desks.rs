@@ -4,8 +4,8 @@
 
 use compare::desks;
 use compare::front::Front;
-use compare::player::{step, Seat};
-use zelezmut::script::Operation;
+use compare::player::{play, step, Seat};
+use zelezmut::script::{self, Operation};
 
 const DESKS: u64 = 20_000;
 
@@ -27,6 +27,15 @@ fn random_desks_play_alike() {
         assert_eq!(aims.filter(|aim| aim.rule.ends_with(rule)).count(), 10);
     }
     assert_eq!(coverage.most_records, 64);
+}
+
+/// The script that the gate holds crates/program_replay to.
+#[test]
+fn the_stored_script_plays_alike() {
+    let stored = include_bytes!("../../../crates/program_replay/stdin");
+    let script = script::decode(stored);
+    play::<zelezmut::Desk, plain::Desk>(script.memory, &script.operations, |_, _, _| {})
+        .unwrap_or_else(|difference| panic!("{:?}", difference));
 }
 
 fn slicings_come_to_the_same<W: Front, S: Front>(first: u64) {

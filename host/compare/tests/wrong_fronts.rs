@@ -21,6 +21,11 @@ const COUNTS_FROM_THE_FIRST_PACKET: u8 = 7;
 const COUNTS_ENTRIES_FROM_1: u8 = 8;
 const KEEPS_OLD_PLACES: u8 = 9;
 const RESETS_PLACES: u8 = 10;
+const RUNS_THOUGH_REFUSED: u8 = 11;
+const ANSWERS_AND_STOPS: u8 = 12;
+const RUNS_BEFORE_IT_ANSWERS: u8 = 13;
+const SETTLES_FOR_A_UNIT: u8 = 14;
+const SAYS_IDLE: u8 = 15;
 
 /// An entry that is bad by itself.
 const BAD_ENTRY: u32 = 14;
@@ -81,6 +86,39 @@ impl<const FAULT: u8> Wrong<FAULT> {
             _ => {}
         }
         ran
+    }
+
+    fn answer_in_its_way(&mut self, memory: &mut [u8], good: bool, allowance: u16) -> Ran {
+        let desk = &mut self.desk;
+        match FAULT {
+            RUNS_THOUGH_REFUSED => {
+                let said = desk.answer(memory, good, allowance);
+                if said.answer != 0 {
+                    desk.run(memory, allowance);
+                }
+                said
+            }
+            ANSWERS_AND_STOPS => desk.answer(memory, good, 0),
+            // What waits is in the way of the run.
+            RUNS_BEFORE_IT_ANSWERS if desk.run(memory, 0).ended == Ended::Waiting => {
+                let ran = desk.run(memory, allowance);
+                desk.answer(memory, good, 0);
+                ran
+            }
+            SETTLES_FOR_A_UNIT if allowance > 0 => {
+                let mut ran = desk.answer(memory, good, allowance - 1);
+                ran.units += u16::from(ran.answer == 0);
+                ran
+            }
+            SAYS_IDLE => Ran {
+                ended: Ended::Idle,
+                ..desk.answer(memory, good, allowance)
+            },
+            _ => match desk.answer(memory, good || FAULT == ANSWERS_ALIKE, 0) {
+                Ran { answer: 0, .. } => self.run_in_its_way(memory, allowance),
+                refused => refused,
+            },
+        }
     }
 
     /// A run whose every unit is as it should be, but that later entries are taken from what the first one's unit found.
@@ -162,8 +200,8 @@ impl<const FAULT: u8> Front for Wrong<FAULT> {
         }
     }
 
-    fn answer(&mut self, memory: &mut [u8], good: bool) -> u32 {
-        self.call(|wrong| wrong.desk.answer(memory, good || FAULT == ANSWERS_ALIKE))
+    fn answer(&mut self, memory: &mut [u8], good: bool, allowance: u16) -> Ran {
+        self.call(|wrong| wrong.answer_in_its_way(memory, good, allowance))
     }
 
     fn packed_size(shape: Shape) -> u64 {
@@ -209,6 +247,13 @@ fn is_told_by_the_detail<const FAULT: u8>() {
     assert!(told.contains("register 320"), "{}", told);
 }
 
+/// An answer is what the fronts part at, by what it says.
+fn is_told_by_an_answer<const FAULT: u8>() {
+    let told = is_told_apart::<FAULT>();
+    assert!(told.contains(", Answer { "), "{}", told);
+    assert!(told.contains("what the call said"), "{}", told);
+}
+
 #[test]
 fn a_front_that_does_nothing_is_told_apart() {
     is_told_apart::<DOES_NOTHING>();
@@ -250,10 +295,12 @@ fn a_front_that_reads_all_entries_at_the_first_is_right_over_still_memory() {
     for seed in 0..40 {
         let mut drawn = draw(seed);
         for operation in &mut drawn.operations {
-            if let Operation::Run { allowance } | Operation::RunElsewhere { allowance, .. } =
-                operation
-            {
-                *allowance = u16::MAX;
+            match operation {
+                Operation::Run { allowance }
+                | Operation::RunElsewhere { allowance, .. }
+                | Operation::Answer { allowance, .. }
+                | Operation::AnswerElsewhere { allowance, .. } => *allowance = u16::MAX,
+                _ => {}
             }
         }
         let played = play::<plain::Desk, Wrong<READS_ALL_AT_OPENING>>(
@@ -285,4 +332,30 @@ fn a_front_that_keeps_the_place_of_an_older_error_is_told_apart() {
 #[test]
 fn a_front_that_forgets_a_place_at_reset_is_told_apart() {
     is_told_by_the_detail::<RESETS_PLACES>();
+}
+
+/// What it says is right; it is what it did that shows.
+#[test]
+fn a_front_that_runs_though_its_answer_is_refused_is_told_apart() {
+    is_told_apart::<RUNS_THOUGH_REFUSED>();
+}
+
+#[test]
+fn a_front_that_answers_and_does_not_run_is_told_apart() {
+    is_told_by_an_answer::<ANSWERS_AND_STOPS>();
+}
+
+#[test]
+fn a_front_that_runs_before_it_answers_is_told_apart() {
+    is_told_by_an_answer::<RUNS_BEFORE_IT_ANSWERS>();
+}
+
+#[test]
+fn a_front_that_spends_a_unit_on_settling_is_told_apart() {
+    is_told_by_an_answer::<SETTLES_FOR_A_UNIT>();
+}
+
+#[test]
+fn a_front_that_says_idle_beside_every_answer_is_told_apart() {
+    is_told_by_an_answer::<SAYS_IDLE>();
 }

@@ -25,7 +25,7 @@ pub enum Ended {
     Paused,
 }
 
-/// What a run reports.
+/// What a run reports, and an answer of the host with the run after it.
 #[derive(Clone, Copy, Debug, PartialEq, Eq)]
 pub struct Ran {
     /// The call answer.
@@ -34,6 +34,17 @@ pub struct Ran {
     pub units: u16,
     /// How it ended.
     pub ended: Ended,
+}
+
+impl Ran {
+    /// A call that was refused: nothing was run.
+    fn refused(answer: u32) -> Ran {
+        Ran {
+            answer,
+            units: 0,
+            ended: Ended::Idle,
+        }
+    }
 }
 
 /// A device, made for one memory length.
@@ -85,11 +96,7 @@ impl Desk {
     /// waits for the host.
     pub fn run(&mut self, mem: &mut [u8], allowance: u16) -> Ran {
         if mem.len() != self.memory {
-            return Ran {
-                answer: OTHER_LENGTH,
-                units: 0,
-                ended: Ended::Idle,
-            };
+            return Ran::refused(OTHER_LENGTH);
         }
         let mut units = 0;
         while units < allowance && self.ended() == Ended::Paused {
@@ -114,15 +121,16 @@ impl Desk {
         (NO_RECORD, Record::default())
     }
 
-    /// Takes the host's answer and settles the waiting submission; gives the
-    /// call answer.
-    pub fn answer(&mut self, mem: &mut [u8], good: bool) -> u32 {
+    /// Takes the host's answer and settles the waiting submission, then runs
+    /// with the allowance as [`Desk::run`] does. Refused as a whole over
+    /// another memory length or with nothing waiting.
+    pub fn answer(&mut self, mem: &mut [u8], good: bool, allowance: u16) -> Ran {
         if mem.len() != self.memory {
-            return OTHER_LENGTH;
+            return Ran::refused(OTHER_LENGTH);
         }
         let ticket = match &self.work {
             Some(submission) if submission.is_waiting(&self.kept) => submission.ticket,
-            _ => return NOTHING_WAITING,
+            _ => return Ran::refused(NOTHING_WAITING),
         };
         let outcome = if good {
             Ok(())
@@ -130,7 +138,7 @@ impl Desk {
             Err(Error::Host.nowhere())
         };
         self.settle(mem, ticket, outcome);
-        DONE
+        self.run(mem, allowance)
     }
 
     fn is_waiting(&self) -> bool {

@@ -1,6 +1,6 @@
 //! Plays the operations of a script on a desk, and gives the transcript's lines.
 use super::{Operation, Script};
-use crate::{registers, Desk, HostAnswer, Refused};
+use crate::{registers, Desk, Ran, Refused};
 
 /// A desk and its memory, on which operations are played one by one.
 #[derive(Clone, Debug)]
@@ -32,15 +32,25 @@ impl Player {
                 let read = self.desk.read(offset);
                 format!("read {} {}", number(read), read.unwrap_or(0))
             }
-            Operation::Run { allowance } => run(&mut self.desk, &mut self.memory, allowance),
+            Operation::Run { allowance } => ran("run", self.desk.run(&mut self.memory, allowance)),
             Operation::Record { index } => record(&self.desk, index),
-            Operation::Answer { answer } => host(&mut self.desk, &mut self.memory, answer),
+            Operation::Answer { answer, allowance } => {
+                let answered = self.desk.answer(&mut self.memory, answer, allowance);
+                ran("answer", answered)
+            }
             Operation::State => state(&self.desk, &self.memory),
             Operation::RunElsewhere { allowance, length } => {
-                run(&mut self.desk, &mut vec![0; length as usize], allowance)
+                let mut elsewhere = vec![0; length as usize];
+                ran("run", self.desk.run(&mut elsewhere, allowance))
             }
-            Operation::AnswerElsewhere { answer, length } => {
-                host(&mut self.desk, &mut vec![0; length as usize], answer)
+            Operation::AnswerElsewhere {
+                answer,
+                allowance,
+                length,
+            } => {
+                let mut elsewhere = vec![0; length as usize];
+                let answered = self.desk.answer(&mut elsewhere, answer, allowance);
+                ran("answer", answered)
             }
         }
     }
@@ -84,10 +94,11 @@ fn poke(memory: &mut [u8], address: usize, bytes: &[u8]) {
     }
 }
 
-fn run(desk: &mut Desk, memory: &mut [u8], allowance: u16) -> String {
-    match desk.run(memory, allowance) {
-        Ok(ran) => format!("run 0 {} {}", ran.units, ran.ended),
-        Err(refused) => format!("run {} 0 idle", refused.number()),
+/// The line of a call that runs.
+fn ran(call: &str, ran: Result<Ran, Refused>) -> String {
+    match ran {
+        Ok(ran) => format!("{} 0 {} {}", call, ran.units, ran.ended),
+        Err(refused) => format!("{} {} 0 idle", call, refused.number()),
     }
 }
 
@@ -103,10 +114,6 @@ fn record(desk: &Desk, index: u32) -> String {
         ),
         Err(refused) => format!("record {} 0 0 0 0 0", refused.number()),
     }
-}
-
-fn host(desk: &mut Desk, memory: &mut [u8], answer: HostAnswer) -> String {
-    format!("answer {}", number(desk.answer(memory, answer)))
 }
 
 fn state(desk: &Desk, memory: &[u8]) -> String {

@@ -10,17 +10,26 @@ element-copy-out-word-to-usize c = search needs
 word-to-usize-requires : tie.Need-word-to-usize-requires
 word-to-usize-requires c κs = search needs
 
+refused-requires : tie.Need-refused-requires
+refused-requires c κs = search needs
+
 returns : tie.Need-returns
 returns c = search answering
 
 element-copy-out-if2 : tie.Need-element-copy-out-if2
 element-copy-out-if2 c = search needs
 
+refused-requires-2 : tie.Need-refused-requires-2
+refused-requires-2 c κs = search needs
+
 returns-2 : tie.Need-returns-2
 returns-2 c = search answering
 
-settle-accepted-requires : tie.Need-settle-accepted-requires
-settle-accepted-requires c κs = search needs
+settle-answered-requires : tie.Need-settle-answered-requires
+settle-answered-requires c κs = search needs
+
+carry-on-requires : tie.Need-carry-on-requires
+carry-on-requires c κs = search needs
 
 same-length : tie.Need-same-length
 same-length c = search needs
@@ -28,27 +37,18 @@ same-length c = search needs
 returns-3 : tie.Need-returns-3
 returns-3 c = search answering
 
-settle-refused-requires : tie.Need-settle-refused-requires
-settle-refused-requires c κs = search needs
-
-same-length-2 : tie.Need-same-length-2
-same-length-2 c = search needs
-
-returns-4 : tie.Need-returns-4
-returns-4 c = search answering
-
 pub answer-spec : {M : Type 1} → statement M
 answer-spec =
     tie.close
     (tie.spec
     element-copy-out-word-to-usize
     word-to-usize-requires
+    refused-requires
     returns
     element-copy-out-if2
+    refused-requires-2
     returns-2
-    settle-accepted-requires
+    settle-answered-requires
+    carry-on-requires
     same-length
-    returns-3
-    settle-refused-requires
-    same-length-2
-    returns-4)
+    returns-3)

@@ -10,14 +10,14 @@ element-copy-out-word-to-usize c = search needs
 word-to-usize-requires : tie.Need-word-to-usize-requires
 word-to-usize-requires c κs = search needs
 
+refused-requires : tie.Need-refused-requires
+refused-requires c κs = search needs
+
 returns : tie.Need-returns
 returns c = search running
 
-run-on-requires : tie.Need-run-on-requires
-run-on-requires c κs = search needs
-
-ended-in-requires : tie.Need-ended-in-requires
-ended-in-requires c κs = search needs
+carry-on-requires : tie.Need-carry-on-requires
+carry-on-requires c κs = search needs
 
 same-length : tie.Need-same-length
 same-length c = search needs
@@ -31,8 +31,8 @@ run-spec =
     (tie.spec
     element-copy-out-word-to-usize
     word-to-usize-requires
+    refused-requires
     returns
-    run-on-requires
-    ended-in-requires
+    carry-on-requires
     same-length
     returns-2)

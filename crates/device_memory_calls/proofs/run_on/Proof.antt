@@ -4,8 +4,11 @@ use borrow.Author.Needs.{needs}
 use Rattle.device_memory_calls.proofs.run_on.Statement.{statement}
 use Rattle.device_memory_calls.proofs.run_on.Tie as tie
 
-element-copy-out-if1 : tie.Need-element-copy-out-if1
-element-copy-out-if1 c = search needs
+returns : tie.Need-returns
+returns c = search choosing
+
+element-copy-out-if2 : tie.Need-element-copy-out-if2
+element-copy-out-if2 c = search needs
 
 run-requires : tie.Need-run-requires
 run-requires c κs = search needs
@@ -13,8 +16,8 @@ run-requires c κs = search needs
 same-length : tie.Need-same-length
 same-length c = search needs
 
-returns : tie.Need-returns
-returns c = search choosing
+returns-2 : tie.Need-returns-2
+returns-2 c = search choosing
 
 run-requires-2 : tie.Need-run-requires-2
 run-requires-2 c κs = search needs
@@ -22,17 +25,18 @@ run-requires-2 c κs = search needs
 same-length-2 : tie.Need-same-length-2
 same-length-2 c = search needs
 
-returns-2 : tie.Need-returns-2
-returns-2 c = search choosing
+returns-3 : tie.Need-returns-3
+returns-3 c = search choosing
 
 pub run-on-spec : {M : Type 1} → statement M
 run-on-spec =
     tie.close
     (tie.spec
-    element-copy-out-if1
+    returns
+    element-copy-out-if2
     run-requires
     same-length
-    returns
+    returns-2
     run-requires-2
     same-length-2
-    returns-2)
+    returns-3)

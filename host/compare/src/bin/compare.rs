@@ -11,7 +11,7 @@ const USAGE: &str = "\
 usage: compare [--desks N] [--seed S] [--sliced]
   --desks N   how many desks (20000)
   --seed S    the first desk's seed, the others follow (0)
-  --sliced    each run whole on one front and in random slices on the other";
+  --sliced    each run, behind an answer too, whole on one front and in random slices on the other";
 
 struct Wish {
     seeds: Range<u64>,

@@ -168,6 +168,41 @@ fn slices_do_not_matter() {
     assert!(seen > 14, "errors {:?}", errors);
 }
 
+#[test]
+fn an_answer_with_a_run_is_an_answer_and_a_run() {
+    let mut refused = 0;
+    let mut ends = [0; 3];
+    for seed in 300..600 {
+        let mut random = Random(seed);
+        let mut one = Scene::new();
+        for _ in 0..40 {
+            disturb(&mut random, &mut one);
+            // Once one waits, the next may queue up behind it.
+            if one.run(random.below(40) as u16).ended == Ended::Waiting && random.below(4) != 0 {
+                random.submission(&mut one);
+            }
+            let mut two = one.clone();
+            let good = random.below(4) != 0;
+            let allowance = random.below(20) as u16;
+            let ran = one.answer_and_run(good, allowance);
+            let answered = two.answer_and_run(good, 0);
+            if answered.answer == 0 {
+                assert_eq!(answered, two.run(0));
+                assert_eq!(ran, two.run(allowance));
+                ends[ran.ended as usize] += 1;
+            } else {
+                assert_eq!((ran.answer, ran.units, ran.ended), (3, 0, Ended::Idle));
+                assert_eq!(ran, answered);
+                refused += 1;
+            }
+            assert_eq!(one, two);
+            assert_eq!(one.records(), two.records());
+        }
+    }
+    assert!(refused > 500, "refused {}", refused);
+    assert!(ends.iter().all(|count| *count > 50), "ends {:?}", ends);
+}
+
 /// The detail that goes with a verdict on these packets, told by its units:
 /// opening, entries, packets.
 fn place((error, units): (u32, u16), entries: &[Entry], packets: &[Vec<u8>]) -> u32 {
@@ -262,7 +297,7 @@ fn small_and_random_memories() {
             desk.write(0x10C, 1);
             desk.write(0x200, 0);
             desk.run(&mut mem, random.next() as u16);
-            desk.answer(&mut mem, true);
+            desk.answer(&mut mem, true, random.next() as u16);
             desk.record(random.next() as u32);
         }
     }

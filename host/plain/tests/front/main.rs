@@ -1,5 +1,6 @@
 //! Tests of the front through its public interface.
 
+mod answering;
 mod detail;
 mod entries;
 mod grown;

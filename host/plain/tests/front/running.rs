@@ -132,8 +132,12 @@ fn another_memory_length_changes_nothing() {
             other.resize(length, 0);
             let bytes = other.clone();
             assert_eq!(scene.desk.run(&mut other, 5), refused);
-            assert_eq!(scene.desk.answer(&mut other, true), 1);
-            assert_eq!(scene.desk.answer(&mut other, false), 1);
+            for allowance in [0, 5] {
+                for good in [true, false] {
+                    let ran = scene.desk.answer(&mut other, good, allowance);
+                    assert_eq!(ran, refused);
+                }
+            }
             assert_eq!(other, bytes);
             assert_eq!(scene, before);
         }

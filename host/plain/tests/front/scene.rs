@@ -260,8 +260,15 @@ impl Scene {
         self.desk.run(&mut self.mem, allowance)
     }
 
+    /// The host's answer and no unit after it; gives the call answer.
     pub fn answer(&mut self, good: bool) -> u32 {
-        self.desk.answer(&mut self.mem, good)
+        let ran = self.answer_and_run(good, 0);
+        assert_eq!(ran.units, 0);
+        ran.answer
+    }
+
+    pub fn answer_and_run(&mut self, good: bool, allowance: u16) -> Ran {
+        self.desk.answer(&mut self.mem, good, allowance)
     }
 
     /// Submits, runs to the wait, has the host answer good.

@@ -10,6 +10,8 @@ const MEMORY: u32 = 16_384;
 // Where the guest has put its things.
 const RING: u32 = 0;
 const SLOTS: u32 = 4;
+/// The ring's tail, in its header.
+const TAIL: u32 = RING + 28;
 const FENCE_PAGE: u32 = 512;
 const TABLE: u32 = 1024;
 const WRONG_TABLE: u32 = 1536;
@@ -71,8 +73,8 @@ fn record(index: u32, meaning: &'static str) -> Step {
     (Operation::Record { index }, meaning)
 }
 
-fn answer(answer: HostAnswer, meaning: &'static str) -> Step {
-    (Operation::Answer { answer }, meaning)
+fn answer(answer: HostAnswer, allowance: u16, meaning: &'static str) -> Step {
+    (Operation::Answer { answer, allowance }, meaning)
 }
 
 /// The guest writes submission `fence` into its slot, moves the tail and rings. Fences count from 1, and slots from 0.
@@ -93,8 +95,7 @@ fn submit_parts(fence: u32, table: Part, stream: &[u8], meaning: &'static str) -
         fence: fence.into(),
         silent: false,
     };
-    let head = fence - 1;
-    let place = RING + guest::slot_offset(head % SLOTS) as u32;
+    let place = RING + guest::slot_offset((fence - 1) % SLOTS) as u32;
     vec![
         poke(STREAM, stream, meaning),
         poke(
@@ -103,8 +104,8 @@ fn submit_parts(fence: u32, table: Part, stream: &[u8], meaning: &'static str) -
             "the ring's next slot names stream, table and fence",
         ),
         poke(
-            RING,
-            &guest::ring(SLOTS, head, fence),
+            TAIL,
+            &fence.to_le_bytes(),
             "the ring's tail moves on by one",
         ),
         write(registers::DOORBELL, 1, "and the doorbell rings"),
@@ -123,6 +124,11 @@ fn set_up() -> Scene {
                 &table,
                 "a table of two entries: 5 for pictures, 6 for results",
             ),
+            poke(
+                RING,
+                &guest::ring(SLOTS, 0, 0),
+                "a ring of four slots, head and tail at 0",
+            ),
             write(
                 registers::RING_GPA_LO,
                 RING,
@@ -131,7 +137,7 @@ fn set_up() -> Scene {
             write(
                 registers::RING_SIZE,
                 guest::ring_size(SLOTS),
-                "and has four slots",
+                "and is as long as its four slots ask for",
             ),
             write(
                 registers::FENCE_GPA_LO,
@@ -179,12 +185,6 @@ fn shared_texture() -> Scene {
         record(0, "kind 1: texture 1 lives in entry 5, at 8448, 2048 bytes"),
         record(1, "kind 2: the guest has painted it, so the host reads it"),
         record(2, "there is no third record: answer 4"),
-        answer(
-            HostAnswer::Good,
-            "the host has read it. Texture 1 is the device's",
-        ),
-        read(registers::COMPLETED_FENCE_LO, "fence 1 is finished"),
-        read(registers::IRQ_STATUS, "status bit 0: a fence"),
     ]);
     Scene {
         heading: "Submission 1 makes a texture in guest memory, and is run in two slices.",
@@ -225,7 +225,16 @@ fn readback() -> Scene {
         "a stream: buffers 2 and 3, a packet unknown to the front, a copy",
     );
     steps.extend([
-        run(100, "seven units: opening, two entries, four packets"),
+        answer(
+            HostAnswer::Good,
+            100,
+            "good: texture 1 is the device's. Then seven units of submission 2, until it waits",
+        ),
+        read(
+            registers::COMPLETED_FENCE_LO,
+            "fence 1 is finished, fence 2 is not",
+        ),
+        read(registers::IRQ_STATUS, "status bit 0: a fence"),
         record(
             0,
             "kind 1: buffer 3 lives in entry 6. Buffer 2 is the host's",
@@ -236,11 +245,16 @@ fn readback() -> Scene {
             &[0xA5; 256],
             "it does: here are the bytes that the guest reads back",
         ),
-        answer(HostAnswer::Good, "good: buffers 2 and 3 are the device's"),
+        answer(
+            HostAnswer::Good,
+            0,
+            "good: buffers 2 and 3 are the device's. Allowance 0: the ring is not looked at again",
+        ),
         read(registers::COMPLETED_FENCE_LO, "fence 2 is finished"),
     ]);
     Scene {
-        heading: "Submission 2 reads back: a copy whose result goes to guest memory.",
+        heading:
+            "Submission 2, a copy back to guest memory, comes while 1 waits: one call answers 1 and runs 2.",
         steps,
     }
 }
@@ -295,7 +309,11 @@ fn failed() -> Scene {
     steps.extend([
         run(100, "four units: opening, two entries, one packet"),
         record(0, "nothing to read or write: no record, answer 4"),
-        answer(HostAnswer::Failed, "but the host says that it failed"),
+        answer(
+            HostAnswer::Failed,
+            100,
+            "but the host says that it failed, and carries on: a unit finds no more work",
+        ),
         read(registers::ERROR_CODE, "error 27: the host failed"),
         read(
             registers::ERROR_DETAIL,
@@ -364,14 +382,21 @@ fn last() -> Scene {
             0,
             "kind 2: 256 bytes at 8576, after the texture's first row",
         ),
-        answer(HostAnswer::Good, "good"),
+        answer(
+            HostAnswer::Good,
+            100,
+            "good. Then one unit: the opening finds head and tail equal. Idle",
+        ),
         read(registers::COMPLETED_FENCE_LO, "fence 6 is finished"),
         read(
             registers::ERROR_DETAIL,
             "detail: the last error's, until there is another",
         ),
-        run(100, "one unit: the opening finds head and tail equal. Idle"),
-        answer(HostAnswer::Good, "nothing waits any more: answer 3"),
+        answer(
+            HostAnswer::Good,
+            100,
+            "nothing waits any more: answer 3, and nothing is run",
+        ),
         (
             Operation::State,
             "every readable register, and the hash of guest memory",
