@@ -1,7 +1,7 @@
 //! Single calls on a front: the same call again and again, all its arguments in turn.
 
 use crate::bench::Bench;
-use crate::cases::{Case, Mode, COPY};
+use crate::cases::{texture, Case, Mode, COPY, LONGEST_CHAIN};
 use crate::host::Host;
 use crate::numbers::MOST_RECORDS;
 use crate::player::Seat;
@@ -21,6 +21,10 @@ pub enum Call {
     Answer,
     /// The same, and a run until the next such submission waits.
     AnswerAndRun,
+    /// The packed size of a texture of 15 mips with so many layers.
+    PackedSize { layers: u32 },
+    /// The same, with a sum over every mip of every layer in the plain program's place.
+    EveryMip { layers: u32 },
 }
 
 pub const CALLS: [Call; 6] = [
@@ -33,27 +37,37 @@ pub const CALLS: [Call; 6] = [
 ];
 
 impl Call {
-    pub fn key(self) -> &'static str {
-        match self {
+    pub fn key(self) -> String {
+        let key = match self {
             Call::Write => "write",
             Call::Read => "read",
             Call::Record => "record",
             Call::Run => "idle-run",
             Call::Answer => "answer",
             Call::AnswerAndRun => "answer-and-run",
-        }
+            Call::PackedSize { layers } => return format!("packed-{}-layers", layers),
+            Call::EveryMip { layers } => return format!("every-mip-{}-layers", layers),
+        };
+        key.to_string()
     }
 
     /// What exactly is called.
-    pub fn input(self) -> &'static str {
-        match self {
+    pub fn input(self) -> String {
+        let input = match self {
             Call::Write => "the value 1 to each of the 9 registers that can be written, in turn",
             Call::Read => "each of the 19 registers that can be read, in turn",
             Call::Record => "each of the 64 records of a waiting submission, in turn",
             Call::Run => "a run of 65,535 units on an enabled device that has nothing to do",
             Call::Answer => "a good answer with allowance 0 to a waiting submission of one unknown packet, nothing live; each to a device of its own",
             Call::AnswerAndRun => "as answer, with allowance 65,535 and another such submission behind it, which waits after its two units",
-        }
+            Call::PackedSize { layers } => {
+                return format!("the packed size of a texture of format 1, 16,384 by 1, with 15 mips; layers: {}", layers)
+            }
+            Call::EveryMip { layers } => {
+                return format!("the same, layers: {}; in the plain program's place stands a sum over every mip of every layer", layers)
+            }
+        };
+        input.to_string()
     }
 
     fn arguments(self) -> Vec<u32> {
@@ -62,6 +76,7 @@ impl Call {
             Call::Read => READABLE.to_vec(),
             Call::Record => (0..MOST_RECORDS as u32).collect(),
             Call::Run | Call::Answer | Call::AnswerAndRun => vec![0],
+            Call::PackedSize { layers } | Call::EveryMip { layers } => vec![layers],
         }
     }
 
@@ -83,7 +98,9 @@ impl<F: Host> Calls<F> {
     pub fn new(call: Call, rounds: usize) -> Calls<F> {
         let bench = || -> Bench<F> {
             match call {
-                Call::Write | Call::Read => Bench::new(Case::Unknown),
+                Call::Write | Call::Read | Call::PackedSize { .. } | Call::EveryMip { .. } => {
+                    Bench::new(Case::Unknown)
+                }
                 Call::Record => waiting(COPY),
                 Call::Run => idle(Case::Unknown),
                 Call::Answer => waiting(Case::OneUnknown { live: 0 }),
@@ -129,6 +146,12 @@ impl<F: Host> Calls<F> {
             }),
             Call::AnswerAndRun => answers(&mut self.benches, rounds, |Seat { front, memory }| {
                 front.carried_on(memory).into()
+            }),
+            Call::PackedSize { .. } => sum(&steps, |layers| {
+                F::packed_size(texture(LONGEST_CHAIN, layers))
+            }),
+            Call::EveryMip { .. } => sum(&steps, |layers| {
+                F::packed_or_summed(texture(LONGEST_CHAIN, layers))
             }),
         }
     }

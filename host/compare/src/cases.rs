@@ -1,7 +1,7 @@
 //! The inputs of the benchmark: what is in the stream and the table, and what lives before.
 
 use crate::image::Entry;
-use crate::numbers::{MOST_ENTRIES, MOST_RECORDS, MOST_RESOURCES, WRITEBACK};
+use crate::numbers::{MOST_ENTRIES, MOST_LAYERS, MOST_RECORDS, MOST_RESOURCES, WRITEBACK};
 use crate::packet::{self, Backing, Copying};
 use crate::random::Random;
 use crate::shape::Shape;
@@ -11,7 +11,10 @@ const BUFFER: u64 = 64;
 const ENTRY_ID: u32 = 5;
 const ENTRY_SIZE: u64 = 4096;
 
-/// As flat a texture as has the longest chain of mips, 15; all of them take 4 bytes less than its entry.
+/// The mips of the longest chain.
+pub const LONGEST_CHAIN: u32 = 15;
+
+/// As flat a texture as has the longest chain; all of them take 4 bytes less than its entry.
 const TEXTURE: Shape = Shape {
     format: 1,
     width: 16_384,
@@ -21,6 +24,15 @@ const TEXTURE: Shape = Shape {
     pitch: 4 * 16_384,
 };
 const TEXTURE_ENTRY_SIZE: u64 = 128 * 1024;
+
+/// Such a texture with so many mips and layers.
+pub fn texture(mips: u32, layers: u32) -> Shape {
+    Shape {
+        mips,
+        layers,
+        ..TEXTURE
+    }
+}
 
 /// The units of a slice.
 pub const SLICE: u16 = 16;
@@ -41,6 +53,8 @@ pub enum Case {
     DirtyTexture { mips: u32 },
     /// A host-backed buffer is created and destroyed again, beside others.
     Create { live: usize },
+    /// A backed texture of 15 mips is created and destroyed again, as often as there may be records.
+    CreateTexture { layers: u32 },
     /// Copies with writeback between the backed buffers in two rows.
     Copy { live: usize, from: usize, to: usize },
     /// A table and no stream.
@@ -119,6 +133,10 @@ impl Case {
                 "1,096 times create a host-backed buffer and destroy it again, beside {} live ones; no table",
                 live
             ),
+            Case::CreateTexture { layers } => format!(
+                "64 times create a backed texture of format 1, 16,384 by 1, with 15 mips and {}, and destroy it again; a table of one entry",
+                counted(layers as usize, "layer", "layers")
+            ),
             Case::Copy { live, from, to } => format!(
                 "1,279 copies with writeback from row {} to row {} of {} backed buffers, the first 64 of 16 bytes (as many records as \
                  there may be), the rest of size 0; a table of one entry",
@@ -137,6 +155,7 @@ impl Case {
     pub fn memory(self) -> usize {
         match self {
             Case::DirtyTexture { .. } => 256 * 1024,
+            Case::CreateTexture { .. } => self.entry_size() as usize,
             _ => 64 * 1024,
         }
     }
@@ -144,7 +163,7 @@ impl Case {
     /// The resources that live before.
     pub fn live(self) -> usize {
         match self {
-            Case::Unknown | Case::Table { .. } => 0,
+            Case::Unknown | Case::Table { .. } | Case::CreateTexture { .. } => 0,
             Case::DirtyTexture { .. } => 1,
             Case::OneUnknown { live }
             | Case::Dirty { live, .. }
@@ -158,7 +177,10 @@ impl Case {
         let (handle, backing) = (handle_of_row(row), self.backing());
         match self {
             Case::DirtyTexture { mips } => {
-                packet::create_texture(random, handle, Shape { mips, ..TEXTURE }, backing)
+                packet::create_texture(random, handle, texture(mips, 1), backing)
+            }
+            Case::CreateTexture { layers } => {
+                packet::create_texture(random, handle, texture(LONGEST_CHAIN, layers), backing)
             }
             _ => packet::create_buffer(random, handle, BUFFER, backing),
         }
@@ -174,20 +196,28 @@ impl Case {
     }
 
     pub fn entries(self) -> Vec<Entry> {
-        let (count, size) = match self {
-            Case::Unknown | Case::OneUnknown { .. } | Case::Create { .. } => (0, ENTRY_SIZE),
-            Case::Copy { .. } => (1, ENTRY_SIZE),
-            Case::DirtyTexture { .. } => (1, TEXTURE_ENTRY_SIZE),
-            Case::Dirty { entries, .. } | Case::Table { entries } => (entries, ENTRY_SIZE),
+        let count = match self {
+            Case::Unknown | Case::OneUnknown { .. } | Case::Create { .. } => 0,
+            Case::Copy { .. } | Case::DirtyTexture { .. } | Case::CreateTexture { .. } => 1,
+            Case::Dirty { entries, .. } | Case::Table { entries } => entries,
         };
         (0..count)
             .map(|i| Entry {
                 id: entry_id(i),
                 flags: 0,
                 gpa: i as u64 * 64,
-                size,
+                size: self.entry_size(),
             })
             .collect()
+    }
+
+    fn entry_size(self) -> u64 {
+        match self {
+            Case::DirtyTexture { .. } => TEXTURE_ENTRY_SIZE,
+            // The same memory for one layer as for all.
+            Case::CreateTexture { .. } => TEXTURE_ENTRY_SIZE * u64::from(MOST_LAYERS),
+            _ => ENTRY_SIZE,
+        }
     }
 
     /// The packet at this place of the stream.
@@ -199,6 +229,9 @@ impl Case {
             Case::DirtyTexture { .. } => Some(packet::dirty(random, handle_of_row(0), 0, 0)),
             Case::Create { live } if i % 2 == 0 => Some(self.created(random, live)),
             Case::Create { live } => Some(packet::destroy(random, handle_of_row(live))),
+            Case::CreateTexture { .. } if i >= 2 * MOST_RECORDS => None,
+            Case::CreateTexture { .. } if i % 2 == 0 => Some(self.created(random, 0)),
+            Case::CreateTexture { .. } => Some(packet::destroy(random, handle_of_row(0))),
             Case::Copy { from, to, .. } => {
                 let size = if i < MOST_RECORDS { 16 } else { 0 };
                 let copying = Copying {
@@ -218,7 +251,7 @@ impl Case {
     /// Packets that belong together: a stream has a multiple of them, so that it leaves what it found.
     pub fn together(self) -> usize {
         match self {
-            Case::Create { .. } => 2,
+            Case::Create { .. } | Case::CreateTexture { .. } => 2,
             _ => 1,
         }
     }

@@ -52,6 +52,7 @@ impl Front for plain::Desk {
         plain::Desk::answer(self, memory, good, allowance)
     }
 
+    #[inline]
     fn packed_size(shape: Shape) -> u64 {
         plain::packed_size(
             shape.format,
@@ -113,6 +114,7 @@ impl Front for zelezmut::Desk {
         ran(zelezmut::Desk::answer(self, memory, answer, allowance))
     }
 
+    #[inline]
     fn packed_size(shape: Shape) -> u64 {
         let Shape {
             format,

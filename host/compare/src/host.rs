@@ -1,7 +1,9 @@
 //! A host's calls in each front's own words, for what is measured call by call: a common form of the answers would cost
 //! instructions that no host has to spend.
 
+use crate::every_mip;
 use crate::front::Front;
+use crate::shape::Shape;
 use zelezmut::registers::DOORBELL;
 use zelezmut::HostAnswer;
 
@@ -19,6 +21,8 @@ pub trait Host: Front {
     fn answered(&mut self, memory: &mut [u8]) -> bool;
     /// The units spent behind a good answer with the largest allowance.
     fn carried_on(&mut self, memory: &mut [u8]) -> u16;
+    /// A texture's packed size; the plain program leaves it to a sum over every mip of every layer.
+    fn packed_or_summed(shape: Shape) -> u64;
 
     /// A submission from doorbell to good answer: its units.
     #[inline]
@@ -86,6 +90,11 @@ impl Host for zelezmut::Desk {
         self.answer(memory, HostAnswer::Good, u16::MAX)
             .map_or(0, |ran| ran.units)
     }
+
+    #[inline]
+    fn packed_or_summed(shape: Shape) -> u64 {
+        Self::packed_size(shape)
+    }
 }
 
 impl Host for plain::Desk {
@@ -117,5 +126,10 @@ impl Host for plain::Desk {
     #[inline]
     fn carried_on(&mut self, memory: &mut [u8]) -> u16 {
         self.answer(memory, true, u16::MAX).units
+    }
+
+    #[inline]
+    fn packed_or_summed(shape: Shape) -> u64 {
+        every_mip::packed_size(shape)
     }
 }

@@ -5,6 +5,7 @@
 //! - The small exports, about a shape or a table alone, give the same on random and boundary ones ([`exports`]).
 //! - What the desks reach is counted ([`coverage`]), so that the generator cannot become empty.
 //! - [`measures`] is what the benchmark measures: submissions ([`mod@bench`]) of its inputs ([`cases`]), and single calls ([`calls`]).
+//!   The cost of a texture's layers is held against a sum over all of them too (`every_mip`).
 
 #![forbid(unsafe_code)]
 
@@ -20,6 +21,7 @@ pub mod desks;
 mod detail;
 mod draft;
 pub mod event;
+mod every_mip;
 pub mod exports;
 mod floor;
 pub mod front;

@@ -4,7 +4,7 @@ use crate::bench::Bench;
 use crate::calls::{Call, Calls, CALLS};
 use crate::cases::{Case, Mode, Published, Way, MODES, PUBLISHED};
 use crate::host::Host;
-use crate::numbers::MOST_RESOURCES;
+use crate::numbers::{MOST_LAYERS, MOST_RESOURCES};
 
 /// A line of the tables.
 #[derive(Clone, Debug)]
@@ -53,6 +53,9 @@ pub fn measures() -> Vec<Measure> {
         (1.25, night(0)),
         (0.75, night(MOST_RESOURCES)),
         (2.0, calls()),
+        (1.05, layers()),
+        (1.05, vec![every_mip(1)]),
+        (0.01, vec![every_mip(MOST_LAYERS)]),
     ];
     let with_goal = |(goal, group): (f64, Vec<(String, Task)>)| {
         group
@@ -131,9 +134,27 @@ fn night(live: usize) -> Vec<(String, Task)> {
 }
 
 fn calls() -> Vec<(String, Task)> {
-    CALLS
-        .map(|call| (call.key().to_string(), Task::Call(call)))
-        .into()
+    CALLS.map(call).into()
+}
+
+/// One layer, and as many as there may be: what a texture costs does not grow with them.
+fn layers() -> Vec<(String, Task)> {
+    let counts = [1, MOST_LAYERS];
+    let create = counts.map(|layers| {
+        let task = Task::Submission(Case::CreateTexture { layers });
+        (format!("create-{}-layers", layers), task)
+    });
+    let packed = counts.map(|layers| call(Call::PackedSize { layers }));
+    [create, packed].concat()
+}
+
+/// The packed size against a sum over every mip of every layer, which does grow.
+fn every_mip(layers: u32) -> (String, Task) {
+    call(Call::EveryMip { layers })
+}
+
+fn call(call: Call) -> (String, Task) {
+    (call.key(), Task::Call(call))
 }
 
 impl Task {
@@ -167,7 +188,7 @@ impl Task {
                 "{}; it comes while the one before it waits: doorbell, a good answer to that with allowance 0, and a run of 65,535 units",
                 case.input()
             ),
-            Task::Call(call) => call.input().to_string(),
+            Task::Call(call) => call.input(),
         }
     }
 
