@@ -19,7 +19,7 @@ use Rattle.registers.specs.declared.Shown.{Shown}
 use Rattle.registers.specs.declared.Shown.the-variants.{Value, NoRegister as NoShown}
 use Rattle.rows.specs.Rows.{rowAt, table, tab}
 use Rattle.kept_resources.specs.Views.{recordOf, recordsOf}
-use Rattle.run_state.specs.Views.{countIn, registersIn, tagIn, worldIn, stateIn, sideIn}
+use Rattle.run_state.specs.Views.{countIn, registersIn, tagIn, worldIn, rested, stateIn, sideIn}
 use Rattle.run_state.specs.Reading.{none-live}
 use Rattle.run_state.specs.Stages.{waits-in, outs-in}
 use Rattle.run_state.specs.Spelled.{spell}
@@ -29,13 +29,17 @@ use Rattle.device_calls.specs.declared.RecordRead.{RecordRead}
 -- ---- make
 
 abbrev made-words : ℕ → List ℕ → List ℕ
-made-words n w = set (set (set (set (set (set (set (set (set (set (set (set (set (set (set (set w 0 n) 1 0) 2 0) 3 0) 4 0) 5 0) 6 0) 7 0) 8 0) 9 0) 10 0) 11 0) 30 0) 12 0) 13 0) 25 0
+made-words n w = set (set (set (set (set (set (set (set (set (set (set (set (set (set (set (set w 0 n) 1 0) 2 0) 3 0) 4 0) 5 0) 6 0) 7 0) 8 0) 9 0) 10 0) 11 0) 30 0) 12 0) 25 0) 28 0
 
-pub makes : (s : List ℕ) (memory n : ℕ) → length s ≡ 32 → (n ≡ memory) × (n < 18446744073709551616)
-    → Makes memory (set (set (set (set (set (set (set (set (set (set (set (set (set (set (set (set s 0 n) 1 0) 2 0) 3 0) 4 0) 5 0) 6 0) 7 0) 8 0) 9 0) 10 0) 11 0) 30 0) 12 0) 13 0) 25 0)
-unfolding worldIn
-makes s memory n long p =
-    record { new = λ e a b c. spell (λ w. stateIn (made-words n w) e a b c) s long ∙ rw (p .0, none-live (pick (sideIn s) b a)) }
+pub makes : (s s′ : List ℕ) (memory n : ℕ) → length s ≡ 32 → (n ≡ memory) × (n < 18446744073709551616)
+    → s′ ≡ rested (set (set (set (set (set (set (set (set (set (set (set (set (set (set (set (set s 0 n) 1 0) 2 0) 3 0) 4 0) 5 0) 6 0) 7 0) 8 0) 9 0) 10 0) 11 0) 30 0) 12 0) 25 0) 28 0)
+    → Makes memory s′
+unfolding worldIn rested
+makes s s′ memory n long p is =
+    record {
+      new = λ e a b c. rw is (spell (λ w. stateIn (rested (made-words n w)) e a b c) s long ∙ rw (p .0, none-live a));
+      rests = rw is (spell (λ w. rested (made-words n w)) s long ∙ sym (spell (λ w. rested (rested (made-words n w))) s long));
+    }
 
 pub ruleset making = (makes, needs)
 

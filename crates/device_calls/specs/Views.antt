@@ -6,7 +6,7 @@ use Prim.Native.Nat.{ℕ}
 use Rattle.rules.specs.Numbers.{no-record}
 use Rattle.rules.specs.State.{made}
 use Rattle.rules.specs.Calls.{Value, no-range, RecordRead as RecordReadBy, call-read, call-record}
-use Rattle.run_state.specs.Views.{stateIn}
+use Rattle.run_state.specs.Views.{Rests, stateIn}
 use Rattle.device_calls.specs.declared.ValueRead.{ValueRead}
 use Rattle.device_calls.specs.declared.RecordRead.{RecordRead}
 
@@ -19,8 +19,10 @@ recordReadOf x = record { answer = x .answer; range = x .range }
 abbrev pub noRecord : RecordRead
 noRecord = record { answer = no-record; range = no-range }
 
+-- a new device; no word is left of what was in work
 pub record Makes (memory : ℕ) (s′ : List ℕ) : Type 0 where
   pub new : (e a b c : List ℕ) → stateIn s′ e a b c ≡ made memory
+  pub rests : Rests s′
 
 pub record Reads (s : List ℕ) (offset : ℕ) (x : ValueRead) : Type 0 where
   pub value : (e a b c : List ℕ) → valueOf x ≡ call-read (stateIn s e a b c) offset

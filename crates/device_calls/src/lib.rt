@@ -21,12 +21,13 @@ use run_state::IRQ_ENABLE;
 use run_state::LIVE;
 use run_state::MADE;
 use run_state::MEMORY;
-use run_state::NOTHING;
 use run_state::RING;
 use run_state::RING_SIZE;
+use run_state::SIDE;
 use run_state::TAG;
 use run_state::WAITING;
 use run_state::Words;
+use run_state::rest;
 use run_state::rows_in;
 use widths::u32_to_usize;
 use widths::usize_to_word;
@@ -65,8 +66,9 @@ pub fn make(words: &mut Words, memory: usize)
     words[ERROR_COUNT] = 0;
     words[ERROR_DETAIL] = 0;
     words[DOORBELL] = 0;
-    words[TAG] = NOTHING;
     words[LIVE] = 0;
+    words[SIDE] = 0;
+    rest(words);
 }
 
 // Reads a register.

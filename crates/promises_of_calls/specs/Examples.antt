@@ -23,7 +23,7 @@ use Rattle.rules.specs.Steps.{open-step, entry-step, packet-step, step, go, ans
 use Rattle.rules.specs.Unsliced.{judge-packets, submission, submitted}
 use Rattle.rules.specs.Calls.{ending, call-write, call-run, call-record, answer-alone, call-answer}
 use Rattle.rows.specs.Rows.{tab, rowAt, table}
-use Rattle.run_state.specs.Views.{countIn, worldIn}
+use Rattle.run_state.specs.Views.{countIn, worldIn, rested}
 use Rattle.device.specs.Views.{stateOf, worldOf}
 use Rattle.device.specs.declared.Device.{Device}
 use Rattle.promises.specs.NightLog.{zeros}
@@ -85,17 +85,13 @@ with-rows s =
       records = 1 ∷ 1 ∷ 5 ∷ 80 ∷ 32 ∷ zeros 315;
     }
 
--- the submission's numbers, and then how many rows are live and which table of resources is whose
-abbrev numbers-of : ℕ → ℕ → ℕ → List ℕ
-numbers-of resources side own = 0 ∷ 0 ∷ 7 ∷ 0 ∷ 128 ∷ 1 ∷ 32 ∷ 184 ∷ 64 ∷ 64 ∷ 1 ∷ resources ∷ 1 ∷ 1 ∷ side ∷ own ∷ 0 ∷ 0 ∷ []
-
--- it waits
+-- it waits: its fence, and how many rows are live of its entry, its resource and its record
 unfoldable pub waiting-device : Device
-waiting-device = with-rows (words-of 1 128 1 0 0 0 0 0 0 1 3 (numbers-of 0 0 1))
+waiting-device = with-rows (words-of 1 128 1 0 0 0 0 0 0 1 3 (0 ∷ 0 ∷ 7 ∷ 0 ∷ 0 ∷ 0 ∷ 0 ∷ 0 ∷ 0 ∷ 0 ∷ 1 ∷ 0 ∷ 1 ∷ 1 ∷ 0 ∷ 1 ∷ 0 ∷ 0 ∷ []))
 
--- it was answered: fence 7 is completed, and the resource is the device's
+-- it was answered: fence 7 is completed, the resource is the device's, and no word is left of the work
 unfoldable pub answered-device : Device
-answered-device = with-rows (words-of 1 128 1 7 1 0 0 0 0 1 0 (numbers-of 1 1 0))
+answered-device = with-rows (words-of 1 128 1 7 1 0 0 0 0 1 0 (0 ∷ 0 ∷ 0 ∷ 0 ∷ 0 ∷ 0 ∷ 0 ∷ 0 ∷ 0 ∷ 0 ∷ 0 ∷ 1 ∷ 0 ∷ 0 ∷ 1 ∷ 0 ∷ 0 ∷ 0 ∷ []))
 
 -- the guest with its entry twice was refused with 15, at entry 1
 unfoldable pub refused-device : Device
@@ -118,8 +114,8 @@ has-answered = refl
 
 module _ (n : ℕ) where
   pub is-made : Makes (216 + n * 32) (new-device n .words)
-  unfolding new-device worldIn countIn tab rowAt table zeros
-  is-made = record { new = λ e a b c. refl }
+  unfolding new-device worldIn countIn tab rowAt table zeros rested
+  is-made = record { new = λ e a b c. refl; rests = refl }
 
   pub writes-size : Writes (new-device n .words) 0x108 128 0 (sized-device n .words)
   unfolding new-device sized-device worldIn countIn tab rowAt table zeros call-write write-of lookup

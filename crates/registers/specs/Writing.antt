@@ -1,6 +1,6 @@
 -- A write to a register on a device's words: what its code asks. Assumes nothing.
 use mathlib.Core.Path.{_≡_, refl, sym, ap, _∙_}
-use mathlib.Core.Bool.{Bool, true, false, not, _&&_}
+use mathlib.Core.Bool.{Bool, true, false, not, _&&_, true≢false}
 use mathlib.Core.List.{List}
 use Prim.Native.Nat.{ℕ, _%_, _<_}
 use native.Mathlib.Nat.{div-one}
@@ -14,7 +14,7 @@ use Rattle.rules.specs.State.{State, with-regs}
 use Rattle.rules.specs.Registers.{with-low, with-high, bit-of, with-ring, with-ringsize, with-page, with-irqenable, with-doorbell, acknowledged, reset-registers, reset, controlled, write-offset, writable, write-of}
 use Rattle.rules.specs.Calls.{call-write}
 use Rattle.registers.specs.Laws.{Misses, keys, missed}
-use Rattle.run_state.specs.Views.{setIn, flagOf, worldIn, stateIn}
+use Rattle.run_state.specs.Views.{setIn, flagOf, worldIn, rested, stateIn}
 use Rattle.run_state.specs.Reading.{flag-as, small-as, none-live}
 use Rattle.run_state.specs.Spelled.{spell}
 use Rattle.registers.specs.Views.{Controls, Acks, Writes}
@@ -50,14 +50,24 @@ pub ruleset bits = (lowest-bit, needs)
 module _ (s : List ℕ) (v : ℕ) (long : length s ≡ 32) (a b : Bool) (is-a : a ≡ bit-of 0 v) (is-b : b ≡ bit-of 1 v) where
   pub control-keeps : (on : ℕ) → on ≡ flagOf a → b ≡ false → Controls s v (set s 3 on)
   unfolding worldIn controlled
-  control-keeps on o n = record { state = λ e r h c. spell (λ w. stateIn (set w 3 on) e r h c) s long ∙ rw (flag-as on a o, ← is-b, n, is-a) }
+  control-keeps on o n =
+      record {
+        state = λ e r h c. spell (λ w. stateIn (set w 3 on) e r h c) s long ∙ rw (flag-as on a o, ← is-b, n, is-a);
+        rests = λ resets. absurd (true≢false (sym resets ∙ (sym is-b ∙ n)));
+      }
 
-  pub control-resets : (on : ℕ) → on ≡ flagOf a → b ≡ true → Controls s v (set (set (set (set (set (set (set s 3 on) 5 0) 6 0) 7 0) 12 0) 13 0) 25 0)
-  unfolding worldIn controlled reset reset-registers
-  control-resets on o n =
+  -- the words that a reset sets beside those of work
+  abbrev reset-words : ℕ → List ℕ → List ℕ
+  reset-words on w = set (set (set (set (set (set w 3 on) 5 0) 6 0) 7 0) 12 0) 25 0
+
+  pub control-resets : (on : ℕ) (s′ : List ℕ) → on ≡ flagOf a → b ≡ true → s′ ≡ rested (set (set (set (set (set (set s 3 on) 5 0) 6 0) 7 0) 12 0) 25 0) → Controls s v s′
+  unfolding worldIn rested controlled reset reset-registers
+  control-resets on s′ o n is =
       record {
         state = λ e r h c.
-            spell (λ w. stateIn (set (set (set (set (set (set (set w 3 on) 5 0) 6 0) 7 0) 12 0) 13 0) 25 0) e r h c) s long ∙ rw (flag-as on a o, ← is-b, n, is-a, none-live (pick (setIn (getD s 28 0)) h r));
+            rw is
+            (spell (λ w. stateIn (rested (reset-words on w)) e r h c) s long ∙ rw (flag-as on a o, ← is-b, n, is-a, none-live (pick (setIn (getD s 28 0)) h r)));
+        rests = λ resets. rw is (spell (λ w. rested (reset-words on w)) s long ∙ sym (spell (λ w. rested (rested (reset-words on w))) s long));
       }
 
   pub acks : (x y : ℕ) → setIn x ≡ (setIn (getD s 6 0) && not a) → setIn y ≡ (setIn (getD s 7 0) && not b) → Acks s v (set (set s 6 x) 7 y)

@@ -11,12 +11,11 @@ use run_state::FENCE_PAGE;
 use run_state::FENCED;
 use run_state::IRQ_ENABLE;
 use run_state::LIVE;
-use run_state::NOTHING;
 use run_state::RING;
 use run_state::RING_SIZE;
-use run_state::TAG;
 use run_state::Words;
 use run_state::flag;
+use run_state::rest;
 use widths::u32_to_word;
 ghost use mathlib.Core.Path.{_≡_};
 ghost use mathlib.Core.Bool.{not, _&&_};
@@ -67,8 +66,8 @@ fn control(words: &mut Words, value: u32)
         words[FENCED] = 0;
         words[FAILED] = 0;
         words[DOORBELL] = 0;
-        words[TAG] = NOTHING;
         words[LIVE] = 0;
+        rest(words);
     }
 }
 

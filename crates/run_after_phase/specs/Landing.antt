@@ -81,7 +81,7 @@ module _ (s : List ℕ) (p : PacketsPlace) (m : List ℕ) (pre : (tagIn s ≡ 2)
     onward-words x w = set (set (set (set w 23 x) 26 y) 27 z) 29 o
 
     abbrev waiting-words : List ℕ → List ℕ
-    waiting-words w = set (set (set (set w 13 3) 26 y) 27 z) 29 o
+    waiting-words w = set (set (set (set (set (set (set w 13 3) 21 0) 22 0) 23 0) 26 y) 27 z) 29 o
 
     pub plays-going : (x : ℕ) → p .ending ≡ 0 → (x ≡ p .at) × (x < 18446744073709551616) → LandsPackets s p m (set (set (set (set s 23 x) 26 y) 27 z) 29 o) m
     unfolding worldIn
@@ -93,7 +93,7 @@ module _ (s : List ℕ) (p : PacketsPlace) (m : List ℕ) (pre : (tagIn s ≡ 2)
           side = spell (λ w. getD (onward-words x w) 28 0) s long;
         }
 
-    pub plays-done : p .ending ≡ 1 → LandsPackets s p m (set (set (set (set s 13 3) 26 y) 27 z) 29 o) m
+    pub plays-done : p .ending ≡ 1 → LandsPackets s p m (set (set (set (set (set (set (set s 13 3) 21 0) 22 0) 23 0) 26 y) 27 z) 29 o) m
     unfolding worldIn
     plays-done q =
         record {

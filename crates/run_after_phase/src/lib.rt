@@ -12,6 +12,8 @@ use run_state::HELD;
 use run_state::KEPT;
 use run_state::MADE;
 use run_state::PLACE;
+use run_state::STREAM_GPA;
+use run_state::STREAM_SIZE;
 use run_state::TAG;
 use run_state::WAITING;
 use run_state::Words;
@@ -51,7 +53,7 @@ pub fn land_entries(words: &mut Words, p: EntriesPlace, mem: &mut [u8])
     settle_refused(words, mem, fault(p.why, p.kept));
 }
 
-// The packets at a place.
+// The packets at a place. A submission that waits has no word of its stream left.
 pub fn land_packets(words: &mut Words, p: PacketsPlace, mem: &mut [u8])
     requires { ⌜ (tagIn (now words) ≡ 2) × (p .live ≤ most) × (p .made ≤ most) ⌝ }
     ensures { λ _. ⌜ LandsPackets (now (words .entry)) p (now (mem .entry)) (now (words .exit)) (now (mem .exit)) ⌝ }
@@ -71,6 +73,9 @@ pub fn land_packets(words: &mut Words, p: PacketsPlace, mem: &mut [u8])
     if p.ending == DONE {
         let all = &words[..];
         words[TAG] = WAITING;
+        words[STREAM_GPA] = 0;
+        words[STREAM_SIZE] = 0;
+        words[PLACE] = 0;
         words[HELD] = live;
         words[MADE] = made;
         words[COPIED] = copied;

@@ -24,23 +24,28 @@ use Rattle.run_begin.specs.Views.{Begins, StoresJob, StoresOpened, Start
 -- ---- begin_packets
 
 module _ (s : List ℕ) (kept size n : ℕ) (long : length s ≡ 32) (few : kept ≤ most) (is-n : (n ≡ kept) × (n < 18446744073709551616)) (is-size : size ≡ smallIn (getD s 22 0)) where
-  abbrev begun : ℕ → List ℕ → List ℕ
-  begun tag w = set (set (set (set (set (set w 24 n) 26 (getD w 25 0)) 27 0) 29 0) 23 24) 13 tag
+  -- with no word left of the table
+  abbrev begun : List ℕ → List ℕ
+  begun w = set (set (set (set (set (set (set w 18 0) 19 0) 20 0) 24 n) 26 (getD w 25 0)) 27 0) 29 0
 
-  pub begins-more : 24 < size → Begins s kept (set (set (set (set (set (set s 24 n) 26 (getD s 25 0)) 27 0) 29 0) 23 24) 13 2)
+  pub begins-more : 24 < size → Begins s kept (set (set (set (set (set (set (set (set (set s 18 0) 19 0) 20 0) 24 n) 26 (getD s 25 0)) 27 0) 29 0) 23 24) 13 2)
   unfolding worldIn
   begins-more h =
       record {
-        world = λ e r x c m. spell (λ w. worldIn (begun 2 w) e r x c m) s long ∙ rw (count-as n kept is-n few, none-made c, ← is-size, lt-ltb 24 size h);
-        side = spell (λ w. getD (begun 2 w) 28 0) s long;
+        world = λ e r x c m. spell (λ w. worldIn (set (set (begun w) 23 24) 13 2) e r x c m) s long ∙ rw (count-as n kept is-n few, none-made c, ← is-size, lt-ltb 24 size h);
+        side = spell (λ w. getD (set (set (begun w) 23 24) 13 2) 28 0) s long;
       }
 
-  pub begins-none : size ≤ 24 → Begins s kept (set (set (set (set (set (set s 24 n) 26 (getD s 25 0)) 27 0) 29 0) 23 24) 13 3)
+  -- and none of the stream
+  abbrev begun-none : List ℕ → List ℕ
+  begun-none w = set (set (set (set (begun w) 21 0) 22 0) 23 0) 13 3
+
+  pub begins-none : size ≤ 24 → Begins s kept (set (set (set (set (set (set (set (set (set (set (set s 18 0) 19 0) 20 0) 24 n) 26 (getD s 25 0)) 27 0) 29 0) 21 0) 22 0) 23 0) 13 3)
   unfolding worldIn
   begins-none h =
       record {
-        world = λ e r x c m. spell (λ w. worldIn (begun 3 w) e r x c m) s long ∙ rw (count-as n kept is-n few, none-made c, ← is-size, le-ltb 24 size h);
-        side = spell (λ w. getD (begun 3 w) 28 0) s long;
+        world = λ e r x c m. spell (λ w. worldIn (begun-none w) e r x c m) s long ∙ rw (count-as n kept is-n few, none-made c, ← is-size, le-ltb 24 size h);
+        side = spell (λ w. getD (begun-none w) 28 0) s long;
       }
 
 pub ruleset beginning = (begins-more, begins-none, needs)

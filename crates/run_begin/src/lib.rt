@@ -31,7 +31,8 @@ ghost use Prim.Native.Nat.{_≤_};
 ghost use Rattle.rules.specs.Numbers.{most};
 ghost use Rattle.run_begin.specs.Views.{Begins, StoresJob, StoresOpened, Starts};
 
-// The packets come next, after so many entries: the submission holds the device's resources and no record.
+// The packets come next, after so many entries: the submission holds the device's resources and no record. Of its table no word is left, and
+// of its stream none where no packet comes.
 pub fn begin_packets(words: &mut Words, kept: usize)
     requires { ⌜ kept ≤ most ⌝ }
     ensures { λ _. ⌜ Begins (now (words .entry)) kept (now (words .exit)) ⌝ }
@@ -40,15 +41,21 @@ pub fn begin_packets(words: &mut Words, kept: usize)
     let size = low32(words[STREAM_SIZE]);
     let n = usize_to_word(kept);
     let all = &words[..];
+    words[TABLE_GPA] = 0;
+    words[TABLE_COUNT] = 0;
+    words[TABLE_STRIDE] = 0;
     words[KEPT] = n;
     words[HELD] = live;
     words[MADE] = 0;
     words[COPIED] = 0;
-    words[PLACE] = STREAM_HEADER_SIZE as u64;
     if STREAM_HEADER_SIZE < size {
+        words[PLACE] = STREAM_HEADER_SIZE as u64;
         words[TAG] = PACKETS;
         return;
     }
+    words[STREAM_GPA] = 0;
+    words[STREAM_SIZE] = 0;
+    words[PLACE] = 0;
     words[TAG] = WAITING;
 }
 

@@ -1,5 +1,5 @@
 -- What the settling of a submission asks: a law for each function, by the words spelled out. Assumes nothing.
-use mathlib.Core.Path.{_≡_, refl, _∙_}
+use mathlib.Core.Path.{_≡_, refl, sym, _∙_}
 use mathlib.Core.Bool.{Bool, true, false, not, _&&_, _||_}
 use mathlib.Core.List.{List}
 use Prim.Native.Nat.{ℕ, _<_}
@@ -14,18 +14,18 @@ use Rattle.rules.specs.declared.Job.{Job}
 use Rattle.rules.specs.declared.Fault.{Fault}
 use Rattle.settle.specs.Settling.{page-put}
 use Rattle.settle.specs.Laws.{marks-as}
-use Rattle.run_state.specs.Views.{setIn, flagOf, smallIn, registersIn, jobIn, worldIn, deskIn}
+use Rattle.run_state.specs.Views.{setIn, flagOf, smallIn, registersIn, jobIn, worldIn, rested, deskIn}
 use Rattle.run_state.specs.Reading.{small-as}
 use Rattle.run_state.specs.Spelled.{spell}
 use Rattle.run_settle.specs.Views.{signalled-words, Signals, Finishes, Refuses, turnedIf, Accepts}
 
 -- ---- signal
 
-pub signals-words : (s : List ℕ) (silent set′ fenced : Bool) (completed flag : ℕ) → silent ≡ setIn (getD s 17 0) → set′ ≡ setIn (getD s 6 0)
+pub signals-words : (s s′ : List ℕ) (silent set′ fenced : Bool) (completed flag : ℕ) → silent ≡ setIn (getD s 17 0) → set′ ≡ setIn (getD s 6 0)
     → fenced ≡ (set′ || (ltb (getD s 5 0) (getD s 16 0) && not silent)) → completed ≡ larger (getD s 5 0) (getD s 16 0) → flag ≡ flagOf fenced
-    → Signals s (set (set (set s 5 completed) 6 flag) 13 0)
+    → s′ ≡ rested (set (set s 5 completed) 6 flag) → Signals s s′
 unfolding signalled-words
-signals-words s silent set′ fenced completed flag a b c d e = record { words = rw (d, e, c, b, a) }
+signals-words s s′ silent set′ fenced completed flag a b c d e f = record { words = rw (f, d, e, c, b, a) }
 
 pub ruleset signalling = (signals-words, needs)
 
@@ -53,7 +53,7 @@ faulted-words code errors place s = set (set (set (set (set s 7 1) 9 code) 10 (g
 pub refuses : (s s′ m m′ : List ℕ) (why : Fault) (code low more errors place : ℕ) → length s ≡ 32 → low ≡ smallIn (getD s 11 0) → more ≡ one-more low → (errors ≡ more) × (errors < 4294967296)
     → (code ≡ why .code) × (code < 4294967296) → (place ≡ why .place) × (place < 4294967296)
     → Finishes (set (set (set (set (set s 7 1) 9 code) 10 (getD s 16 0)) 11 errors) 30 place) m s′ m′ → Refuses s m why s′ m′
-unfolding worldIn settled ended-by signalled faulted signalled-words
+unfolding worldIn settled ended-by signalled faulted signalled-words rested
 refuses s s′ m m′ why code low more errors place long is-low is-more is-errors is-code is-place f =
     record {
       world = λ e r h c.
@@ -61,6 +61,9 @@ refuses s s′ m m′ why code low more errors place long is-low is-more is-erro
           (spell (λ w. worldIn (signalled-words (faulted-words code errors place w)) e r h c (marked (jobIn (faulted-words code errors place w)) (registersIn (signalled-words (faulted-words code errors place w))) m)) s long
           ∙ rw (set-flag (setIn (getD s 6 0) || (ltb (getD s 5 0) (getD s 16 0) && not (setIn (getD s 17 0)))), small-as code (why .code) is-code, small-as errors more is-errors, is-more, is-low, small-as place (why .place) is-place));
       side = rw (f .words) (spell (λ w. getD (signalled-words (faulted-words code errors place w)) 28 0) s long);
+      rests =
+          rw (f .words)
+          (spell (λ w. signalled-words (faulted-words code errors place w)) s long ∙ sym (spell (λ w. rested (signalled-words (faulted-words code errors place w))) s long));
     }
 
 pub ruleset refusing = (refuses, needs)
@@ -91,13 +94,14 @@ turned-words side s = set (set s 28 side) 25 (getD s 26 0)
 
 pub accepts : (s s′ m m′ : List ℕ) (side : ℕ) → length s ≡ 32 → setIn side ≡ turnedIf (setIn (getD s 28 0)) (setIn (getD s 29 0))
     → Finishes (set (set s 28 side) 25 (getD s 26 0)) m s′ m′ → Accepts s m s′ m′
-unfolding worldIn settled ended-by signalled signalled-words
+unfolding worldIn settled ended-by signalled signalled-words rested
 accepts s s′ m m′ side long turned f =
     record {
       world = λ e a b c.
           rw (f .words, f .mem)
           (spell (λ w. deskIn (signalled-words (turned-words side w)) e a b c (marked (jobIn (turned-words side w)) (registersIn (signalled-words (turned-words side w))) m)) s long
           ∙ rw (set-flag (setIn (getD s 6 0) || (ltb (getD s 5 0) (getD s 16 0) && not (setIn (getD s 17 0)))), turned, turned-rows (setIn (getD s 28 0)) (setIn (getD s 29 0)) a b));
+      rests = rw (f .words) (spell (λ w. signalled-words (turned-words side w)) s long ∙ sym (spell (λ w. rested (signalled-words (turned-words side w))) s long));
     }
 
 pub ruleset accepting = (accepts, needs)

@@ -10,13 +10,14 @@ use Rattle.rules.specs.Judging.Finding.{fine, broken}
 use Rattle.rules.specs.Shapes.{larger}
 use Rattle.rules.specs.Settle.{marked, settled, settled-keeping}
 use Rattle.rules.specs.declared.Fault.{Fault}
-use Rattle.run_state.specs.Views.{setIn, flagOf, registersIn, jobIn, heldIn, worldIn, bareIn, sideIn, deskIn}
+use Rattle.run_state.specs.Views.{setIn, flagOf, registersIn, jobIn, heldIn, worldIn, bareIn, rested, Rests, sideIn, deskIn}
 
 -- the words with the job's fence signalled, and nothing in work
 unfoldable pub signalled-words : List ℕ → List ℕ
 signalled-words s =
-    set (set (set s 5 (larger (getD s 5 0) (getD s 16 0))) 6
-    (flagOf (setIn (getD s 6 0) || (ltb (getD s 5 0) (getD s 16 0) && not (setIn (getD s 17 0)))))) 13 0
+    rested
+    (set (set s 5 (larger (getD s 5 0) (getD s 16 0))) 6
+    (flagOf (setIn (getD s 6 0) || (ltb (getD s 5 0) (getD s 16 0) && not (setIn (getD s 17 0))))))
 
 pub record Signals (s s′ : List ℕ) : Type 0 where
   pub words : s′ ≡ signalled-words s
@@ -25,16 +26,19 @@ pub record Finishes (s m s′ m′ : List ℕ) : Type 0 where
   pub words : s′ ≡ signalled-words s
   pub mem : m′ ≡ marked (jobIn s) (registersIn (signalled-words s)) m
 
--- the submission in work settled with a broken rule and its place, whatever the rows are; the same table stays the device's
+-- the submission in work settled with a broken rule and its place, whatever the rows are; the same table stays the device's, and no word
+-- is left of the work
 pub record Refuses (s m : List ℕ) (why : Fault) (s′ m′ : List ℕ) : Type 0 where
   pub world : (e r h c : List ℕ) → worldIn s′ e r h c m′ ≡ settled-keeping (jobIn s) (broken why) (bareIn s r m)
   pub side : getD s′ 28 0 ≡ getD s 28 0
+  pub rests : Rests s′
 
 -- the other side, if the submission has its own table
 abbrev pub turnedIf : Bool → Bool → Bool
 turnedIf side own = pick own (not side) side
 
--- settled as good, whatever the rows of both tables are: those that the submission held are the device's
+-- settled as good, whatever the rows of both tables are: those that the submission held are the device's, and no word is left of the work
 pub record Accepts (s m s′ m′ : List ℕ) : Type 0 where
   pub world : (e a b c : List ℕ) → deskIn s′ e a b c m′
       ≡ settled (jobIn s) fine (heldIn s (pick (sideIn s) b a) (pick (sideIn s) a b) c .resources) (bareIn s (pick (sideIn s) b a) m)
+  pub rests : Rests s′

@@ -1,5 +1,6 @@
 // How the submission in work is settled, on the device's words: its error if it has one, its fence, then head and page in guest memory.
-// Nothing is in work afterwards. Resources are not touched: a good answer only says which table of them is the device's from now on.
+// Nothing is in work afterwards, and no word is left of what was. Resources are not touched: a good answer only says which table of them is
+// the device's from now on.
 use rules::Fault;
 use run_state::COMPLETED;
 use run_state::COPIED;
@@ -14,13 +15,12 @@ use run_state::HELD;
 use run_state::JOB_SIGNAL;
 use run_state::JOB_SILENT;
 use run_state::LIVE;
-use run_state::NOTHING;
 use run_state::SIDE;
-use run_state::TAG;
 use run_state::Words;
 use run_state::flag;
 use run_state::is_set;
 use run_state::job_in;
+use run_state::rest;
 use settle::mark;
 use settle_registers::completed_after;
 use settle_registers::fenced_after;
@@ -42,7 +42,7 @@ fn signal(words: &mut Words)
     let completed = completed_after(before, fence);
     words[COMPLETED] = completed;
     words[FENCED] = fenced;
-    words[TAG] = NOTHING;
+    rest(words);
 }
 
 // The fence, then head and page in guest memory.

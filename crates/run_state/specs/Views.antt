@@ -1,12 +1,13 @@
 -- A device's words and tables as the rules' state: word 0 the memory's length, 1 to 12 the registers in the order of `Registers`, 13 the
 -- tag of what is in work, 14 to 23 its numbers, 24 to 27 how many rows of each table are live, 28 which table of resources is the device's,
--- 29 whether the submission has the other for its own, 30 the last error's detail; 31 says nothing. Any words mean some state.
+-- 29 whether the submission has the other for its own, 30 the last error's detail; 31 says nothing. Any words mean some state; those of
+-- work are 0 where nothing is in work (`rested`).
 use mathlib.Core.Path.{_≡_}
 use mathlib.Core.Bool.{Bool, true, false}
-use mathlib.Core.List.{List, []}
+use mathlib.Core.List.{List, [], _∷_}
 use Prim.Native.Nat.{ℕ, _%_}
 use lib.Dec.{eqb, ltb}
-use lib.ListN.{getD}
+use lib.ListN.{getD, set}
 use Rattle.machine.specs.Machine.{pick}
 use Rattle.rules.specs.Numbers.{most, done}
 use Rattle.rules.specs.Packets.{Holdings}
@@ -98,6 +99,24 @@ bareIn s r m =
       state = record { memory = getD s 0 0; regs = registersIn s; resources = resourcesIn s r; work = resting };
       mem = m;
     }
+
+-- ---- at rest
+
+-- the words that speak of work
+abbrev pub work-words : List ℕ
+work-words = 13 ∷ 14 ∷ 15 ∷ 16 ∷ 17 ∷ 18 ∷ 19 ∷ 20 ∷ 21 ∷ 22 ∷ 23 ∷ 24 ∷ 26 ∷ 27 ∷ 29 ∷ []
+
+abbrev pub zeroed : List ℕ → List ℕ → List ℕ
+zeroed [] s = s
+zeroed (k ∷ ks) s = zeroed ks (set s k 0)
+
+-- the words once nothing is in work
+unfoldable pub rested : List ℕ → List ℕ
+rested s = zeroed work-words s
+
+-- nothing is in work, and no word is left of what was
+abbrev pub Rests : List ℕ → Type 0
+Rests s = s ≡ rested s
 
 -- ---- the two tables of resources, as a host lends them
 

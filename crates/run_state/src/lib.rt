@@ -1,5 +1,5 @@
 // The words of a device: what each means, and how it is read. They are the ones that a host can lend; any words mean some device, so
-// nothing is ever asked of them. What changes is set in place by the crates above.
+// nothing is ever asked of them. What changes is set in place by the crates above; what ends a submission's work stands here.
 use rules::Job;
 use rules::Stream;
 use rules::Table;
@@ -7,7 +7,7 @@ use words::low32;
 ghost use mathlib.Core.Path.{_≡_};
 ghost use Prim.Native.Nat.{_≤_};
 ghost use Rattle.rules.specs.Numbers.{most};
-ghost use Rattle.run_state.specs.Views.{setIn, flagOf, countIn, jobIn, tableIn, streamIn};
+ghost use Rattle.run_state.specs.Views.{setIn, flagOf, countIn, jobIn, tableIn, streamIn, rested};
 
 // A device's words: its memory's length, its registers, what is in work, how many rows of each table are live, and which of the two
 // tables of resources is the device's.
@@ -146,4 +146,25 @@ pub fn stream_in(words: &Words) -> Stream
         gpa: words[STREAM_GPA],
         size: low32(words[STREAM_SIZE]),
     }
+}
+
+// Nothing is in work from now on: each word that speaks of work is 0, so that none tells of work that is over.
+pub fn rest(words: &mut Words)
+    ensures { λ _. ⌜ now (words .exit) ≡ rested (now (words .entry)) ⌝ }
+{
+    words[TAG] = NOTHING;
+    words[JOB_RING] = 0;
+    words[JOB_HEAD] = 0;
+    words[JOB_SIGNAL] = 0;
+    words[JOB_SILENT] = 0;
+    words[TABLE_GPA] = 0;
+    words[TABLE_COUNT] = 0;
+    words[TABLE_STRIDE] = 0;
+    words[STREAM_GPA] = 0;
+    words[STREAM_SIZE] = 0;
+    words[PLACE] = 0;
+    words[KEPT] = 0;
+    words[HELD] = 0;
+    words[MADE] = 0;
+    words[COPIED] = 0;
 }

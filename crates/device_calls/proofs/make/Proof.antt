@@ -55,6 +55,9 @@ element-write-words-15 c = search needs
 element-write-words-16 : tie.Need-element-write-words-16
 element-write-words-16 c = search needs
 
+rest-requires : tie.Need-rest-requires
+rest-requires c κs = search needs
+
 returns : tie.Need-returns
 returns c = search making
 
@@ -79,4 +82,5 @@ make-spec =
     element-write-words-14
     element-write-words-15
     element-write-words-16
+    rest-requires
     returns)

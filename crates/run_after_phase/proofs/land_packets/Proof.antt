@@ -43,6 +43,15 @@ element-write-words-7 c = search needs
 element-write-words-8 : tie.Need-element-write-words-8
 element-write-words-8 c = search needs
 
+element-write-words-9 : tie.Need-element-write-words-9
+element-write-words-9 c = search needs
+
+element-write-words-10 : tie.Need-element-write-words-10
+element-write-words-10 c = search needs
+
+element-write-words-11 : tie.Need-element-write-words-11
+element-write-words-11 c = search needs
+
 returns-2 : tie.Need-returns-2
 returns-2 c = search landing-packets
 
@@ -75,6 +84,9 @@ land-packets-spec =
     element-write-words-6
     element-write-words-7
     element-write-words-8
+    element-write-words-9
+    element-write-words-10
+    element-write-words-11
     returns-2
     fault-requires
     settle-refused-requires

@@ -28,20 +28,38 @@ element-write-words-3 c = search needs
 element-write-words-4 : tie.Need-element-write-words-4
 element-write-words-4 c = search needs
 
-cast-words : tie.Need-cast-words
-cast-words c = search needs
-
 element-write-words-5 : tie.Need-element-write-words-5
 element-write-words-5 c = search needs
 
 element-write-words-6 : tie.Need-element-write-words-6
 element-write-words-6 c = search needs
 
+element-write-words-7 : tie.Need-element-write-words-7
+element-write-words-7 c = search needs
+
+cast-words : tie.Need-cast-words
+cast-words c = search needs
+
+element-write-words-8 : tie.Need-element-write-words-8
+element-write-words-8 c = search needs
+
+element-write-words-9 : tie.Need-element-write-words-9
+element-write-words-9 c = search needs
+
 returns : tie.Need-returns
 returns c = search beginning
 
-element-write-words-7 : tie.Need-element-write-words-7
-element-write-words-7 c = search needs
+element-write-words-10 : tie.Need-element-write-words-10
+element-write-words-10 c = search needs
+
+element-write-words-11 : tie.Need-element-write-words-11
+element-write-words-11 c = search needs
+
+element-write-words-12 : tie.Need-element-write-words-12
+element-write-words-12 c = search needs
+
+element-write-words-13 : tie.Need-element-write-words-13
+element-write-words-13 c = search needs
 
 returns-2 : tie.Need-returns-2
 returns-2 c = search beginning
@@ -58,9 +76,15 @@ begin-packets-spec =
     element-write-words-2
     element-write-words-3
     element-write-words-4
-    cast-words
     element-write-words-5
     element-write-words-6
-    returns
     element-write-words-7
+    cast-words
+    element-write-words-8
+    element-write-words-9
+    returns
+    element-write-words-10
+    element-write-words-11
+    element-write-words-12
+    element-write-words-13
     returns-2)

@@ -37,8 +37,8 @@ element-write-words c = search needs
 element-write-words-2 : tie.Need-element-write-words-2
 element-write-words-2 c = search needs
 
-element-write-words-3 : tie.Need-element-write-words-3
-element-write-words-3 c = search needs
+rest-requires : tie.Need-rest-requires
+rest-requires c κs = search needs
 
 returns : tie.Need-returns
 returns c = search signalling
@@ -58,5 +58,5 @@ signal-spec =
     completed-after-requires
     element-write-words
     element-write-words-2
-    element-write-words-3
+    rest-requires
     returns)
