@@ -1,7 +1,7 @@
 # How the Rust side is built and run on this machine. For bash, to be sourced: ./play, .ci/run and compare/instructions.sh do.
 #
 #   host_ready             installs what is missing; says what it does, or what is to be done
-#   host_cargo CMD ..      cargo CMD for host/, whatever the caller's folder is
+#   host_cargo CMD ..      cargo CMD for the crates in host/, whatever the caller's folder is; --workspace means all three of them
 #   host_program NAME      where `host_cargo build --release` puts a program
 #   host_run PROGRAM ..    runs it
 #   host_counter_ready     installs and builds what host_count needs
@@ -11,7 +11,7 @@
 # programs and tests run under Debian's qemu-user. Packages are Debian's, and only those that are missing. Instructions are
 # counted by valgrind's callgrind on x86-64, and on Arm by a plugin of qemu's, compare/instructions.c.
 
-host_folder=$(cd "$(dirname "${BASH_SOURCE[0]}")" && pwd)
+host_folder=$(unset CDPATH && cd "$(dirname "${BASH_SOURCE[0]}")" && pwd)
 
 host_install() { # PACKAGE..
     local as_root=()
@@ -59,17 +59,25 @@ host_ready() {
 }
 
 host_cargo() { # CMD ..
-    local command=$1
+    local command=$1 word words=()
     shift
+    # The root is compare/, where no workspace of a user's can be in the way, and the other two are no members of it.
+    for word in "$@"; do
+        case $word in
+        --workspace) words+=(--package zelezmut --package plain --package compare) ;;
+        *) words+=("$word") ;;
+        esac
+    done
+    set -- "$command" --offline --manifest-path "$host_folder/compare/Cargo.toml" --target-dir "$host_folder/target"
     case $(uname -m) in
     aarch64)
         PATH=/usr/bin:$PATH \
             CARGO_TARGET_X86_64_UNKNOWN_LINUX_GNU_LINKER=/usr/bin/x86_64-linux-gnu-gcc \
             CARGO_TARGET_X86_64_UNKNOWN_LINUX_GNU_RUNNER=/usr/bin/qemu-x86_64 \
-            /usr/bin/cargo "$command" --offline --manifest-path "$host_folder/Cargo.toml" --target x86_64-unknown-linux-gnu "$@"
+            /usr/bin/cargo "$@" --target x86_64-unknown-linux-gnu ${words[@]+"${words[@]}"}
         ;;
     *)
-        cargo "$command" --offline --manifest-path "$host_folder/Cargo.toml" "$@"
+        cargo "$@" ${words[@]+"${words[@]}"}
         ;;
     esac
 }

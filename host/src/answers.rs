@@ -14,31 +14,39 @@ fn none_of_ours(what: &str, number: u32) -> ! {
 
 /// Why a call was refused. A refused call has changed no state and no byte of memory.
 #[derive(Clone, Copy, Debug, PartialEq, Eq, Hash)]
-#[repr(u32)]
 pub enum Refused {
     /// The lent memory has another length than the desk was made for.
-    OtherMemory = 1,
+    OtherMemory,
     /// There is no such register, or it is not readable or not writable.
-    NoRegister = 2,
+    NoRegister,
     /// The host answered, but no submission waits for it.
-    NothingWaits = 3,
+    NothingWaits,
     /// No submission waits, or it has no record of this index.
-    NoRecord = 4,
+    NoRecord,
+    /// The host answered a submission that is over, and another one waits. This crate's own refusal, which has no number.
+    StaleTicket,
 }
 
 impl Refused {
-    /// Every reason, by rising number.
-    pub const ALL: [Refused; 4] = [
+    /// Every reason, those with a number first, by rising number.
+    pub const ALL: [Refused; 5] = [
         Refused::OtherMemory,
         Refused::NoRegister,
         Refused::NothingWaits,
         Refused::NoRecord,
+        Refused::StaleTicket,
     ];
 
-    /// The call answer of document 01, 1 to 4.
+    /// The call answer of document 01, 1 to 4; `None` for [`Refused::StaleTicket`], which that document does not know.
     #[inline]
-    pub fn number(self) -> u32 {
-        self as u32
+    pub fn number(self) -> Option<u32> {
+        match self {
+            Refused::OtherMemory => Some(1),
+            Refused::NoRegister => Some(2),
+            Refused::NothingWaits => Some(3),
+            Refused::NoRecord => Some(4),
+            Refused::StaleTicket => None,
+        }
     }
 
     /// A call answer: 0 is done.
@@ -53,7 +61,7 @@ impl Refused {
     /// By itself and cold, so that a call that is done only asks for 0.
     #[cold]
     fn from_number(answer: u32) -> Refused {
-        match Refused::ALL.iter().find(|r| r.number() == answer) {
+        match Refused::ALL.iter().find(|r| r.number() == Some(answer)) {
             Some(&refused) => refused,
             None => none_of_ours("call answer", answer),
         }
@@ -67,11 +75,24 @@ impl fmt::Display for Refused {
             Refused::NoRegister => "no such register, or not readable or writable",
             Refused::NothingWaits => "no submission waits for the host's answer",
             Refused::NoRecord => "no such record, or no submission waits",
+            Refused::StaleTicket => "the submission answered is over, and another one waits",
         })
     }
 }
 
 impl Error for Refused {}
+
+/// What a write to a register that there is did, as far as a host has to act on it.
+#[derive(Clone, Copy, Debug, PartialEq, Eq, Hash)]
+pub enum Written {
+    /// The register has its new value, and that is all.
+    Stored,
+    /// The doorbell rang: there may be work, and it is time for a run.
+    Rang,
+    /// The device was reset: the submission in work was dropped, whether it waited or not, and all resources are gone. What the host
+    /// keeps for them can go too, and what it is doing for that submission is for nobody.
+    Reset,
+}
 
 /// How a run ended, by itself or behind an answer.
 #[derive(Clone, Copy, Debug, PartialEq, Eq, Hash)]
@@ -126,12 +147,36 @@ impl RecordKind {
     }
 
     #[inline]
-    pub(crate) fn from_number(number: u32) -> RecordKind {
+    pub(crate) fn from_front(number: u32) -> RecordKind {
+        match RecordKind::try_from(number) {
+            Ok(kind) => kind,
+            Err(UnknownKind(number)) => none_of_ours("record kind", number),
+        }
+    }
+}
+
+/// A number that is no record kind's.
+#[derive(Clone, Copy, Debug, PartialEq, Eq, Hash)]
+pub struct UnknownKind(pub u32);
+
+impl fmt::Display for UnknownKind {
+    fn fmt(&self, f: &mut fmt::Formatter<'_>) -> fmt::Result {
+        write!(f, "no record has kind {}", self.0)
+    }
+}
+
+impl Error for UnknownKind {}
+
+impl TryFrom<u32> for RecordKind {
+    type Error = UnknownKind;
+
+    #[inline]
+    fn try_from(number: u32) -> Result<RecordKind, UnknownKind> {
         match number {
-            1 => RecordKind::Backs,
-            2 => RecordKind::Reads,
-            3 => RecordKind::Writes,
-            _ => none_of_ours("record kind", number),
+            1 => Ok(RecordKind::Backs),
+            2 => Ok(RecordKind::Reads),
+            3 => Ok(RecordKind::Writes),
+            _ => Err(UnknownKind(number)),
         }
     }
 }
@@ -153,6 +198,18 @@ pub enum HostAnswer {
     Good,
     /// Something failed: the submission ends with error 27, and the resources before it stay.
     Failed,
+}
+
+/// Whether all went well.
+impl From<bool> for HostAnswer {
+    #[inline]
+    fn from(good: bool) -> HostAnswer {
+        if good {
+            HostAnswer::Good
+        } else {
+            HostAnswer::Failed
+        }
+    }
 }
 
 /// Why a submission was refused or failed, as the error register tells the guest.
@@ -281,11 +338,13 @@ mod tests {
 
     #[test]
     fn call_answers_are_1_to_4() {
-        let numbers: Vec<u32> = Refused::ALL.iter().map(|r| r.number()).collect();
-        assert_eq!(numbers, [1, 2, 3, 4]);
+        let numbers: Vec<Option<u32>> = Refused::ALL.iter().map(|r| r.number()).collect();
+        assert_eq!(numbers, [Some(1), Some(2), Some(3), Some(4), None]);
         assert_eq!(Refused::from_answer(0), Ok(()));
         for refused in Refused::ALL {
-            assert_eq!(Refused::from_answer(refused.number()), Err(refused));
+            if let Some(number) = refused.number() {
+                assert_eq!(Refused::from_answer(number), Err(refused));
+            }
         }
     }
 
@@ -315,10 +374,17 @@ mod tests {
         assert_eq!(Ended::from_number(0), Ended::Idle);
         assert_eq!(Ended::from_number(1), Ended::Waiting);
         assert_eq!(Ended::from_number(2), Ended::Paused);
-        for number in 1..=3 {
-            let kind = RecordKind::from_number(number);
-            assert_eq!(kind.number(), number);
+        for number in 0..10 {
+            match RecordKind::try_from(number) {
+                Ok(kind) => assert_eq!(kind.number(), number),
+                Err(unknown) => assert_eq!(unknown, UnknownKind(number)),
+            }
+            let known = (1..=3).contains(&number);
+            assert_eq!(RecordKind::try_from(number).is_ok(), known);
         }
+        assert_eq!(UnknownKind(4).to_string(), "no record has kind 4");
+        assert_eq!(HostAnswer::from(true), HostAnswer::Good);
+        assert_eq!(HostAnswer::from(false), HostAnswer::Failed);
     }
 
     #[test]

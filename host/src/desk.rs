@@ -1,16 +1,28 @@
 //! The desk: the proved front with its state, as a Rust value with safe methods.
-use crate::answers::{DeviceError, Ended, HostAnswer, RecordKind, Refused};
+use crate::answers::{DeviceError, Ended, HostAnswer, RecordKind, Refused, Written};
 use crate::place::Place;
+use crate::ticket::{Ticket, Waiting};
 use crate::{front, registers};
 use std::error::Error;
 use std::fmt;
 
 /// An adapter's front for one guest memory.
 ///
-/// It owns its state, some 16 KB in a box: it moves cheaply and no call allocates. A clone goes its own way from there.
-#[derive(Clone)]
+/// It owns its state, some 16 KB in a box: it moves cheaply and no call allocates. A clone goes its own way from there, and has its
+/// own tickets: what was begun for the original is not answered at the clone.
 pub struct Desk {
     state: Box<front::State>,
+    /// Of the submission that waits, else of the next that will.
+    ticket: Ticket,
+}
+
+impl Clone for Desk {
+    fn clone(&self) -> Desk {
+        Desk {
+            state: self.state.clone(),
+            ticket: Ticket::first(),
+        }
+    }
 }
 
 /// What a run did, by itself or behind an answer.
@@ -34,6 +46,16 @@ impl Ran {
 }
 
 /// A checked range of guest memory, for the host to work on.
+///
+/// It says where guest memory is to be read or written, and for which resource. What else the submission asks of the host is in its
+/// stream alone:
+///
+/// - where within the resource the range is. A create's record, [`RecordKind::Backs`], has the whole resource: a later range's `gpa`
+///   less that one's is the offset, as long as the resource's entry has not moved since;
+/// - what a copy reads: the source, be it backed or not, has no record, and a copy without writeback has none at all;
+/// - a resource that lives with the host: neither its create nor what is done with it makes a record; nor does any destroy, nor a
+///   dirty range or a copy of no bytes;
+/// - a texture's shape, and packets that the front does not know.
 #[derive(Clone, Copy, Debug, PartialEq, Eq, Hash)]
 pub struct Record {
     /// What is asked of the host.
@@ -104,16 +126,34 @@ impl Desk {
     pub fn new(memory: usize) -> Desk {
         Desk {
             state: front::make(memory as u64),
+            ticket: Ticket::first(),
         }
     }
 
-    /// The guest writes a register.
+    /// The bytes of the guest memory that the desk was made for.
+    #[inline]
+    pub fn memory_len(&self) -> usize {
+        front::memory(&self.state) as usize
+    }
+
+    /// The guest writes a register. What comes back says whether a host has more to do than to go on.
+    ///
+    /// A reset ([`CONTROL_RESET`](registers::CONTROL_RESET)) drops the submission that waits: its ticket is used up.
     ///
     /// # Errors
     /// [`Refused::NoRegister`] if no register that can be written has this offset.
     #[inline]
-    pub fn write(&mut self, offset: u32, value: u32) -> Result<(), Refused> {
-        Refused::from_answer(front::write(&mut self.state, offset, value))
+    pub fn write(&mut self, offset: u32, value: u32) -> Result<Written, Refused> {
+        let waited = front::waits(&self.state);
+        Refused::from_answer(front::write(&mut self.state, offset, value))?;
+        if waited && !front::waits(&self.state) {
+            self.ticket.use_up();
+        }
+        Ok(match offset {
+            registers::DOORBELL => Written::Rang,
+            registers::CONTROL if value & registers::CONTROL_RESET != 0 => Written::Reset,
+            _ => Written::Stored,
+        })
     }
 
     /// The guest reads a register.
@@ -132,6 +172,13 @@ impl Desk {
     /// A submission that breaks a rule ends within the run: the error registers tell, its fence is finished, and the run goes
     /// on.
     ///
+    /// # The memory
+    /// It is lent exclusively, for the length of the call: nobody else reads or writes it meanwhile, and a virtual processor of the
+    /// guest that runs is somebody else. So an emulator calls while its virtual processors stand still, or on a thread that holds them
+    /// off that memory. Nothing is kept of the slice: before and after the call the guest does what it likes there. It is one slice,
+    /// guest address 0 first. Where guest memory is in several regions, with holes between, one range of the host's addresses is
+    /// reserved for all of it and the regions are mapped into that.
+    ///
     /// # Errors
     /// [`Refused::OtherMemory`] if the memory has another length than the desk was made for.
     #[inline]
@@ -149,7 +196,7 @@ impl Desk {
         Refused::from_answer(answer)?;
         let [kind, handle, id, gpa, length] = said;
         Ok(Record {
-            kind: RecordKind::from_number(kind as u32),
+            kind: RecordKind::from_front(kind as u32),
             handle: handle as u32,
             id: id as u32,
             gpa,
@@ -163,19 +210,39 @@ impl Desk {
         (0..).map_while(move |i| self.record(i).ok())
     }
 
+    /// The submission that waits for the host's answer, if one does.
+    #[inline]
+    pub fn waiting(&self) -> Option<Waiting> {
+        if !front::waits(&self.state) {
+            return None;
+        }
+        let (fence, records) = front::waiting(&self.state);
+        Some(Waiting {
+            ticket: self.ticket,
+            fence,
+            records,
+        })
+    }
+
     /// The host answers the waiting submission and carries on, in one call.
+    ///
+    /// The ticket, which [`waiting`](Desk::waiting) gave, says which submission the host has carried out. If the guest has reset the
+    /// device since, and another submission waits by now, the answer is not for that one and is refused.
     ///
     /// The answer settles the submission: ring head, fence page and fence registers follow. Then the desk works on as
     /// [`run`](Desk::run) does, over the same memory and with this allowance, and what it did comes back. With an allowance of 0
     /// the call only settles. The answer is for the submission that waits when the call begins; the next one to wait ends the
     /// run, and asks for an answer of its own.
     ///
+    /// The memory is lent as to [`run`](Desk::run): exclusively, for the length of the call, all of it as one slice. What the host did
+    /// for the records it did before, while the memory was its own.
+    ///
     /// # Errors
     /// [`Refused::OtherMemory`] if the memory has another length than the desk was made for, else [`Refused::NothingWaits`] if no
-    /// submission waits. Then nothing is run either.
+    /// submission waits, else [`Refused::StaleTicket`] if the one that waits has another ticket. Then nothing is run either.
     ///
     /// ```
-    /// use zelezmut::{Desk, Ended, HostAnswer, Record, Refused};
+    /// use zelezmut::{Desk, Ended, HostAnswer, Record, Refused, Ticket};
     ///
     /// const SLICE: u16 = 1000;
     ///
@@ -187,8 +254,9 @@ impl Desk {
     ///             Ended::Idle => return Ok(()),
     ///             Ended::Paused => desk.run(memory, SLICE)?,
     ///             Ended::Waiting => {
+    ///                 let ticket = desk.waiting().map_or(Ticket::NONE, |waiting| waiting.ticket);
     ///                 desk.records().for_each(&mut carry_out);
-    ///                 desk.answer(memory, HostAnswer::Good, SLICE)?
+    ///                 desk.answer(memory, ticket, HostAnswer::Good, SLICE)?
     ///             }
     ///         };
     ///     }
@@ -201,11 +269,27 @@ impl Desk {
     pub fn answer(
         &mut self,
         memory: &mut [u8],
+        ticket: Ticket,
         answer: HostAnswer,
         allowance: u16,
     ) -> Result<Ran, Refused> {
+        if ticket != self.ticket && front::waits(&self.state) {
+            return Err(self.refused_for_ticket(memory));
+        }
         let good = answer == HostAnswer::Good;
-        Ran::from_front(front::answer(&mut self.state, memory, good, allowance))
+        let ran = Ran::from_front(front::answer(&mut self.state, memory, good, allowance))?;
+        self.ticket.use_up();
+        Ok(ran)
+    }
+
+    /// Where the submission that waits has another ticket; the memory's length is told first, as the front does.
+    #[cold]
+    fn refused_for_ticket(&self, memory: &[u8]) -> Refused {
+        if memory.len() == self.memory_len() {
+            Refused::StaleTicket
+        } else {
+            Refused::OtherMemory
+        }
     }
 
     /// The completed fence, both halves.
@@ -240,14 +324,16 @@ impl Desk {
     }
 }
 
-/// Shows the registers: the rest of the state has no meaning outside the library.
+/// Shows the registers by name, what waits, and the memory's length: the rest of the state has no meaning outside the library.
 impl fmt::Debug for Desk {
     fn fmt(&self, f: &mut fmt::Formatter<'_>) -> fmt::Result {
-        f.write_str("Desk ")?;
-        let mut shown = f.debug_map();
+        let mut shown = f.debug_struct("Desk");
         for offset in registers::READABLE {
-            shown.entry(&format_args!("{:x}", offset), &self.known(offset));
+            let name = registers::name(offset).unwrap_or("a register");
+            shown.field(name, &format_args!("{:#x}", self.known(offset)));
         }
+        shown.field("waiting", &self.waiting());
+        shown.field("memory_len", &self.memory_len());
         shown.finish()
     }
 }

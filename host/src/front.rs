@@ -4,6 +4,9 @@
 //! returns and stays within what it is lent; it keeps no pointer and has no state of its own. What it needs in return is that
 //! arrays have their lengths, that a slice's pointer and length belong together, and that nothing lent for writing is lent
 //! twice. Arrays go in by reference, so their types give the first and the last; slices go in by what they say of themselves.
+//!
+//! That the library linked is the one of these declarations nobody checks yet: it exports no number that tells its layout. An older
+//! one, of smaller arrays or other arguments, would be called as if it were this one.
 #![allow(unsafe_code)]
 
 use std::alloc::{alloc_zeroed, handle_alloc_error, Layout};
@@ -23,7 +26,7 @@ pub(crate) type Said = [u64; 5];
 /// What a call that runs says: its answer, the number of how it ended, and the units spent.
 pub(crate) type Ran = (u32, u32, u16);
 
-/// A device's state, in words that only the library understands: on this side of the boundary they are only kept.
+/// A device's state. On this side of the boundary it is kept and not written, and of its words four are read: see [`MEMORY`].
 ///
 /// The words stand first, where the box points, since every call takes them. `Copy` makes the box's clone a single copy.
 #[derive(Clone, Copy)]
@@ -38,10 +41,27 @@ pub(crate) struct State {
     records: Records,
 }
 
+/// The words that are read here, by their index: the length of the memory that the device was made for; what is in work; of the
+/// submission in work, its signal fence and how many records it has made.
+///
+/// No call tells these, and a host has to know them to tell one waiting submission from another. What they mean is part of every
+/// contract of the library: the view that all of them are about says it (`crates/run_state/specs/Views.antt`; the names are those
+/// of `crates/run_state/src/lib.rt`), for all words that there can be. To read them is always safe; that they still mean this is
+/// tried below, against the calls. The other words are the library's own business: registers are read by its call, and of what
+/// is not in work the numbers are leftovers.
+const MEMORY: usize = 0;
+const TAG: usize = 13;
+const JOB_SIGNAL: usize = 16;
+const MADE: usize = 27;
+
+/// Smaller tags are nothing, entries and packets; any other waits for the host.
+const WAITING: u64 = 3;
+
 mod library {
     use super::{Entries, MaybeUninit, Records, Resources, Said, Words};
 
-    extern "C" {
+    // The calls of 64-bit Linux on x86-64, whatever "C" means where this is built: the library has no other code.
+    extern "sysv64" {
         pub fn zelezmut_packed_size(
             format: u32,
             width: u32,
@@ -132,6 +152,25 @@ pub(crate) fn make(memory: u64) -> Box<State> {
     state
 }
 
+/// The bytes of the memory that the device was made for.
+#[inline]
+pub(crate) fn memory(state: &State) -> u64 {
+    state.words[MEMORY]
+}
+
+/// Whether a submission waits for the host's answer.
+#[inline]
+pub(crate) fn waits(state: &State) -> bool {
+    state.words[TAG] >= WAITING
+}
+
+/// The signal fence of the submission that waits, and how many records it has. They mean nothing where none waits.
+#[inline]
+pub(crate) fn waiting(state: &State) -> (u64, u32) {
+    let made = state.words[MADE].min(MOST as u64);
+    (state.words[JOB_SIGNAL], made as u32)
+}
+
 /// The call's answer.
 #[inline]
 pub(crate) fn write(state: &mut State, offset: u32, value: u32) -> u32 {
@@ -206,7 +245,8 @@ pub(crate) fn answer(state: &mut State, memory: &mut [u8], good: bool, allowance
 #[cfg(test)]
 mod tests {
     use super::*;
-    use crate::guest::{self, Entry};
+    use crate::guest::{self, Backing, Descriptor, Entry, Packet, Part};
+    use crate::registers;
     use std::mem::size_of;
 
     const MEMORY: usize = 4096;
@@ -303,6 +343,254 @@ mod tests {
             let beside = bytes[..BESIDE].iter().chain(&bytes[BESIDE + MEMORY..]);
             assert!(beside.copied().all(|byte| byte == UNTOUCHED));
         }
+    }
+
+    /// Words that are lent, between words that nobody may touch.
+    #[derive(Clone, PartialEq)]
+    #[repr(C)]
+    struct Fenced<const N: usize> {
+        before: [u64; 8],
+        lent: [u64; N],
+        behind: [u64; 8],
+    }
+
+    const FENCE: [u64; 8] = [0xA5A5_5A5A_0F0F_F0F0; 8];
+
+    impl<const N: usize> Fenced<N> {
+        fn new(numbers: &mut Numbers) -> Fenced<N> {
+            let mut lent = [0; N];
+            lent.fill_with(|| numbers.next());
+            Fenced {
+                before: FENCE,
+                lent,
+                behind: FENCE,
+            }
+        }
+
+        fn stands(&self) -> bool {
+            self.before == FENCE && self.behind == FENCE
+        }
+    }
+
+    /// All that calls are lent, each part fenced by itself.
+    #[derive(Clone, PartialEq)]
+    struct Lent {
+        words: Fenced<32>,
+        entries: Fenced<{ MOST * 4 }>,
+        first: Fenced<{ MOST * 11 }>,
+        second: Fenced<{ MOST * 11 }>,
+        records: Fenced<{ MOST * 5 }>,
+        /// With bytes beside it at both ends.
+        memory: Vec<u8>,
+    }
+
+    impl Lent {
+        /// Any words; a memory of any length up to so many bytes, mostly the one that the words say. In every other one stands a
+        /// submission, so that calls come far, with some bytes changed.
+        fn new(numbers: &mut Numbers) -> Lent {
+            let length = match numbers.next() % 4 {
+                0 => numbers.next() as usize % 128,
+                _ => numbers.next() as usize % (MEMORY + 1),
+            };
+            let mut memory = vec![UNTOUCHED; BESIDE + length + BESIDE];
+            let inside = &mut memory[BESIDE..][..length];
+            inside.fill_with(|| numbers.next() as u8);
+            let mut lent = Lent {
+                words: Fenced::new(numbers),
+                entries: Fenced::new(numbers),
+                first: Fenced::new(numbers),
+                second: Fenced::new(numbers),
+                records: Fenced::new(numbers),
+                memory: Vec::new(),
+            };
+            if numbers.next() % 2 == 0 && length >= 2048 {
+                submission(inside);
+                for _ in 0..numbers.next() % 4 {
+                    inside[numbers.next() as usize % 2048] = numbers.next() as u8;
+                }
+                // SAFETY: a reference and a number.
+                unsafe { library::zelezmut_make(&mut lent.words.lent, length as u64) };
+                for (offset, value) in [
+                    (registers::RING_SIZE, guest::ring_size(1)),
+                    (registers::CONTROL, registers::CONTROL_ENABLE),
+                    (registers::DOORBELL, 1),
+                ] {
+                    // SAFETY: a reference and numbers.
+                    unsafe { library::zelezmut_write(&mut lent.words.lent, offset, value) };
+                }
+            } else if numbers.next() % 8 != 0 {
+                lent.words.lent[super::MEMORY] = length as u64;
+            }
+            lent.memory = memory;
+            lent
+        }
+
+        fn fences_stand(&self) -> bool {
+            let (before, rest) = self.memory.split_at(BESIDE);
+            let behind = &rest[rest.len() - BESIDE..];
+            self.words.stands()
+                && self.entries.stands()
+                && self.first.stands()
+                && self.second.stands()
+                && self.records.stands()
+                && before.iter().chain(behind).all(|&byte| byte == UNTOUCHED)
+        }
+    }
+
+    /// A submission of two entries and four packets, and the ring that holds it, in the first 2048 bytes.
+    fn submission(memory: &mut [u8]) {
+        let backing = Some(Backing { id: 1, offset: 0 });
+        let create = |handle| Packet::CreateBuffer {
+            handle,
+            size: 32,
+            backing,
+        };
+        let table = guest::table(&entries(2));
+        let stream = guest::stream(&[
+            create(1),
+            create(2),
+            Packet::DirtyRange {
+                handle: 1,
+                offset: 0,
+                size: 16,
+            },
+            Packet::CopyBuffer {
+                destination: 2,
+                source: 1,
+                destination_offset: 0,
+                source_offset: 0,
+                size: 16,
+                writeback: true,
+            },
+        ]);
+        let slot = Descriptor {
+            commands: Part::of(1024, &stream),
+            table: Part::of(512, &table),
+            fence: 1,
+            silent: false,
+        };
+        guest::put(memory, 0, &guest::ring(1, 0, 1));
+        guest::put(memory, guest::slot_offset(0), &slot.to_bytes());
+        guest::put(memory, 512, &table);
+        guest::put(memory, 1024, &stream);
+    }
+
+    /// Calls an export that may change what it is lent: the number that it says, whose low byte is the answer.
+    fn call(lent: &mut Lent, which: u64, numbers: &mut Numbers) -> u64 {
+        let Lent {
+            words,
+            entries,
+            first,
+            second,
+            records,
+            memory,
+        } = lent;
+        let length = memory.len() - 2 * BESIDE;
+        let memory = memory[BESIDE..][..length].as_mut_ptr();
+        let (words, entries, records) = (&mut words.lent, &mut entries.lent, &mut records.lent);
+        let (first, second) = (&mut first.lent, &mut second.lent);
+        let (a, b) = (numbers.next() as u32, numbers.next() as u32);
+        let allowance = numbers.next() as u16;
+        // SAFETY: references to arrays of the boundary's types, numbers, and a slice's own pointer and length.
+        unsafe {
+            match which {
+                0 => library::zelezmut_write(words, a, b).into(),
+                1 => library::zelezmut_run(
+                    words, entries, first, second, records, memory, length, allowance,
+                ),
+                _ => library::zelezmut_answer(
+                    words, entries, first, second, records, memory, length, a, allowance,
+                ),
+            }
+        }
+    }
+
+    /// Calls those that change nothing, which nothing then may have: a table may be any part of the memory.
+    fn call_readers(lent: &Lent, numbers: &mut Numbers) {
+        let (a, b) = (numbers.next() as u32, numbers.next());
+        let mut said = Fenced::<5>::new(numbers);
+        // SAFETY: references to arrays of the boundary's types, and numbers; five words are five words, set or not.
+        let answers = unsafe {
+            let said = &mut *(&mut said.lent as *mut Said).cast::<MaybeUninit<Said>>();
+            [
+                library::zelezmut_read(&lent.words.lent, a) >> 32,
+                library::zelezmut_record(&lent.words.lent, &lent.records.lent, a, said).into(),
+            ]
+        };
+        assert!([0, 2].contains(&answers[0]) && [0, 4].contains(&answers[1]));
+        assert!(said.stands());
+        assert!(answers[1] == 0 || said.lent == [0; 5]);
+        let from = b as usize % (lent.memory.len() + 1);
+        let table = &lent.memory[from..];
+        let error = table_error(table, b);
+        assert!([0, 13, 14, 15, 19].contains(&error));
+        assert!([14, 15].contains(&error) || table_place(table, b) == 0);
+    }
+
+    /// How many rounds of some calls are tried: few, or as many as this variable says.
+    const ROUNDS_VARIABLE: &str = "ZELEZMUT_FUZZ";
+
+    /// Any words, any length: calls return, touch nothing beside what they are lent, and change nothing when they refuse.
+    #[test]
+    fn no_call_goes_over_a_fence() {
+        let rounds = match std::env::var(ROUNDS_VARIABLE) {
+            Ok(rounds) => rounds.parse().expect("a number of rounds"),
+            Err(_) => 2_000,
+        };
+        let mut numbers = Numbers(4);
+        let (mut done, mut refused, mut units) = (0u64, 0u64, 0u64);
+        for _ in 0..rounds {
+            let mut lent = Lent::new(&mut numbers);
+            for _ in 0..6 {
+                let before = lent.clone();
+                call_readers(&lent, &mut numbers);
+                assert!(lent == before);
+                let which = numbers.next() % 3;
+                let said = call(&mut lent, which, &mut numbers);
+                assert!(lent.fences_stand());
+                if said as u8 == 0 {
+                    done += 1;
+                    units += said >> 16;
+                } else {
+                    assert!(lent == before);
+                    refused += 1;
+                }
+            }
+        }
+        // Not all were refused, and not all that were done had nothing to do.
+        let counted = format!("{} done, {} refused, {} units", done, refused, units);
+        assert!(done >= rounds && refused >= rounds, "{}", counted);
+        assert!(units >= rounds / 10, "{}", counted);
+    }
+
+    /// The four words that are read here, held against what the calls say of them.
+    #[test]
+    fn the_words_that_are_read_are_what_the_calls_say() {
+        let mut numbers = Numbers(3);
+        let mut memory = vec![0; MEMORY];
+        let (mut waited, mut rested) = (0, 0);
+        for _ in 0..2_000 {
+            let mut state = numbers.state();
+            assert_eq!(super::memory(&state), MEMORY as u64);
+            let (fence, made) = waiting(&state);
+            let records = if waits(&state) { made } else { 0 };
+            for i in (0..=64).chain([u32::MAX]) {
+                assert_eq!(record(&state, i).0 == 0, i < records);
+            }
+            let waiting_before = waits(&state);
+            let (done, _, _) = answer(&mut state, &mut memory, false, 0);
+            assert_eq!(done == 0, waiting_before);
+            assert!(!waits(&state));
+            if done == 0 {
+                let low = read(&state, registers::ERROR_FENCE_LO).1;
+                let high = read(&state, registers::ERROR_FENCE_HI).1;
+                assert_eq!(u64::from(high) << 32 | u64::from(low), fence);
+                waited += 1;
+            } else {
+                rested += 1;
+            }
+        }
+        assert!(waited > 100 && rested > 100, "{} {}", waited, rested);
     }
 
     /// All that a device keeps.

@@ -1,23 +1,40 @@
 //! What a guest's driver writes into its memory: rings, descriptors, tables and streams, as bytes. For tests and samples; a desk
 //! never needs it.
 //!
-//! All of it is well-formed as far as the types can say. To break a rule on purpose, change the bytes.
+//! All of it is well-formed as far as the types can say. To break a rule on purpose, change the bytes. What does not fit into the
+//! guest's 32-bit fields is a panic, in every build, never a number that wrapped; each function says when.
 
 /// 1.3, the major number in the high 16 bits.
 const VERSION: u32 = 65_539;
 
 const RING_HEADER: usize = 64;
+/// Where the tail stands in a ring's header.
+const TAIL: usize = 28;
 const DESCRIPTOR: usize = 64;
 const TABLE_HEADER: usize = 24;
 const ENTRY: usize = 32;
 const STREAM_HEADER: usize = 24;
+const PACKET_HEADER: u32 = 8;
 
 /// Copies bytes into memory.
 ///
 /// # Panics
 /// If they do not lie within it.
+#[track_caller]
 pub fn put(memory: &mut [u8], gpa: usize, bytes: &[u8]) {
-    memory[gpa..gpa + bytes.len()].copy_from_slice(bytes);
+    let length = memory.len();
+    match memory
+        .get_mut(gpa..)
+        .and_then(|rest| rest.get_mut(..bytes.len()))
+    {
+        Some(place) => place.copy_from_slice(bytes),
+        None => panic!(
+            "{} bytes at {} do not lie within a memory of {}",
+            bytes.len(),
+            gpa,
+            length
+        ),
+    }
 }
 
 /// Puts a little-endian field.
@@ -46,23 +63,62 @@ fn size_of(bytes: &[u8]) -> u32 {
 }
 
 /// The header of a ring whose slots stand close together after it: submissions from `head` to before `tail` are pending.
+///
+/// # Panics
+/// As [`ring_size`] does.
 pub fn ring(slots: u32, head: u32, tail: u32) -> [u8; RING_HEADER] {
     let mut bytes = [0; RING_HEADER];
     header(&mut bytes, *b"ARNG", ring_size(slots));
     word(&mut bytes, 12, slots);
     word(&mut bytes, 16, DESCRIPTOR as u32);
     word(&mut bytes, 24, head);
-    word(&mut bytes, 28, tail);
+    word(&mut bytes, TAIL, tail);
     bytes
 }
 
+/// Moves the tail of the ring that stands at an address: submissions to before it are pending. The rest of the header, and the head, which
+/// is the front's to move, stay as they are.
+///
+/// ```
+/// use zelezmut::guest;
+///
+/// let mut memory = vec![0; 1024];
+/// guest::put(&mut memory, 256, &guest::ring(8, 3, 3));
+/// guest::put_tail(&mut memory, 256, 4);
+/// assert_eq!(memory[256..320], guest::ring(8, 3, 4));
+/// ```
+///
+/// # Panics
+/// If it does not lie within the memory.
+#[track_caller]
+pub fn put_tail(memory: &mut [u8], ring: usize, tail: u32) {
+    match ring.checked_add(TAIL) {
+        Some(at) => put(memory, at, &tail.to_le_bytes()),
+        None => panic!("a ring at {} does not lie within any memory", ring),
+    }
+}
+
+/// The most slots that [`ring_size`] has a size for. The front takes fewer.
+pub const MOST_SLOTS: u32 = (u32::MAX - RING_HEADER as u32) / DESCRIPTOR as u32;
+
 /// The bytes of a ring of so many slots, with its header.
+///
+/// # Panics
+/// If there are more than [`MOST_SLOTS`], whose bytes the ring's size field cannot say.
 pub const fn ring_size(slots: u32) -> u32 {
+    assert!(
+        slots <= MOST_SLOTS,
+        "a ring's size is a number of 32 bits: it has no room for so many slots"
+    );
     RING_HEADER as u32 + slots * DESCRIPTOR as u32
 }
 
 /// Where a slot stands, in bytes from where the ring starts.
+///
+/// # Panics
+/// If the slot is [`MOST_SLOTS`] or above.
 pub const fn slot_offset(slot: u32) -> usize {
+    assert!(slot < MOST_SLOTS, "no ring has a slot of this index");
     ring_size(slot) as usize
 }
 
@@ -77,6 +133,9 @@ pub struct Part {
 
 impl Part {
     /// The part that these bytes take at an address.
+    ///
+    /// # Panics
+    /// If there are 4 GiB or more of them.
     pub fn of(gpa: u64, bytes: &[u8]) -> Part {
         Part {
             gpa,
@@ -127,6 +186,9 @@ pub struct Entry {
 }
 
 /// An allocation table's bytes.
+///
+/// # Panics
+/// If they are 4 GiB or more.
 pub fn table(entries: &[Entry]) -> Vec<u8> {
     let mut bytes = vec![0; TABLE_HEADER + entries.len() * ENTRY];
     let size = size_of(&bytes);
@@ -222,7 +284,8 @@ pub enum Packet {
     Other {
         /// None of the five above.
         opcode: u32,
-        /// Its bytes with its header: at least 8, a multiple of 4.
+        /// Its bytes with its header: at least 8, a multiple of 4. The front refuses any other; of less than 8 there are no bytes
+        /// to write, since the header says this size.
         size: u32,
     },
 }
@@ -241,8 +304,16 @@ impl Packet {
     }
 
     /// The packet's bytes.
+    ///
+    /// # Panics
+    /// If it is [`Packet::Other`] of less than 8 bytes.
     pub fn to_bytes(&self) -> Vec<u8> {
         let (opcode, size) = self.opcode_and_size();
+        assert!(
+            size >= PACKET_HEADER,
+            "a packet of {} bytes has no room for its header of 8",
+            size
+        );
         let mut bytes = vec![0; size as usize];
         word(&mut bytes, 0, opcode);
         word(&mut bytes, 4, size);
@@ -262,6 +333,9 @@ impl Packet {
     /// assert_eq!(grown[4..8], 24u32.to_le_bytes());
     /// assert_eq!(grown[8..16], destroy.to_bytes()[8..]);
     /// ```
+    ///
+    /// # Panics
+    /// As [`to_bytes`](Packet::to_bytes) does, and if the bytes come to 4 GiB.
     pub fn grown(&self, appended: &[u32]) -> Vec<u8> {
         let mut bytes = self.to_bytes();
         for value in appended {
@@ -336,12 +410,18 @@ fn put_backing(bytes: &mut [u8], at: usize, backing: Option<Backing>) {
 }
 
 /// A command stream's bytes.
+///
+/// # Panics
+/// As [`Packet::to_bytes`] does, and if the bytes come to 4 GiB.
 pub fn stream(packets: &[Packet]) -> Vec<u8> {
     let packets: Vec<Vec<u8>> = packets.iter().map(Packet::to_bytes).collect();
     stream_of(&packets)
 }
 
 /// A command stream's bytes, of packets that are bytes already: some [grown](Packet::grown), some not.
+///
+/// # Panics
+/// If they come to 4 GiB.
 pub fn stream_of(packets: &[Vec<u8>]) -> Vec<u8> {
     let mut bytes = vec![0; STREAM_HEADER];
     for packet in packets {
@@ -350,4 +430,73 @@ pub fn stream_of(packets: &[Vec<u8>]) -> Vec<u8> {
     let size = size_of(&bytes);
     header(&mut bytes, *b"ACMD", size);
     bytes
+}
+
+#[cfg(test)]
+mod tests {
+    use super::*;
+    use std::panic::catch_unwind;
+
+    /// What a panic says.
+    fn said<T>(panicking: impl FnOnce() -> T + std::panic::UnwindSafe) -> String {
+        let payload = catch_unwind(panicking).err().expect("a panic");
+        match payload.downcast::<String>() {
+            Ok(said) => *said,
+            Err(payload) => payload
+                .downcast::<&str>()
+                .map_or(String::new(), |said| said.to_string()),
+        }
+    }
+
+    #[test]
+    fn a_ring_has_as_many_slots_as_its_size_can_say() {
+        assert_eq!(ring_size(0), 64);
+        assert_eq!(ring_size(MOST_SLOTS), u32::MAX - 63);
+        assert_eq!(
+            slot_offset(MOST_SLOTS - 1),
+            ring_size(MOST_SLOTS - 1) as usize
+        );
+        for slots in [MOST_SLOTS + 1, 1 << 26, u32::MAX] {
+            assert!(said(|| ring_size(slots)).contains("no room for so many slots"));
+            assert!(said(|| ring(slots, 0, 0)).contains("no room for so many slots"));
+            assert!(said(|| slot_offset(slots)).contains("no ring has a slot"));
+        }
+    }
+
+    #[test]
+    fn what_is_put_lies_within_memory_or_is_told() {
+        let mut memory = [0; 4];
+        put(&mut memory, 2, &[1, 2]);
+        put(&mut memory, 4, &[]);
+        assert_eq!(memory, [0, 0, 1, 2]);
+        for (gpa, bytes) in [
+            (3, &[7, 7][..]),
+            (5, &[]),
+            (usize::MAX, &[7]),
+            (usize::MAX, &[7, 7]),
+        ] {
+            let words = said(|| put(&mut [0; 4], gpa, bytes));
+            let expected = format!(
+                "{} bytes at {} do not lie within a memory of 4",
+                bytes.len(),
+                gpa
+            );
+            assert_eq!(words, expected);
+        }
+        assert!(said(|| put_tail(&mut [0; 31], 0, 1)).contains("4 bytes at 28"));
+        assert!(said(|| put_tail(&mut [0; 32], usize::MAX, 1)).contains("within any memory"));
+    }
+
+    #[test]
+    fn a_packet_has_room_for_its_header() {
+        let other = |size| Packet::Other { opcode: 7, size };
+        assert_eq!(other(8).to_bytes(), [7, 0, 0, 0, 8, 0, 0, 0]);
+        assert_eq!(other(9).to_bytes().len(), 9);
+        for size in 0..8 {
+            let words = format!("a packet of {} bytes has no room for its header of 8", size);
+            assert_eq!(said(|| other(size).to_bytes()), words);
+            assert_eq!(said(|| other(size).grown(&[1, 2])), words);
+            assert_eq!(said(|| stream(&[other(size)])), words);
+        }
+    }
 }

@@ -42,6 +42,8 @@
 //! // The opening, one entry and two packets: four units, then the host's turn.
 //! let ran = desk.run(&mut memory, 100)?;
 //! assert_eq!((ran.units, ran.ended), (4, Ended::Waiting));
+//! let waiting = desk.waiting().expect("a run that ended so leaves a submission that waits");
+//! assert_eq!((waiting.fence, waiting.records), (1, 2));
 //! let records: Vec<Record> = desk.records().collect();
 //! assert_eq!(
 //!     records,
@@ -52,7 +54,7 @@
 //! );
 //!
 //! // The host has done what the records ask, says so and carries on: the fence is finished, and a unit finds no more work.
-//! let ran = desk.answer(&mut memory, HostAnswer::Good, 100)?;
+//! let ran = desk.answer(&mut memory, waiting.ticket, HostAnswer::Good, 100)?;
 //! assert_eq!(desk.completed_fence(), 1);
 //! assert_eq!((ran.units, ran.ended), (1, Ended::Idle));
 //! # Ok::<(), zelezmut::Refused>(())
@@ -61,15 +63,23 @@
 //! # What a host has to know
 //!
 //! - Memory is lent to [`Desk::run`] and [`Desk::answer`] as `&mut [u8]`: nobody else, no virtual processor either, may touch
-//!   it during such a call. Between calls the guest may write anywhere; what was checked is kept, not read again.
+//!   it during such a call. Between calls the guest may write anywhere; what was checked is kept, not read again. Guest memory in
+//!   several regions is lent as one slice: [`Desk::run`] has more.
+//! - A [`Record`] is a range and its resource, no more: its documentation says what a host finds in the stream alone.
+//! - [`Desk::write`] says when the doorbell rang and when the device was reset.
+//! - An answer carries the [`Ticket`] of the submission that was carried out. A guest may reset the device while the host works for
+//!   a submission, and have another one waiting when the host is done: the late answer is refused, and settles nothing.
 //! - To answer and to run again is one call, [`Desk::answer`]: from one submission that waits to the next. Its documentation has
 //!   a host's loop.
 //! - A submission that breaks a rule ends within the run. [`Desk::last_error`] says which rule, and at which table entry or packet.
 //! - A call ends. One unit is one step (an opening, a table entry or a packet), and a run, behind an answer or by itself, takes no
 //!   more than its allowance.
 //! - No call panics on what a guest wrote, and none allocates once the desk is made.
-//! - The static library is x86-64 code. `rt staticlib zelezmut` in the project's root builds it, and so does `./play` there;
-//!   the build script says so if it is missing.
+//! - The static library is code for 64-bit Linux on x86-64, and a build for anything else is refused. `rt staticlib zelezmut` in
+//!   the project's root builds it, and so does `./play` there; the build script warns if it is missing. Checking and documentation
+//!   need no library, linking does.
+//! - The library is looked for in `target/staticlib` of the project, or in the folder that the environment variable
+//!   `ZELEZMUT_LIB_DIR` names while cargo builds. A relative folder counts from where cargo was started; an empty name is none.
 #![deny(unsafe_code)]
 #![warn(missing_docs)]
 
@@ -80,7 +90,9 @@ pub mod guest;
 mod place;
 pub mod registers;
 pub mod script;
+mod ticket;
 
-pub use answers::{DeviceError, Ended, HostAnswer, RecordKind, Refused};
+pub use answers::{DeviceError, Ended, HostAnswer, RecordKind, Refused, UnknownKind, Written};
 pub use desk::{packed_size, table_error, Desk, ErrorReport, Ran, Record, TableError};
 pub use place::Place;
+pub use ticket::{Ticket, Waiting};

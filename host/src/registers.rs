@@ -61,6 +61,42 @@ pub const IRQ_FENCE: u32 = 1;
 /// Bit of [`IRQ_STATUS`]: there was an error.
 pub const IRQ_ERROR: u32 = 2;
 
+/// A register's name, as it stands here: `None` where there is none.
+///
+/// ```
+/// use zelezmut::registers;
+///
+/// assert_eq!(registers::name(0x31C), Some("ERROR_COUNT"));
+/// assert_eq!(registers::name(registers::DOORBELL), Some("DOORBELL"));
+/// assert_eq!(registers::name(0x324), None);
+/// ```
+pub fn name(offset: u32) -> Option<&'static str> {
+    Some(match offset {
+        MAGIC => "MAGIC",
+        VERSION => "VERSION",
+        FEATURES_LO => "FEATURES_LO",
+        FEATURES_HI => "FEATURES_HI",
+        RING_GPA_LO => "RING_GPA_LO",
+        RING_GPA_HI => "RING_GPA_HI",
+        RING_SIZE => "RING_SIZE",
+        CONTROL => "CONTROL",
+        FENCE_GPA_LO => "FENCE_GPA_LO",
+        FENCE_GPA_HI => "FENCE_GPA_HI",
+        COMPLETED_FENCE_LO => "COMPLETED_FENCE_LO",
+        COMPLETED_FENCE_HI => "COMPLETED_FENCE_HI",
+        DOORBELL => "DOORBELL",
+        IRQ_STATUS => "IRQ_STATUS",
+        IRQ_ENABLE => "IRQ_ENABLE",
+        IRQ_ACK => "IRQ_ACK",
+        ERROR_CODE => "ERROR_CODE",
+        ERROR_FENCE_LO => "ERROR_FENCE_LO",
+        ERROR_FENCE_HI => "ERROR_FENCE_HI",
+        ERROR_COUNT => "ERROR_COUNT",
+        ERROR_DETAIL => "ERROR_DETAIL",
+        _ => return None,
+    })
+}
+
 /// Every register that can be read, by rising offset.
 pub const READABLE: [u32; 19] = [
     MAGIC,

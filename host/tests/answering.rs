@@ -1,4 +1,7 @@
 //! The host's answer and the run behind it, in one call: what it comes to, what it costs, and when it is refused.
+mod current;
+
+use current::ticket;
 use zelezmut::guest::{self, Backing, Descriptor, Entry, Packet, Part};
 use zelezmut::{registers, Desk, DeviceError, Ended, HostAnswer, Ran, Record, Refused};
 
@@ -80,7 +83,9 @@ impl Night {
     }
 
     fn answer(&mut self, answer: HostAnswer, allowance: u16) -> Result<Ran, Refused> {
-        self.desk.answer(&mut self.memory, answer, allowance)
+        let ticket = ticket(&self.desk);
+        self.desk
+            .answer(&mut self.memory, ticket, answer, allowance)
     }
 
     fn seen(&self) -> Seen {
@@ -273,8 +278,9 @@ fn an_answer_is_refused_whole_over_another_memory() {
                 for (mut night, left) in [(waiting_before_three(), 0), (rung, 3)] {
                     let before = night.seen();
                     let mut other = vec![0xEE; length];
+                    let ticket = ticket(&night.desk);
                     assert_eq!(
-                        night.desk.answer(&mut other, answer, allowance),
+                        night.desk.answer(&mut other, ticket, answer, allowance),
                         Err(Refused::OtherMemory)
                     );
                     assert!(other.iter().all(|&byte| byte == 0xEE));

@@ -1,4 +1,7 @@
 //! Examples of document 01 through the Rust crate: the whole submissions 9 and 10, some of the small ones, and longer packets.
+mod current;
+
+use current::ticket;
 use zelezmut::guest::{self, Backing, Descriptor, Entry, Packet, Part, Shape};
 use zelezmut::{
     packed_size, registers, table_error, Desk, DeviceError, Ended, ErrorReport, HostAnswer, Place,
@@ -46,7 +49,7 @@ fn one_stream(entries: &[Entry], stream: &[u8]) -> (Desk, Vec<u8>) {
         (registers::CONTROL, registers::CONTROL_ENABLE),
         (registers::DOORBELL, 0),
     ] {
-        assert_eq!(desk.write(offset, value), Ok(()));
+        assert!(desk.write(offset, value).is_ok());
     }
     (desk, memory)
 }
@@ -127,7 +130,7 @@ fn a_good_answer_finishes_the_fence_and_writes_head_and_page() {
     guest::put(&mut expected, FENCE_PAGE + 8, &1u64.to_le_bytes());
 
     assert!(!desk.interrupts());
-    let answered = desk.answer(&mut memory, HostAnswer::Good, 0);
+    let answered = desk.answer(&mut memory, ticket(&desk), HostAnswer::Good, 0);
     assert_eq!(answered, ran(0, Ended::Paused));
     assert!(memory == expected);
     assert_eq!(desk.completed_fence(), 1);
@@ -135,7 +138,7 @@ fn a_good_answer_finishes_the_fence_and_writes_head_and_page() {
     assert_eq!(desk.last_error(), None);
     assert_eq!(desk.records().count(), 0);
     assert_eq!(
-        desk.answer(&mut memory, HostAnswer::Good, 100),
+        desk.answer(&mut memory, ticket(&desk), HostAnswer::Good, 100),
         Err(Refused::NothingWaits)
     );
     assert_eq!(desk.run(&mut memory, 100), ran(1, Ended::Idle));
@@ -145,7 +148,7 @@ fn a_good_answer_finishes_the_fence_and_writes_head_and_page() {
 fn a_failed_answer_is_error_27() {
     let (mut desk, mut memory) = example_9();
     desk.run(&mut memory, 4).unwrap();
-    let answered = desk.answer(&mut memory, HostAnswer::Failed, 100);
+    let answered = desk.answer(&mut memory, ticket(&desk), HostAnswer::Failed, 100);
     assert_eq!(answered, ran(1, Ended::Idle));
     assert_eq!(
         desk.last_error(),

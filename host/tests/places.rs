@@ -1,4 +1,7 @@
 //! Where it broke: the error report through the desk, at entries, at packets and at neither.
+mod current;
+
+use current::ticket;
 use zelezmut::guest::{self, Descriptor, Entry, Packet, Part};
 use zelezmut::{
     registers, table_error, Desk, DeviceError, Ended, ErrorReport, HostAnswer, Place, TableError,
@@ -234,7 +237,7 @@ fn the_place_stays_until_the_next_error() {
     assert_eq!(night.submit(&table, &good), Ended::Waiting);
     night
         .desk
-        .answer(&mut night.memory, HostAnswer::Good, 0)
+        .answer(&mut night.memory, ticket(&night.desk), HostAnswer::Good, 0)
         .unwrap();
     assert_eq!(night.error_and_place(), there);
 
@@ -242,7 +245,12 @@ fn the_place_stays_until_the_next_error() {
     assert_eq!(night.submit(&table, &good), Ended::Waiting);
     night
         .desk
-        .answer(&mut night.memory, HostAnswer::Failed, 0)
+        .answer(
+            &mut night.memory,
+            ticket(&night.desk),
+            HostAnswer::Failed,
+            0,
+        )
         .unwrap();
     assert_eq!(night.error_and_place(), (27, Place::Nowhere));
     assert_eq!(night.detail(), 0);

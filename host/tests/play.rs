@@ -188,7 +188,7 @@ fn a_file_that_is_not_there_is_told() {
 fn bad_use_shows_how_it_is_called() {
     let help = play(&["--help"]);
     assert_eq!(help.status, Some(0));
-    assert!(help.out.starts_with("usage: play [FILE..]\n"));
+    assert!(help.out.starts_with("usage: play [--] [FILE..]\n"));
     let said = play(&["--loud"]);
     assert_eq!((said.status, said.out.as_str()), (Some(2), ""));
     assert!(
@@ -196,4 +196,25 @@ fn bad_use_shows_how_it_is_called() {
         "{}",
         said.err
     );
+}
+
+#[test]
+fn behind_two_dashes_all_words_are_files() {
+    let read = file("dashes.desk", &encode(16, &[Operation::Read { offset: 4 }]));
+    let said = play(&["--", &read, "--help"]);
+    assert_eq!(said.out, format!("script {}\nread 0 65539\n", read));
+    assert_eq!(said.status, Some(1));
+    assert!(
+        said.err.starts_with("play: --help: cannot be read: "),
+        "{}",
+        said.err
+    );
+    assert_eq!(play(&["--"]).out, SAMPLE);
+}
+
+#[test]
+fn an_empty_name_is_told() {
+    let said = play(&[""]);
+    assert_eq!((said.status, said.out.as_str()), (Some(1), ""));
+    assert_eq!(said.err, "play: a file's name is empty\n");
 }

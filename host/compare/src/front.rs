@@ -2,7 +2,7 @@
 
 use crate::shape::Shape;
 pub use plain::{Ended, Ran, Record};
-use zelezmut::{HostAnswer, Refused};
+use zelezmut::{HostAnswer, Refused, Ticket};
 
 pub trait Front {
     /// What messages call it.
@@ -82,15 +82,15 @@ impl Front for zelezmut::Desk {
 
     fn write(&mut self, offset: u32, value: u32) -> u32 {
         match zelezmut::Desk::write(self, offset, value) {
-            Ok(()) => 0,
-            Err(refused) => refused.number(),
+            Ok(_) => 0,
+            Err(refused) => number(refused),
         }
     }
 
     fn read(&self, offset: u32) -> (u32, u32) {
         match zelezmut::Desk::read(self, offset) {
             Ok(value) => (0, value),
-            Err(refused) => (refused.number(), 0),
+            Err(refused) => (number(refused), 0),
         }
     }
 
@@ -101,17 +101,16 @@ impl Front for zelezmut::Desk {
     fn record(&self, i: u32) -> (u32, Record) {
         match zelezmut::Desk::record(self, i) {
             Ok(record) => (0, record_in_numbers(record)),
-            Err(refused) => (refused.number(), Record::default()),
+            Err(refused) => (number(refused), Record::default()),
         }
     }
 
     fn answer(&mut self, memory: &mut [u8], good: bool, allowance: u16) -> Ran {
-        let answer = if good {
-            HostAnswer::Good
-        } else {
-            HostAnswer::Failed
-        };
-        ran(zelezmut::Desk::answer(self, memory, answer, allowance))
+        let ticket = current_ticket(self);
+        let answer = HostAnswer::from(good);
+        ran(zelezmut::Desk::answer(
+            self, memory, ticket, answer, allowance,
+        ))
     }
 
     #[inline]
@@ -138,6 +137,19 @@ impl Front for zelezmut::Desk {
     }
 }
 
+/// The documents know no tickets: an answer is for what waits, and where nothing does no ticket is right.
+#[inline]
+pub(crate) fn current_ticket(desk: &zelezmut::Desk) -> Ticket {
+    desk.waiting()
+        .map_or(Ticket::NONE, |waiting| waiting.ticket)
+}
+
+fn number(refused: Refused) -> u32 {
+    refused
+        .number()
+        .expect("the current ticket is never stale, and all other refusals have a number")
+}
+
 fn ran(ran: Result<zelezmut::Ran, Refused>) -> Ran {
     match ran {
         Ok(ran) => Ran {
@@ -146,7 +158,7 @@ fn ran(ran: Result<zelezmut::Ran, Refused>) -> Ran {
             ended: ended(ran.ended),
         },
         Err(refused) => Ran {
-            answer: refused.number(),
+            answer: number(refused),
             units: 0,
             ended: Ended::Idle,
         },

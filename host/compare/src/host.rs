@@ -2,7 +2,7 @@
 //! instructions that no host has to spend.
 
 use crate::every_mip;
-use crate::front::Front;
+use crate::front::{current_ticket, Front};
 use crate::shape::Shape;
 use zelezmut::registers::DOORBELL;
 use zelezmut::HostAnswer;
@@ -82,12 +82,13 @@ impl Host for zelezmut::Desk {
 
     #[inline]
     fn answered(&mut self, memory: &mut [u8]) -> bool {
-        self.answer(memory, HostAnswer::Good, 0).is_ok()
+        self.answer(memory, current_ticket(self), HostAnswer::Good, 0)
+            .is_ok()
     }
 
     #[inline]
     fn carried_on(&mut self, memory: &mut [u8]) -> u16 {
-        self.answer(memory, HostAnswer::Good, u16::MAX)
+        self.answer(memory, current_ticket(self), HostAnswer::Good, u16::MAX)
             .map_or(0, |ran| ran.units)
     }
 

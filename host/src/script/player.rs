@@ -1,6 +1,6 @@
 //! Plays the operations of a script on a desk, and gives the transcript's lines.
 use super::{Operation, Script};
-use crate::{registers, Desk, Ran, Refused};
+use crate::{registers, Desk, Ran, Refused, Ticket};
 
 /// A desk and its memory, on which operations are played one by one.
 #[derive(Clone, Debug)]
@@ -35,7 +35,10 @@ impl Player {
             Operation::Run { allowance } => ran("run", self.desk.run(&mut self.memory, allowance)),
             Operation::Record { index } => record(&self.desk, index),
             Operation::Answer { answer, allowance } => {
-                let answered = self.desk.answer(&mut self.memory, answer, allowance);
+                let ticket = current_ticket(&self.desk);
+                let answered = self
+                    .desk
+                    .answer(&mut self.memory, ticket, answer, allowance);
                 ran("answer", answered)
             }
             Operation::State => state(&self.desk, &self.memory),
@@ -49,7 +52,8 @@ impl Player {
                 length,
             } => {
                 let mut elsewhere = vec![0; length as usize];
-                let answered = self.desk.answer(&mut elsewhere, answer, allowance);
+                let ticket = current_ticket(&self.desk);
+                let answered = self.desk.answer(&mut elsewhere, ticket, answer, allowance);
                 ran("answer", answered)
             }
         }
@@ -81,9 +85,21 @@ pub fn transcript(script: &Script) -> String {
     lines
 }
 
+/// A script's answers are for what waits, whatever that is. Where nothing does, no ticket is right, and the front says so.
+fn current_ticket(desk: &Desk) -> Ticket {
+    desk.waiting()
+        .map_or(Ticket::NONE, |waiting| waiting.ticket)
+}
+
 /// The call's answer.
 fn number<T>(called: Result<T, Refused>) -> u32 {
-    called.map_or_else(Refused::number, |_| 0)
+    called.map_or_else(refusal, |_| 0)
+}
+
+fn refusal(refused: Refused) -> u32 {
+    refused
+        .number()
+        .unwrap_or_else(|| unreachable!("the current ticket is never stale"))
 }
 
 /// The bytes that fall outside memory are dropped.
@@ -98,7 +114,7 @@ fn poke(memory: &mut [u8], address: usize, bytes: &[u8]) {
 fn ran(call: &str, ran: Result<Ran, Refused>) -> String {
     match ran {
         Ok(ran) => format!("{} 0 {} {}", call, ran.units, ran.ended),
-        Err(refused) => format!("{} {} 0 idle", call, refused.number()),
+        Err(refused) => format!("{} {} 0 idle", call, refusal(refused)),
     }
 }
 
@@ -112,7 +128,7 @@ fn record(desk: &Desk, index: u32) -> String {
             r.gpa,
             r.length
         ),
-        Err(refused) => format!("record {} 0 0 0 0 0", refused.number()),
+        Err(refused) => format!("record {} 0 0 0 0 0", refusal(refused)),
     }
 }
 

@@ -10,13 +10,8 @@ use std::path::Path;
 use std::process::exit;
 use zelezmut::script;
 
-const USAGE: &str = "\
-usage: play [FILE..]
-
-Plays desk scripts through the proved front. For each FILE it prints `script FILE` and the transcript.
-With no FILE it plays a sample night and says what each line means.
-It exits with 1 if a file cannot be read or is no whole script, and with 2 if it is not called like this.
-";
+/// A file of its own, since the script ./play prints it too, before this program is built.
+const USAGE: &str = include_str!("usage.txt");
 
 const FAILED: i32 = 1;
 const BAD_USE: i32 = 2;
@@ -48,7 +43,10 @@ fn play_file(name: &OsStr, out: &mut impl Write) -> io::Result<Option<String>> {
 fn play_files(names: &[OsString], out: &mut impl Write) -> io::Result<i32> {
     let mut status = 0;
     for name in names {
-        if let Some(wrong) = play_file(name, out)? {
+        if name.is_empty() {
+            eprintln!("play: a file's name is empty");
+            status = FAILED;
+        } else if let Some(wrong) = play_file(name, out)? {
             eprintln!("play: {}: {}", Path::new(name).display(), wrong);
             status = FAILED;
         }
@@ -56,8 +54,14 @@ fn play_files(names: &[OsString], out: &mut impl Write) -> io::Result<i32> {
     Ok(status)
 }
 
+/// A word that begins with a dash is an option; behind `--` all words are files.
 fn play(words: &[OsString], out: &mut impl Write) -> io::Result<i32> {
-    let option = words
+    let dashes = words.iter().position(|word| word == "--");
+    let (before, behind) = match dashes {
+        Some(at) => (&words[..at], &words[at + 1..]),
+        None => (words, &[][..]),
+    };
+    let option = before
         .iter()
         .find(|word| word.to_string_lossy().starts_with('-'));
     match option.map(|word| word.to_string_lossy()) {
@@ -69,11 +73,11 @@ fn play(words: &[OsString], out: &mut impl Write) -> io::Result<i32> {
             eprint!("play: there is no option {}\n\n{}", word, USAGE);
             Ok(BAD_USE)
         }
-        None if words.is_empty() => {
+        None if before.is_empty() && behind.is_empty() => {
             sample::play(out)?;
             Ok(0)
         }
-        None => play_files(words, out),
+        None => play_files(&[before, behind].concat(), out),
     }
 }
 

@@ -1,0 +1,88 @@
+/* A submission from ring to fence, by the exports alone: what the crate's documentation plays in Rust. From host/:
+ *
+ *   cc -Iinclude examples/submission.c -o submission ../target/staticlib/libzelezmut.a
+ */
+#include "zelezmut.h"
+
+#include <stdio.h>
+#include <string.h>
+
+#define MEMORY 16384
+#define RING 0
+#define TABLE 1024
+#define STREAM 2048
+
+static struct zelezmut_state device;
+static uint8_t memory[MEMORY];
+
+/* The guest's memory is little-endian, and so is x86-64. */
+static void put32(size_t at, uint32_t value) { memcpy(memory + at, &value, sizeof value); }
+static void put64(size_t at, uint64_t value) { memcpy(memory + at, &value, sizeof value); }
+
+/* What rings, tables and streams begin with. */
+static void put_header(size_t at, const char *magic, uint32_t size) {
+    memcpy(memory + at, magic, 4);
+    put32(at + 4, 65539);
+    put32(at + 8, size);
+}
+
+/* What the guest's driver has written: a ring of eight slots with one submission, its table of one entry, its stream of two packets. */
+static void put_submission(void) {
+    put_header(RING, "ARNG", 64 + 8 * 64);
+    put32(RING + 12, 8);
+    put32(RING + 16, 64);
+    put32(RING + 28, 1); /* the tail */
+
+    put32(RING + 64, 64); /* the first slot */
+    put64(RING + 64 + 16, STREAM);
+    put32(RING + 64 + 24, 24 + 40 + 32);
+    put64(RING + 64 + 32, TABLE);
+    put32(RING + 64 + 40, 24 + 32);
+    put64(RING + 64 + 48, 1); /* the fence */
+
+    put_header(TABLE, "ALOC", 24 + 32);
+    put32(TABLE + 12, 1);
+    put32(TABLE + 16, 32);
+    put32(TABLE + 24, 5); /* id 5: 4096 bytes at 8192 */
+    put64(TABLE + 24 + 8, 8192);
+    put64(TABLE + 24 + 16, 4096);
+
+    put_header(STREAM, "ACMD", 24 + 40 + 32);
+    put32(STREAM + 24, 256); /* create buffer 1: 256 bytes, 64 into entry 5 */
+    put32(STREAM + 28, 40);
+    put32(STREAM + 32, 1);
+    put64(STREAM + 40, 256);
+    put32(STREAM + 48, 5);
+    put32(STREAM + 52, 64);
+    put32(STREAM + 64, 259); /* buffer 1 is dirty: 32 bytes at 16 */
+    put32(STREAM + 68, 32);
+    put32(STREAM + 72, 1);
+    put64(STREAM + 80, 16);
+    put64(STREAM + 88, 32);
+}
+
+static void print_ran(const char *call, uint64_t said) {
+    static const char *const endings[] = {"idle", "waiting", "paused"};
+    printf("%s %u %u %s\n", call, zelezmut_ran_answer(said), zelezmut_ran_units(said), endings[zelezmut_ran_ended(said)]);
+}
+
+int main(void) {
+    put_submission();
+    zelezmut_make(device.words, MEMORY);
+    printf("write %u\n", zelezmut_write(device.words, 0x100, RING));
+    printf("write %u\n", zelezmut_write(device.words, 0x108, 64 + 8 * 64));
+    printf("write %u\n", zelezmut_write(device.words, 0x10C, 1)); /* enable */
+    printf("write %u\n", zelezmut_write(device.words, 0x200, 1)); /* doorbell */
+
+    print_ran("run", zelezmut_run(device.words, device.entries, device.first, device.second, device.records, memory, MEMORY, 100));
+    uint64_t record[5];
+    for (uint32_t i = 0; zelezmut_record(device.words, device.records, i, record) == ZELEZMUT_DONE; i++)
+        printf("record %u: kind %u, handle %u, id %u, %llu bytes at %llu\n", i, (unsigned)record[0], (unsigned)record[1],
+               (unsigned)record[2], (unsigned long long)record[4], (unsigned long long)record[3]);
+
+    /* The host has done what the records ask. */
+    print_ran("answer", zelezmut_answer(device.words, device.entries, device.first, device.second, device.records, memory, MEMORY,
+                                        1, 100));
+    printf("fence %u\n", (unsigned)zelezmut_read(device.words, 0x130));
+    return 0;
+}

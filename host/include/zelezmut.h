@@ -1,0 +1,106 @@
+/* The exports of libzelezmut.a, the proved front of an emulated graphics adapter, for hosts in C and C++.
+ *
+ * The library is code for 64-bit Linux on x86-64. It needs no other library, has no state of its own, keeps no pointer and never
+ * allocates. Every call returns, whatever numbers and bytes stand in what it is lent, and reads and writes nothing else: that is proved.
+ * In return it takes for granted that the caller keeps these rules:
+ *
+ * - Sizes. Every pointer leads to what its type says, all of it: an array of so many words, or `len` bytes. `len` may be 0, and the
+ *   pointer is not NULL then either.
+ * - Alignment. Words stand at multiples of 8 bytes, as C's own rules for uint64_t have it. Bytes may stand anywhere.
+ * - No overlap. What a call is lent for writing overlaps nothing else that it is lent. All parts of a struct zelezmut_state are apart;
+ *   guest memory must not contain the state.
+ * - One thread. During a call nobody else touches what it is lent, no virtual processor of the guest either. Between calls a device may
+ *   go from thread to thread, and calls on different devices over different memories may go on at once.
+ * - One memory. Guest memory is lent as one range of bytes, guest address 0 first. Regions with holes between are mapped into one
+ *   reserved range.
+ *
+ * There is no layout number yet by which a library tells that it is the one of this header: build the two from one tree.
+ *
+ * A refused call, one whose answer is not 0, has changed nothing. The meaning of registers, records and errors is in docs/01-scope.md;
+ * examples/submission.c plays a submission.
+ */
+#ifndef ZELEZMUT_H
+#define ZELEZMUT_H
+
+#if !defined(__x86_64__) || !defined(__linux__) || defined(__ILP32__)
+#error "libzelezmut.a is code for 64-bit Linux on x86-64"
+#endif
+
+#include <stddef.h>
+#include <stdint.h>
+
+#ifdef __cplusplus
+extern "C" {
+#endif
+
+/* Sizes in words of 64 bits: a device's numbers, and 64 rows each of entries, resources (twice) and records. */
+#define ZELEZMUT_WORDS 32
+#define ZELEZMUT_ENTRIES (64 * 4)
+#define ZELEZMUT_RESOURCES (64 * 11)
+#define ZELEZMUT_RECORDS (64 * 5)
+
+/* A device. Its words are the library's own business: zelezmut_make sets them, and the host keeps them. It may be copied. */
+struct zelezmut_state {
+    uint64_t words[ZELEZMUT_WORDS];
+    uint64_t entries[ZELEZMUT_ENTRIES];
+    uint64_t first[ZELEZMUT_RESOURCES];
+    uint64_t second[ZELEZMUT_RESOURCES];
+    uint64_t records[ZELEZMUT_RECORDS];
+};
+
+/* A call's answer. */
+enum {
+    ZELEZMUT_DONE = 0,
+    ZELEZMUT_OTHER_MEMORY = 1,  /* the memory lent has another length than the device was made for */
+    ZELEZMUT_NO_REGISTER = 2,   /* no such register, or not readable, or not writable */
+    ZELEZMUT_NOTHING_WAITS = 3, /* no submission waits for the host's answer */
+    ZELEZMUT_NO_RECORD = 4      /* no submission waits, or it has no record of this index */
+};
+
+/* How a run ended. */
+enum { ZELEZMUT_IDLE = 0, ZELEZMUT_WAITING = 1, ZELEZMUT_PAUSED = 2 };
+
+/* Makes a new device of these words, for a memory of so many bytes. Its arrays may hold anything. */
+void zelezmut_make(uint64_t words[ZELEZMUT_WORDS], uint64_t memory);
+
+/* The guest writes a register: the answer. */
+uint32_t zelezmut_write(uint64_t words[ZELEZMUT_WORDS], uint32_t offset, uint32_t value);
+
+/* The guest reads a register: the value in the low 32 bits, the answer in the high ones. */
+uint64_t zelezmut_read(const uint64_t words[ZELEZMUT_WORDS], uint32_t offset);
+
+/* Works until so many units are spent, nothing is left to do, or a submission waits for the host. zelezmut_ran_.. take apart what it says. */
+uint64_t zelezmut_run(uint64_t words[ZELEZMUT_WORDS], uint64_t entries[ZELEZMUT_ENTRIES], uint64_t first[ZELEZMUT_RESOURCES],
+                      uint64_t second[ZELEZMUT_RESOURCES], uint64_t records[ZELEZMUT_RECORDS], uint8_t *memory, size_t len,
+                      uint16_t allowance);
+
+/* Record i of the submission that waits: the answer. Sets kind, handle, id, address and length; zeros if it is refused. */
+uint32_t zelezmut_record(const uint64_t words[ZELEZMUT_WORDS], const uint64_t records[ZELEZMUT_RECORDS], uint32_t i,
+                         uint64_t said[5]);
+
+/* The host answers the submission that waits, 0 for failed, and the device runs on as zelezmut_run does; said in the same way.
+ *
+ * It is for whatever waits when the call begins. A guest may reset the device while the host works for a submission, and have another
+ * one waiting when the host is done: a host that answers later than it was told keeps count of the resets, which the guest writes to
+ * register 10C (hex) as bit 1, and drops what it was doing for a submission from before. */
+uint64_t zelezmut_answer(uint64_t words[ZELEZMUT_WORDS], uint64_t entries[ZELEZMUT_ENTRIES], uint64_t first[ZELEZMUT_RESOURCES],
+                         uint64_t second[ZELEZMUT_RESOURCES], uint64_t records[ZELEZMUT_RECORDS], uint8_t *memory, size_t len,
+                         uint32_t good, uint16_t allowance);
+
+/* The bytes of a backed texture, 0 for a bad shape. */
+uint64_t zelezmut_packed_size(uint32_t format, uint32_t width, uint32_t height, uint32_t mips, uint32_t layers, uint32_t pitch);
+
+/* The first error of an allocation table for a guest memory of so many bytes, 0 for none; and for errors 14 and 15 its entry's index. */
+uint32_t zelezmut_table_error(const uint8_t *table, size_t len, uint64_t memory);
+uint32_t zelezmut_table_place(const uint8_t *table, size_t len, uint64_t memory);
+
+/* The parts of what zelezmut_run and zelezmut_answer say. */
+static inline uint32_t zelezmut_ran_answer(uint64_t said) { return (uint8_t)said; }
+static inline uint32_t zelezmut_ran_ended(uint64_t said) { return (uint8_t)(said >> 8); }
+static inline uint16_t zelezmut_ran_units(uint64_t said) { return (uint16_t)(said >> 16); }
+
+#ifdef __cplusplus
+}
+#endif
+
+#endif
