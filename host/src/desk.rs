@@ -1,6 +1,7 @@
 //! The desk: the proved front with its state, as a Rust value with safe methods.
 use crate::answers::{DeviceError, Ended, HostAnswer, RecordKind, Refused, Written};
-use crate::place::Place;
+use crate::place::{write_error_at, Place};
+use crate::state::State;
 use crate::ticket::{Ticket, Waiting};
 use crate::{front, registers};
 use std::error::Error;
@@ -10,8 +11,12 @@ use std::fmt;
 ///
 /// It owns its state, some 16 KB in a box: it moves cheaply and no call allocates. A clone goes its own way from there, and has its
 /// own tickets: what was begun for the original is not answered at the clone.
+///
+/// Two desks are equal if every call that comes does the same at both: registers, doorbell flag, the memory's length, resources by their
+/// handles, and the submission in work with all that was kept of it. How they came there says nothing, nor in how many slices; and tickets are
+/// left out, so a clone is equal.
 pub struct Desk {
-    state: Box<front::State>,
+    state: Box<State>,
     /// Of the submission that waits, else of the next that will.
     ticket: Ticket,
 }
@@ -24,6 +29,14 @@ impl Clone for Desk {
         }
     }
 }
+
+impl PartialEq for Desk {
+    fn eq(&self, other: &Desk) -> bool {
+        self.state == other.state
+    }
+}
+
+impl Eq for Desk {}
 
 /// What a run did, by itself or behind an answer.
 #[derive(Clone, Copy, Debug, PartialEq, Eq, Hash)]
@@ -48,7 +61,7 @@ impl Ran {
 /// A checked range of guest memory, for the host to work on.
 ///
 /// It says where guest memory is to be read or written, and for which resource. What else the submission asks of the host is in its
-/// stream alone:
+/// stream alone, which [`decode`](crate::guest::decode) reads:
 ///
 /// - where within the resource the range is. A create's record, [`RecordKind::Backs`], has the whole resource: a later range's `gpa`
 ///   less that one's is the offset, as long as the resource's entry has not moved since;
@@ -87,10 +100,7 @@ pub struct ErrorReport {
 
 impl fmt::Display for ErrorReport {
     fn fmt(&self, f: &mut fmt::Formatter<'_>) -> fmt::Result {
-        write!(f, "error {}", self.error.number())?;
-        if self.place != Place::Nowhere {
-            write!(f, " {}", self.place)?;
-        }
+        write_error_at(f, self.error, self.place)?;
         if self.error != DeviceError::BadRing {
             write!(f, ", fence {}", self.fence)?;
         }
@@ -111,10 +121,8 @@ pub struct TableError {
 
 impl fmt::Display for TableError {
     fn fmt(&self, f: &mut fmt::Formatter<'_>) -> fmt::Result {
-        write!(f, "error {}", self.error.number())?;
-        if let Some(index) = self.entry {
-            write!(f, " {}", Place::Entry(index))?;
-        }
+        let place = self.entry.map_or(Place::Nowhere, Place::Entry);
+        write_error_at(f, self.error, place)?;
         write!(f, ": {}", self.error)
     }
 }
@@ -123,6 +131,10 @@ impl Error for TableError {}
 
 impl Desk {
     /// A new desk for a guest memory of so many bytes, disabled, with all registers as after power-on.
+    ///
+    /// # Panics
+    /// If a `libzelezmut.a` of another version than this crate's is linked: the first call asks for the number of its layout. A
+    /// library from before there was one cannot be linked at all, and the linker misses `zelezmut_layout`.
     pub fn new(memory: usize) -> Desk {
         Desk {
             state: front::make(memory as u64),
@@ -133,7 +145,7 @@ impl Desk {
     /// The bytes of the guest memory that the desk was made for.
     #[inline]
     pub fn memory_len(&self) -> usize {
-        front::memory(&self.state) as usize
+        self.state.memory() as usize
     }
 
     /// The guest writes a register. What comes back says whether a host has more to do than to go on.
@@ -144,9 +156,9 @@ impl Desk {
     /// [`Refused::NoRegister`] if no register that can be written has this offset.
     #[inline]
     pub fn write(&mut self, offset: u32, value: u32) -> Result<Written, Refused> {
-        let waited = front::waits(&self.state);
+        let waited = self.state.waits();
         Refused::from_answer(front::write(&mut self.state, offset, value))?;
-        if waited && !front::waits(&self.state) {
+        if waited && !self.state.waits() {
             self.ticket.use_up();
         }
         Ok(match offset {
@@ -213,10 +225,10 @@ impl Desk {
     /// The submission that waits for the host's answer, if one does.
     #[inline]
     pub fn waiting(&self) -> Option<Waiting> {
-        if !front::waits(&self.state) {
+        if !self.state.waits() {
             return None;
         }
-        let (fence, records) = front::waiting(&self.state);
+        let (fence, records) = self.state.waiting();
         Some(Waiting {
             ticket: self.ticket,
             fence,
@@ -273,7 +285,7 @@ impl Desk {
         answer: HostAnswer,
         allowance: u16,
     ) -> Result<Ran, Refused> {
-        if ticket != self.ticket && front::waits(&self.state) {
+        if ticket != self.ticket && self.state.waits() {
             return Err(self.refused_for_ticket(memory));
         }
         let good = answer == HostAnswer::Good;
@@ -347,6 +359,9 @@ impl fmt::Debug for Desk {
 /// assert_eq!(zelezmut::packed_size(1, 5, 3, 3, 1, 20), Some(72));
 /// assert_eq!(zelezmut::packed_size(1, 5, 3, 3, 1, 19), None);
 /// ```
+///
+/// # Panics
+/// As [`Desk::new`] does.
 #[inline]
 pub fn packed_size(
     format: u32,
@@ -379,6 +394,9 @@ pub fn packed_size(
 ///     Some(TableError { error: DeviceError::BadEntry, entry: Some(1) })
 /// );
 /// ```
+///
+/// # Panics
+/// As [`Desk::new`] does.
 #[inline]
 pub fn table_error(table: &[u8], memory: u64) -> Option<TableError> {
     let error = DeviceError::from_front(front::table_error(table, memory))?;

@@ -1,20 +1,35 @@
-//! What a guest's driver writes into its memory: rings, descriptors, tables and streams, as bytes. For tests and samples; a desk
-//! never needs it.
+//! What a guest's driver writes into its memory, as bytes: rings, descriptors, tables and streams; and, for a host that carries a
+//! submission out, what it finds there: [`at_head`] and [`decode`].
 //!
-//! All of it is well-formed as far as the types can say. To break a rule on purpose, change the bytes. What does not fit into the
-//! guest's 32-bit fields is a panic, in every build, never a number that wrapped; each function says when.
+//! What is written here is for tests and samples, and well-formed as far as the types can say. To break a rule on purpose, change the
+//! bytes. What does not fit into the guest's 32-bit fields is a panic, in every build, never a number that wrapped; each function says
+//! when. What is read here was written by a guest: it is never a panic, whatever it is.
+mod decoding;
+mod fields;
+mod packet;
+
+pub use decoding::{decode, Decoded, Packets, StreamError};
+pub use packet::{stream, stream_of, Backing, Packet, Shape};
+
+use fields::{put_field, put_long, put_word, Fields};
 
 /// 1.3, the major number in the high 16 bits.
-const VERSION: u32 = 65_539;
+const VERSION: u32 = MAJOR << 16 | 3;
+const MAJOR: u32 = 1;
 
 const RING_HEADER: usize = 64;
-/// Where the tail stands in a ring's header.
+/// Where the fields stand in a ring's header that are used here.
+const COUNT: usize = 12;
+const STRIDE: usize = 16;
+const HEAD: usize = 24;
 const TAIL: usize = 28;
 const DESCRIPTOR: usize = 64;
+/// The only flag of a descriptor that means something.
+const SILENT: u32 = 1;
 const TABLE_HEADER: usize = 24;
 const ENTRY: usize = 32;
 const STREAM_HEADER: usize = 24;
-const PACKET_HEADER: u32 = 8;
+const STREAM_MAGIC: [u8; 4] = *b"ACMD";
 
 /// Copies bytes into memory.
 ///
@@ -37,24 +52,11 @@ pub fn put(memory: &mut [u8], gpa: usize, bytes: &[u8]) {
     }
 }
 
-/// Puts a little-endian field.
-fn field<const N: usize>(bytes: &mut [u8], at: usize, value: [u8; N]) {
-    bytes[at..at + N].copy_from_slice(&value);
-}
-
-fn word(bytes: &mut [u8], at: usize, value: u32) {
-    field(bytes, at, value.to_le_bytes());
-}
-
-fn long(bytes: &mut [u8], at: usize, value: u64) {
-    field(bytes, at, value.to_le_bytes());
-}
-
 /// What the headers of rings, tables and streams begin with.
 fn header(bytes: &mut [u8], magic: [u8; 4], size: u32) {
-    field(bytes, 0, magic);
-    word(bytes, 4, VERSION);
-    word(bytes, 8, size);
+    put_field(bytes, 0, magic);
+    put_word(bytes, 4, VERSION);
+    put_word(bytes, 8, size);
 }
 
 /// The bytes of what is lent, as a size field says them.
@@ -69,10 +71,10 @@ fn size_of(bytes: &[u8]) -> u32 {
 pub fn ring(slots: u32, head: u32, tail: u32) -> [u8; RING_HEADER] {
     let mut bytes = [0; RING_HEADER];
     header(&mut bytes, *b"ARNG", ring_size(slots));
-    word(&mut bytes, 12, slots);
-    word(&mut bytes, 16, DESCRIPTOR as u32);
-    word(&mut bytes, 24, head);
-    word(&mut bytes, TAIL, tail);
+    put_word(&mut bytes, COUNT, slots);
+    put_word(&mut bytes, STRIDE, DESCRIPTOR as u32);
+    put_word(&mut bytes, HEAD, head);
+    put_word(&mut bytes, TAIL, tail);
     bytes
 }
 
@@ -142,6 +144,16 @@ impl Part {
             size: size_of(bytes),
         }
     }
+
+    /// The part's bytes in a memory; `None` if it does not lie within.
+    pub fn within(self, memory: &[u8]) -> Option<&[u8]> {
+        part(memory, self.gpa, self.size as usize)
+    }
+}
+
+/// So many bytes of a memory, from an address on.
+fn part(memory: &[u8], gpa: u64, size: usize) -> Option<&[u8]> {
+    Fields(memory).part(usize::try_from(gpa).ok()?, size)
 }
 
 /// A submission, as a ring's slot holds it. The default has no stream, no table and fence 0.
@@ -161,15 +173,56 @@ impl Descriptor {
     /// The slot's bytes.
     pub fn to_bytes(&self) -> [u8; DESCRIPTOR] {
         let mut bytes = [0; DESCRIPTOR];
-        word(&mut bytes, 0, DESCRIPTOR as u32);
-        word(&mut bytes, 4, self.silent.into());
-        long(&mut bytes, 16, self.commands.gpa);
-        word(&mut bytes, 24, self.commands.size);
-        long(&mut bytes, 32, self.table.gpa);
-        word(&mut bytes, 40, self.table.size);
-        long(&mut bytes, 48, self.fence);
+        put_word(&mut bytes, 0, DESCRIPTOR as u32);
+        put_word(&mut bytes, 4, if self.silent { SILENT } else { 0 });
+        put_long(&mut bytes, 16, self.commands.gpa);
+        put_word(&mut bytes, 24, self.commands.size);
+        put_long(&mut bytes, 32, self.table.gpa);
+        put_word(&mut bytes, 40, self.table.size);
+        put_long(&mut bytes, 48, self.fence);
         bytes
     }
+
+    /// The submission that a slot's bytes hold, none of it judged; `None` if there are fewer bytes than a descriptor has.
+    pub fn from_bytes(slot: &[u8]) -> Option<Descriptor> {
+        let fields = Fields(slot.get(..DESCRIPTOR)?);
+        let part = |gpa, size| {
+            Some(Part {
+                gpa: fields.long(gpa)?,
+                size: fields.word(size)?,
+            })
+        };
+        Some(Descriptor {
+            commands: part(16, 24)?,
+            table: part(32, 40)?,
+            fence: fields.long(48)?,
+            silent: fields.word(4)? & SILENT != 0,
+        })
+    }
+}
+
+/// The submission at the head of the ring that stands at an address. While one is in work it is that one: the front moves the head on
+/// when it settles. `None` if there is no ring of at least one slot there, or its head's slot does not lie within the memory.
+///
+/// A host that carries a submission out finds its stream so. Ring and slot are read where they stand now, and none of it is judged: the guest
+/// may have changed them since the front opened the submission.
+///
+/// ```
+/// use zelezmut::guest::{self, Descriptor};
+///
+/// let mut memory = vec![0; 1024];
+/// let submission = Descriptor { fence: 7, ..Descriptor::default() };
+/// guest::put(&mut memory, 256, &guest::ring(4, 6, 7));
+/// guest::put(&mut memory, 256 + guest::slot_offset(2), &submission.to_bytes());
+/// assert_eq!(guest::at_head(&memory, 256), Some(submission));
+/// assert_eq!(guest::at_head(&memory, 1024), None);
+/// ```
+pub fn at_head(memory: &[u8], ring: u64) -> Option<Descriptor> {
+    let header = Fields(part(memory, ring, RING_HEADER)?);
+    let slot = header.word(HEAD)?.checked_rem(header.word(COUNT)?)?;
+    let slots = u64::from(slot).checked_mul(header.word(STRIDE)?.into())?;
+    let at = ring.checked_add(RING_HEADER as u64)?.checked_add(slots)?;
+    Descriptor::from_bytes(part(memory, at, DESCRIPTOR)?)
 }
 
 /// A table entry: a part of guest memory that packets name by its id.
@@ -193,242 +246,14 @@ pub fn table(entries: &[Entry]) -> Vec<u8> {
     let mut bytes = vec![0; TABLE_HEADER + entries.len() * ENTRY];
     let size = size_of(&bytes);
     header(&mut bytes, *b"ALOC", size);
-    word(&mut bytes, 12, (size - TABLE_HEADER as u32) / ENTRY as u32);
-    word(&mut bytes, 16, ENTRY as u32);
+    put_word(&mut bytes, 12, (size - TABLE_HEADER as u32) / ENTRY as u32);
+    put_word(&mut bytes, 16, ENTRY as u32);
     for (row, entry) in bytes[TABLE_HEADER..].chunks_exact_mut(ENTRY).zip(entries) {
-        word(row, 0, entry.id);
-        word(row, 4, entry.read_only.into());
-        long(row, 8, entry.gpa);
-        long(row, 16, entry.size);
+        put_word(row, 0, entry.id);
+        put_word(row, 4, entry.read_only.into());
+        put_long(row, 8, entry.gpa);
+        put_long(row, 16, entry.size);
     }
-    bytes
-}
-
-/// Where a resource lives in guest memory.
-#[derive(Clone, Copy, Debug, PartialEq, Eq)]
-pub struct Backing {
-    /// A table entry's id, not 0.
-    pub id: u32,
-    /// Bytes from where the entry starts.
-    pub offset: u32,
-}
-
-/// A texture's shape.
-#[derive(Clone, Copy, Debug, PartialEq, Eq)]
-pub struct Shape {
-    /// 1, 2 or 3: 4 bytes a pixel. 64: 8 bytes a block of 4 by 4. 65 or 66: 16 bytes a block.
-    pub format: u32,
-    /// Pixels of mip 0.
-    pub width: u32,
-    /// Pixels of mip 0.
-    pub height: u32,
-    /// At least 1, at most the full chain.
-    pub mips: u32,
-    /// At least 1, at most 256.
-    pub layers: u32,
-    /// Bytes of a row of mip 0; it counts only where the texture is backed.
-    pub pitch: u32,
-}
-
-/// A packet of a command stream.
-#[derive(Clone, Copy, Debug, PartialEq, Eq)]
-pub enum Packet {
-    /// Makes a buffer; without backing it lives with the host.
-    CreateBuffer {
-        /// The new resource's handle.
-        handle: u32,
-        /// Its bytes.
-        size: u64,
-        /// Its guest memory.
-        backing: Option<Backing>,
-    },
-    /// Makes a texture; without backing it lives with the host.
-    CreateTexture {
-        /// The new resource's handle.
-        handle: u32,
-        /// Its shape.
-        shape: Shape,
-        /// Its guest memory.
-        backing: Option<Backing>,
-    },
-    /// Ends a resource.
-    Destroy {
-        /// The resource's handle.
-        handle: u32,
-    },
-    /// The guest has changed a range of a backed resource.
-    DirtyRange {
-        /// The resource's handle.
-        handle: u32,
-        /// Bytes from where the resource starts.
-        offset: u64,
-        /// The range's bytes.
-        size: u64,
-    },
-    /// Copies from buffer to buffer.
-    CopyBuffer {
-        /// The buffer copied to.
-        destination: u32,
-        /// The buffer copied from.
-        source: u32,
-        /// Bytes from where the destination starts.
-        destination_offset: u64,
-        /// Bytes from where the source starts.
-        source_offset: u64,
-        /// The bytes copied.
-        size: u64,
-        /// The result goes back to guest memory.
-        writeback: bool,
-    },
-    /// A packet that the front skips, zeros after its header.
-    Other {
-        /// None of the five above.
-        opcode: u32,
-        /// Its bytes with its header: at least 8, a multiple of 4. The front refuses any other; of less than 8 there are no bytes
-        /// to write, since the header says this size.
-        size: u32,
-    },
-}
-
-impl Packet {
-    /// The packet's row of document 01's table. A known packet may be longer than its row says, not shorter.
-    fn opcode_and_size(&self) -> (u32, u32) {
-        match *self {
-            Packet::CreateBuffer { .. } => (256, 40),
-            Packet::CreateTexture { .. } => (257, 56),
-            Packet::Destroy { .. } => (258, 16),
-            Packet::DirtyRange { .. } => (259, 32),
-            Packet::CopyBuffer { .. } => (261, 48),
-            Packet::Other { opcode, size } => (opcode, size),
-        }
-    }
-
-    /// The packet's bytes.
-    ///
-    /// # Panics
-    /// If it is [`Packet::Other`] of less than 8 bytes.
-    pub fn to_bytes(&self) -> Vec<u8> {
-        let (opcode, size) = self.opcode_and_size();
-        assert!(
-            size >= PACKET_HEADER,
-            "a packet of {} bytes has no room for its header of 8",
-            size
-        );
-        let mut bytes = vec![0; size as usize];
-        word(&mut bytes, 0, opcode);
-        word(&mut bytes, 4, size);
-        self.put_fields(&mut bytes);
-        bytes
-    }
-
-    /// The packet's bytes as a driver of a higher minor version sends them: its own fields, and these words appended, which the
-    /// front ignores. So it comes to what [`to_bytes`](Packet::to_bytes) comes to; [`stream_of`] puts it into a stream.
-    ///
-    /// ```
-    /// use zelezmut::guest::Packet;
-    ///
-    /// let destroy = Packet::Destroy { handle: 7 };
-    /// let grown = destroy.grown(&[1, 2]);
-    /// assert_eq!(grown.len(), 24);
-    /// assert_eq!(grown[4..8], 24u32.to_le_bytes());
-    /// assert_eq!(grown[8..16], destroy.to_bytes()[8..]);
-    /// ```
-    ///
-    /// # Panics
-    /// As [`to_bytes`](Packet::to_bytes) does, and if the bytes come to 4 GiB.
-    pub fn grown(&self, appended: &[u32]) -> Vec<u8> {
-        let mut bytes = self.to_bytes();
-        for value in appended {
-            bytes.extend(value.to_le_bytes());
-        }
-        let size = size_of(&bytes);
-        word(&mut bytes, 4, size);
-        bytes
-    }
-
-    fn put_fields(&self, bytes: &mut [u8]) {
-        match *self {
-            Packet::CreateBuffer {
-                handle,
-                size,
-                backing,
-            } => {
-                word(bytes, 8, handle);
-                long(bytes, 16, size);
-                put_backing(bytes, 24, backing);
-            }
-            Packet::CreateTexture {
-                handle,
-                shape,
-                backing,
-            } => {
-                word(bytes, 8, handle);
-                word(bytes, 16, shape.format);
-                word(bytes, 20, shape.width);
-                word(bytes, 24, shape.height);
-                word(bytes, 28, shape.mips);
-                word(bytes, 32, shape.layers);
-                word(bytes, 36, shape.pitch);
-                put_backing(bytes, 40, backing);
-            }
-            Packet::Destroy { handle } => word(bytes, 8, handle),
-            Packet::DirtyRange {
-                handle,
-                offset,
-                size,
-            } => {
-                word(bytes, 8, handle);
-                long(bytes, 16, offset);
-                long(bytes, 24, size);
-            }
-            Packet::CopyBuffer {
-                destination,
-                source,
-                destination_offset,
-                source_offset,
-                size,
-                writeback,
-            } => {
-                word(bytes, 8, destination);
-                word(bytes, 12, source);
-                long(bytes, 16, destination_offset);
-                long(bytes, 24, source_offset);
-                long(bytes, 32, size);
-                word(bytes, 40, writeback.into());
-            }
-            Packet::Other { .. } => (),
-        }
-    }
-}
-
-/// Zeros say that the resource lives with the host.
-fn put_backing(bytes: &mut [u8], at: usize, backing: Option<Backing>) {
-    if let Some(Backing { id, offset }) = backing {
-        word(bytes, at, id);
-        word(bytes, at + 4, offset);
-    }
-}
-
-/// A command stream's bytes.
-///
-/// # Panics
-/// As [`Packet::to_bytes`] does, and if the bytes come to 4 GiB.
-pub fn stream(packets: &[Packet]) -> Vec<u8> {
-    let packets: Vec<Vec<u8>> = packets.iter().map(Packet::to_bytes).collect();
-    stream_of(&packets)
-}
-
-/// A command stream's bytes, of packets that are bytes already: some [grown](Packet::grown), some not.
-///
-/// # Panics
-/// If they come to 4 GiB.
-pub fn stream_of(packets: &[Vec<u8>]) -> Vec<u8> {
-    let mut bytes = vec![0; STREAM_HEADER];
-    for packet in packets {
-        bytes.extend(packet);
-    }
-    let size = size_of(&bytes);
-    header(&mut bytes, *b"ACMD", size);
     bytes
 }
 
@@ -488,8 +313,58 @@ mod tests {
     }
 
     #[test]
+    fn a_descriptor_is_read_back() {
+        let written = Descriptor {
+            commands: Part {
+                gpa: 1 << 40,
+                size: 2,
+            },
+            table: Part {
+                gpa: u64::MAX,
+                size: u32::MAX,
+            },
+            fence: 5,
+            silent: true,
+        };
+        let mut bytes = written.to_bytes();
+        assert_eq!(Descriptor::from_bytes(&bytes), Some(written));
+        assert_eq!(Descriptor::from_bytes(&bytes[..63]), None);
+        bytes[4] = 0xFE;
+        assert!(!Descriptor::from_bytes(&bytes).unwrap().silent);
+        assert_eq!(
+            written
+                .commands
+                .within(&[0; 64])
+                .or(written.table.within(&[])),
+            None
+        );
+        assert_eq!(Part { gpa: 1, size: 2 }.within(b"abcd"), Some(&b"bc"[..]));
+        assert_eq!(Part::default().within(&[]), Some(&[][..]));
+    }
+
+    /// Numbers in the ring's header lead nowhere but into the memory.
+    #[test]
+    fn a_head_is_within_memory_or_nowhere() {
+        let mut memory = [0; 256];
+        put(&mut memory, 0, &ring(3, 5, 6));
+        assert!(at_head(&memory, 0).is_some());
+        assert_eq!(at_head(&memory[..255], 0), None);
+        for address in [1 << 20, u64::MAX - 63, u64::MAX] {
+            assert_eq!(at_head(&memory, address), None);
+        }
+        put(&mut memory, COUNT, &[0; 4]);
+        assert_eq!(at_head(&memory, 0), None);
+        for far in [HEAD, COUNT, STRIDE] {
+            put(&mut memory, far, &[0xFF; 4]);
+        }
+        assert!(at_head(&memory, 0).is_some());
+        put(&mut memory, HEAD, &[0xFE; 4]);
+        assert_eq!(at_head(&memory, 0), None);
+    }
+
+    #[test]
     fn a_packet_has_room_for_its_header() {
-        let other = |size| Packet::Other { opcode: 7, size };
+        let other = |size| Packet::Unknown { opcode: 7, size };
         assert_eq!(other(8).to_bytes(), [7, 0, 0, 0, 8, 0, 0, 0]);
         assert_eq!(other(9).to_bytes().len(), 9);
         for size in 0..8 {

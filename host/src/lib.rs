@@ -60,12 +60,30 @@
 //! # Ok::<(), zelezmut::Refused>(())
 //! ```
 //!
+//! # How a host carries a submission out
+//!
+//! When a run ends [waiting](Ended::Waiting), all of the submission was checked. Each range of guest memory that the host is to read or
+//! write is a [`Record`]; what a record does not say (the source of a copy, where within a resource a range is, resources that live
+//! with the host) stands in the submission's stream. So a host
+//!
+//! 1. takes the ticket from [`Desk::waiting`] and the records from [`Desk::records`];
+//! 2. finds the stream by [`guest::at_head`], and reads its packets by [`guest::decode`], once, from a copy;
+//! 3. does what each packet says, with the next record where the packet names guest memory: the records come in the packets' order;
+//! 4. answers with the ticket: [`Good`](HostAnswer::Good), or [`Failed`](HostAnswer::Failed) if something did not fit.
+//!
+//! **Guest memory may have changed since it was checked**: the guest runs between the slices of a run, and while the host works. What
+//! the front gives (records, registers) is not touched by that; what a host reads from guest memory by itself is. It judges every handle,
+//! offset and size of a packet by what it keeps of its own, and takes addresses from records alone. `examples/emulator.rs` is a small
+//! emulator that does all this: `cargo run --example emulator`.
+//!
 //! # What a host has to know
 //!
 //! - Memory is lent to [`Desk::run`] and [`Desk::answer`] as `&mut [u8]`: nobody else, no virtual processor either, may touch
 //!   it during such a call. Between calls the guest may write anywhere; what was checked is kept, not read again. Guest memory in
 //!   several regions is lent as one slice: [`Desk::run`] has more.
 //! - A [`Record`] is a range and its resource, no more: its documentation says what a host finds in the stream alone.
+//! - No rule bounds a buffer that lives with the host: a guest may ask for 2^64 - 1 bytes. The host's own limit is an answer
+//!   [`Failed`](HostAnswer::Failed).
 //! - [`Desk::write`] says when the doorbell rang and when the device was reset.
 //! - An answer carries the [`Ticket`] of the submission that was carried out. A guest may reset the device while the host works for
 //!   a submission, and have another one waiting when the host is done: the late answer is refused, and settles nothing.
@@ -75,11 +93,14 @@
 //! - A call ends. One unit is one step (an opening, a table entry or a packet), and a run, behind an answer or by itself, takes no
 //!   more than its allowance.
 //! - No call panics on what a guest wrote, and none allocates once the desk is made.
+//! - Desks compare by meaning: `==` of two that came to the same by different slices holds.
 //! - The static library is code for 64-bit Linux on x86-64, and a build for anything else is refused. `rt staticlib zelezmut` in
 //!   the project's root builds it, and so does `./play` there; the build script warns if it is missing. Checking and documentation
 //!   need no library, linking does.
 //! - The library is looked for in `target/staticlib` of the project, or in the folder that the environment variable
 //!   `ZELEZMUT_LIB_DIR` names while cargo builds. A relative folder counts from where cargo was started; an empty name is none.
+//! - Before its first call the crate asks the library for the number of its layout. One of another version is a panic that names both
+//!   numbers, before any state is lent to it; one from before there was such a number does not link, for want of `zelezmut_layout`.
 #![deny(unsafe_code)]
 #![warn(missing_docs)]
 
@@ -87,9 +108,13 @@ mod answers;
 mod desk;
 mod front;
 pub mod guest;
+mod meaning;
+#[cfg(test)]
+mod numbers;
 mod place;
 pub mod registers;
 pub mod script;
+mod state;
 mod ticket;
 
 pub use answers::{DeviceError, Ended, HostAnswer, RecordKind, Refused, UnknownKind, Written};

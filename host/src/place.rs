@@ -62,6 +62,19 @@ impl fmt::Display for Place {
     }
 }
 
+/// What a line for a log begins with: the error's number, and its place if it has one.
+pub(crate) fn write_error_at(
+    f: &mut fmt::Formatter<'_>,
+    error: DeviceError,
+    place: Place,
+) -> fmt::Result {
+    write!(f, "error {}", error.number())?;
+    match place {
+        Place::Nowhere => Ok(()),
+        Place::Entry(_) | Place::Packet(_) => write!(f, " {}", place),
+    }
+}
+
 #[cfg(test)]
 mod tests {
     use super::*;

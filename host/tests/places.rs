@@ -191,7 +191,7 @@ fn the_first_entry_is_a_place_though_its_index_is_0() {
 #[test]
 fn offsets_count_every_byte_before_the_packet() {
     let dead = destroy(9).to_bytes();
-    let other = Packet::Other {
+    let other = Packet::Unknown {
         opcode: 7,
         size: 12,
     };

@@ -209,7 +209,7 @@ fn readback() -> Scene {
                     offset: 0,
                 }),
             },
-            Packet::Other {
+            Packet::Unknown {
                 opcode: 1537,
                 size: 64,
             },

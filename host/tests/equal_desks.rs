@@ -1,0 +1,286 @@
+//! Desks compare by what they mean: how they came there, in how many slices and by which rows, says nothing.
+mod current;
+
+use current::ticket;
+use zelezmut::guest::{self, Backing, Descriptor, Entry, Packet, Part, Shape};
+use zelezmut::{registers, Desk, Ended, HostAnswer};
+
+const MEMORY: usize = 16_384;
+const TABLE: usize = 1024;
+const STREAM: usize = 2048;
+const SLOTS: u32 = 4;
+const BACKING: Option<Backing> = Some(Backing { id: 5, offset: 64 });
+
+#[derive(Clone)]
+struct Night {
+    desk: Desk,
+    memory: Vec<u8>,
+    tail: u32,
+}
+
+impl Night {
+    fn new() -> Night {
+        let mut night = Night {
+            desk: Desk::new(MEMORY),
+            memory: vec![0; MEMORY],
+            tail: 0,
+        };
+        guest::put(&mut night.memory, 0, &guest::ring(SLOTS, 0, 0));
+        night.write(registers::RING_SIZE, guest::ring_size(SLOTS));
+        night.write(registers::CONTROL, registers::CONTROL_ENABLE);
+        night
+    }
+
+    fn write(&mut self, offset: u32, value: u32) {
+        self.desk.write(offset, value).unwrap();
+    }
+
+    /// Puts a submission of fence 1 into the ring, with a table of these ids.
+    fn submit(&mut self, ids: &[u32], packets: &[Packet]) {
+        let entry = |&id| Entry {
+            id,
+            gpa: 8192,
+            size: 4096,
+            read_only: false,
+        };
+        let entries: Vec<Entry> = ids.iter().map(entry).collect();
+        let (table, stream) = (guest::table(&entries), guest::stream(packets));
+        let descriptor = Descriptor {
+            commands: Part::of(STREAM as u64, &stream),
+            table: Part::of(TABLE as u64, &table),
+            fence: 1,
+            silent: false,
+        };
+        let slot = guest::slot_offset(self.tail % SLOTS);
+        self.tail += 1;
+        guest::put_tail(&mut self.memory, 0, self.tail);
+        guest::put(&mut self.memory, slot, &descriptor.to_bytes());
+        guest::put(&mut self.memory, TABLE, &table);
+        guest::put(&mut self.memory, STREAM, &stream);
+        self.write(registers::DOORBELL, 1);
+    }
+
+    fn run(&mut self, allowance: u16) -> Ended {
+        let ran = self.desk.run(&mut self.memory, allowance).unwrap();
+        ran.ended
+    }
+
+    /// Works in such slices until nothing is left to do; what waits gets this answer.
+    fn rest(&mut self, slice: u16, answer: HostAnswer) {
+        loop {
+            match self.run(slice) {
+                Ended::Idle => return,
+                Ended::Paused => (),
+                Ended::Waiting => {
+                    let ticket = ticket(&self.desk);
+                    let ran = self.desk.answer(&mut self.memory, ticket, answer, slice);
+                    ran.unwrap();
+                }
+            }
+        }
+    }
+
+    /// A night after one submission, with a good answer.
+    fn after(packets: &[Packet]) -> Night {
+        let mut night = Night::new();
+        night.submit(&[5], packets);
+        night.rest(100, HostAnswer::Good);
+        assert_eq!(night.desk.last_error(), None);
+        night
+    }
+}
+
+fn create(handle: u32) -> Packet {
+    Packet::CreateBuffer {
+        handle,
+        size: 256,
+        backing: BACKING,
+    }
+}
+
+fn dirty(handle: u32, size: u64) -> Packet {
+    Packet::DirtyRange {
+        handle,
+        offset: 0,
+        size,
+    }
+}
+
+const SHAPE: Shape = Shape {
+    format: 1,
+    width: 5,
+    height: 3,
+    mips: 2,
+    layers: 1,
+    pitch: 20,
+};
+
+#[test]
+fn slices_say_nothing() {
+    let good = [create(1), create(2), dirty(1, 8), dirty(2, 8)];
+    let refused = [create(3), dirty(3, 8), dirty(4, 8), create(4)];
+    for (ids, packets) in [
+        (&[5, 6, 7][..], &good[..]),
+        (&[5], &refused),
+        (&[4, 5, 4], &good),
+        (&[], &[]),
+    ] {
+        for answer in [HostAnswer::Good, HostAnswer::Failed] {
+            let mut whole = Night::after(&[create(9)]);
+            whole.submit(ids, packets);
+            let before = whole.clone();
+            whole.rest(1000, answer);
+            for slice in [1, 2, 3, 4, 7] {
+                let mut sliced = before.clone();
+                sliced.rest(slice, answer);
+                assert_eq!(sliced.memory, whole.memory);
+                assert_eq!(sliced.desk, whole.desk);
+                assert_ne!(sliced.desk, before.desk);
+            }
+        }
+    }
+}
+
+#[test]
+fn units_count_and_not_how_they_were_spent() {
+    let mut submitted = Night::after(&[create(1)]);
+    submitted.submit(&[5, 6], &[create(2), dirty(1, 8), dirty(2, 8)]);
+    let after = |slices: &[u16]| {
+        let mut night = submitted.clone();
+        slices.iter().for_each(|&units| drop(night.run(units)));
+        night.desk
+    };
+    for units in 0..6 {
+        assert_eq!(after(&vec![1; units.into()]), after(&[units]));
+        assert_ne!(after(&[units]), after(&[units + 1]), "unit {}", units);
+    }
+    assert_eq!(after(&[6]), after(&[7]));
+}
+
+#[test]
+fn resources_are_a_map_by_handle() {
+    let one = Night::after(&[create(1), create(2), create(3)]);
+    let other = Night::after(&[create(3), create(1), create(2)]);
+    assert_eq!(one.desk, other.desk);
+    // Their rows have moved.
+    let gone = Packet::Destroy { handle: 4 };
+    let moved = Night::after(&[create(4), create(1), create(2), create(3), gone]);
+    assert_eq!(one.desk, moved.desk);
+    // Their rows stand in the other table: a submission that creates turns the tables, one that creates nothing does not.
+    let mut twice = Night::after(&[create(2), create(1)]);
+    twice.submit(&[5], &[create(3)]);
+    twice.rest(100, HostAnswer::Good);
+    assert_eq!(one.desk, twice.desk);
+    // So do those of a submission in work, which goes back to the same slot.
+    let [mut one, mut twice] = [one, twice];
+    one.submit(&[5], &[]);
+    one.rest(100, HostAnswer::Good);
+    for night in [&mut one, &mut twice] {
+        night.submit(&[5], &[dirty(3, 8), create(4)]);
+        assert_eq!(night.run(100), Ended::Waiting);
+    }
+    assert_eq!(one.desk, twice.desk);
+}
+
+/// Packets of which each comes to another device.
+fn variants() -> Vec<Packet> {
+    let buffer = |handle, size, backing| Packet::CreateBuffer {
+        handle,
+        size,
+        backing,
+    };
+    let texture = |shape, backing| Packet::CreateTexture {
+        handle: 1,
+        shape,
+        backing,
+    };
+    let at = |id, offset| Some(Backing { id, offset });
+    vec![
+        Packet::Unknown { opcode: 9, size: 8 },
+        buffer(1, 256, BACKING),
+        buffer(2, 256, BACKING),
+        buffer(1, 255, BACKING),
+        buffer(1, 256, None),
+        buffer(1, 256, at(6, 64)),
+        buffer(1, 256, at(5, 65)),
+        texture(SHAPE, None),
+        texture(SHAPE, BACKING),
+        texture(Shape { pitch: 24, ..SHAPE }, BACKING),
+        texture(Shape { format: 2, ..SHAPE }, BACKING),
+        texture(Shape { width: 4, ..SHAPE }, BACKING),
+        texture(Shape { height: 2, ..SHAPE }, BACKING),
+        texture(Shape { mips: 1, ..SHAPE }, BACKING),
+        texture(Shape { layers: 2, ..SHAPE }, BACKING),
+    ]
+}
+
+#[test]
+fn other_resources_are_another_desk() {
+    let waiting: Vec<Night> = variants()
+        .iter()
+        .map(|&packet| {
+            let mut night = Night::new();
+            night.submit(&[5, 6], &[packet]);
+            assert_eq!(night.run(100), Ended::Waiting);
+            night
+        })
+        .collect();
+    let answered = |answer| {
+        let mut nights = waiting.clone();
+        nights.iter_mut().for_each(|night| night.rest(100, answer));
+        nights
+    };
+    let good = answered(HostAnswer::Good);
+    for nights in [&waiting, &good] {
+        for (i, night) in nights.iter().enumerate() {
+            for (j, other) in nights.iter().enumerate() {
+                assert_eq!(night.desk == other.desk, i == j, "{} and {}", i, j);
+            }
+        }
+    }
+    // Nothing is left of a submission that failed, nor of one that a reset has dropped.
+    let failed = answered(HostAnswer::Failed);
+    assert!(failed.iter().all(|night| night.desk == failed[0].desk));
+    let control = registers::CONTROL_RESET | registers::CONTROL_ENABLE;
+    for mut night in waiting {
+        night.write(registers::CONTROL, control);
+        assert_eq!(night.desk, Night::new().desk);
+    }
+}
+
+#[test]
+fn other_registers_are_another_desk() {
+    assert_ne!(Desk::new(16), Desk::new(17));
+    let night = Night::after(&[create(1)]);
+    for (offset, value) in [
+        (registers::RING_GPA_LO, 64),
+        (registers::RING_GPA_HI, 1),
+        (registers::RING_SIZE, 64),
+        (registers::CONTROL, 0),
+        (registers::CONTROL, 3),
+        (registers::FENCE_GPA_LO, 64),
+        (registers::FENCE_GPA_HI, 1),
+        (registers::IRQ_ENABLE, 1),
+        (registers::IRQ_ACK, registers::IRQ_FENCE),
+        // No register shows that it rang.
+        (registers::DOORBELL, 0),
+    ] {
+        let mut other = night.clone();
+        other.write(offset, value);
+        assert_ne!(other.desk, night.desk, "{:x}", offset);
+    }
+    let mut same = night.clone();
+    same.write(registers::IRQ_ACK, registers::IRQ_ERROR);
+    same.write(registers::CONTROL, registers::CONTROL_ENABLE);
+    assert_eq!(same.desk, night.desk);
+}
+
+#[test]
+fn tickets_are_left_out() {
+    let mut night = Night::new();
+    night.submit(&[5], &[create(1)]);
+    assert_eq!(night.run(100), Ended::Waiting);
+    let clone = night.desk.clone();
+    assert_ne!(ticket(&clone), ticket(&night.desk));
+    assert_eq!(clone, night.desk);
+}
