@@ -66,7 +66,18 @@ static void print_ran(const char *call, uint64_t said) {
     printf("%s %u %u %s\n", call, zelezmut_ran_answer(said), zelezmut_ran_units(said), endings[zelezmut_ran_ended(said)]);
 }
 
+/* Whether the library is the one of the header: else its arrays may be larger than those that it is lent. */
+static int layout_fits(void) {
+    if (zelezmut_layout() == ZELEZMUT_LAYOUT)
+        return 1;
+    fprintf(stderr, "the library has layout %#llx, and its header %#llx: build the two from one tree\n",
+            (unsigned long long)zelezmut_layout(), (unsigned long long)ZELEZMUT_LAYOUT);
+    return 0;
+}
+
 int main(void) {
+    if (!layout_fits())
+        return 1;
     put_submission();
     zelezmut_make(device.words, MEMORY);
     printf("write %u\n", zelezmut_write(device.words, 0x100, RING));

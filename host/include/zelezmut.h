@@ -14,7 +14,8 @@
  * - One memory. Guest memory is lent as one range of bytes, guest address 0 first. Regions with holes between are mapped into one
  *   reserved range.
  *
- * There is no layout number yet by which a library tells that it is the one of this header: build the two from one tree.
+ * - One version. Before any other call, and once is enough, a host asks zelezmut_layout() and goes on only if that is ZELEZMUT_LAYOUT.
+ *   Any other number is that of a library with other arrays, or other meanings of their words: build library and header from one tree.
  *
  * A refused call, one whose answer is not 0, has changed nothing. The meaning of registers, records and errors is in docs/01-scope.md;
  * examples/submission.c plays a submission.
@@ -34,10 +35,18 @@ extern "C" {
 #endif
 
 /* Sizes in words of 64 bits: a device's numbers, and 64 rows each of entries, resources (twice) and records. */
+#define ZELEZMUT_MOST 64
 #define ZELEZMUT_WORDS 32
-#define ZELEZMUT_ENTRIES (64 * 4)
-#define ZELEZMUT_RESOURCES (64 * 11)
-#define ZELEZMUT_RECORDS (64 * 5)
+#define ZELEZMUT_ENTRIES (ZELEZMUT_MOST * 4)
+#define ZELEZMUT_RESOURCES (ZELEZMUT_MOST * 11)
+#define ZELEZMUT_RECORDS (ZELEZMUT_MOST * 5)
+
+/* The layout number of the library that this header is for: these sizes, and a version that goes up with every landing that grows the
+ * state or changes what its words mean. */
+#define ZELEZMUT_LAYOUT_VERSION 1
+#define ZELEZMUT_LAYOUT \
+    (((uint64_t)ZELEZMUT_LAYOUT_VERSION << 48) | ((uint64_t)ZELEZMUT_WORDS << 36) | ((uint64_t)ZELEZMUT_ENTRIES << 24) | \
+     ((uint64_t)ZELEZMUT_RESOURCES << 12) | (uint64_t)ZELEZMUT_RECORDS)
 
 /* A device. Its words are the library's own business: zelezmut_make sets them, and the host keeps them. It may be copied. */
 struct zelezmut_state {
@@ -59,6 +68,9 @@ enum {
 
 /* How a run ended. */
 enum { ZELEZMUT_IDLE = 0, ZELEZMUT_WAITING = 1, ZELEZMUT_PAUSED = 2 };
+
+/* The library's layout number, to be held against ZELEZMUT_LAYOUT before any other call. */
+uint64_t zelezmut_layout(void);
 
 /* Makes a new device of these words, for a memory of so many bytes. Its arrays may hold anything. */
 void zelezmut_make(uint64_t words[ZELEZMUT_WORDS], uint64_t memory);

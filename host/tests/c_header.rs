@@ -1,25 +1,17 @@
 //! The C header and its example: built by a C compiler with the library, and run.
 mod project;
 
-use project::{library_folder, started, Folder};
-use std::env;
+use project::{c_compiler, library_folder, said, started, Folder, Said};
 use std::path::Path;
-use std::process::{Command, Output};
 
-/// The C compiler for what these tests are built for, with every warning an error.
-fn compile(words: &[&str]) -> Output {
-    let compiler = env::var_os("CARGO_TARGET_X86_64_UNKNOWN_LINUX_GNU_LINKER");
-    Command::new(compiler.unwrap_or_else(|| "cc".into()))
+/// Calls the C compiler, with every warning an error.
+fn compile(words: &[&str]) -> Said {
+    let mut compiler = c_compiler();
+    compiler
         .current_dir(env!("CARGO_MANIFEST_DIR"))
-        .env_remove("LD_LIBRARY_PATH")
         .args(["-Wall", "-Wextra", "-Wpedantic", "-Werror", "-Iinclude"])
-        .args(words)
-        .output()
-        .expect("a C compiler can be started")
-}
-
-fn said(output: &Output) -> String {
-    String::from_utf8_lossy(&[&output.stdout[..], &output.stderr].concat()).into_owned()
+        .args(words);
+    said(compiler)
 }
 
 #[test]
@@ -34,10 +26,10 @@ fn the_c_example_plays_a_submission() {
         "-o",
         program.to_str().expect("a path of text"),
     ]);
-    assert!(built.status.success(), "{}", said(&built));
-    let output = started(&program).output().expect("it can be started");
+    assert!(built.good(), "{}", built.all);
+    let played = said(started(&program));
     assert_eq!(
-        said(&output),
+        played.all,
         "write 0\nwrite 0\nwrite 0\nwrite 0\n\
          run 0 4 waiting\n\
          record 0: kind 1, handle 1, id 5, 256 bytes at 8256\n\
@@ -45,32 +37,69 @@ fn the_c_example_plays_a_submission() {
          answer 0 1 idle\n\
          fence 1\n"
     );
-    assert_eq!(output.status.code(), Some(0));
+    assert_eq!(played.status, Some(0));
+}
+
+/// A library of another layout: one more version, nothing else.
+const OTHER_LAYOUT: &str = "#include \"zelezmut.h\"\n\
+    uint64_t zelezmut_layout(void) { return ZELEZMUT_LAYOUT + (UINT64_C(1) << 48); }\n";
+
+#[test]
+fn the_c_example_tells_a_library_of_another_layout() {
+    let folder = Folder::new("c-layout");
+    folder.put("other.c", OTHER_LAYOUT);
+    let [other, program] = ["other.c", "submission"].map(|name| folder.path(name));
+    let library = Path::new(&library_folder()).join("libzelezmut.a");
+    let text = |path: &Path| path.to_str().expect("a path of text").to_string();
+    // The first of two that the linker meets counts.
+    let built = compile(&[
+        "examples/submission.c",
+        &text(&other),
+        &text(&library),
+        "-Wl,--allow-multiple-definition",
+        "-o",
+        &text(&program),
+    ]);
+    assert!(built.good(), "{}", built.all);
+    let played = said(started(&program));
+    assert_eq!(
+        played.all,
+        "the library has layout 0x20201002c0140, and its header 0x10201002c0140: build the two from one tree\n"
+    );
+    assert_eq!(played.status, Some(1));
 }
 
 /// The header's sizes are those of the boundary in Rust, which the library is called by in all other tests.
 #[test]
 fn the_header_has_the_sizes_of_the_boundary() {
-    let boundary = include_str!("../src/front.rs");
+    let (state, boundary) = (
+        include_str!("../src/state.rs"),
+        include_str!("../src/front.rs"),
+    );
     let header = include_str!("../include/zelezmut.h");
-    for (name, rust, c) in [
-        ("Words", "[u64; 32]", "ZELEZMUT_WORDS 32"),
-        ("Entries", "[u64; MOST * 4]", "ZELEZMUT_ENTRIES (64 * 4)"),
+    for (rust, c) in [
+        ("const MOST: usize = 64;", "#define ZELEZMUT_MOST 64"),
         (
-            "Resources",
-            "[u64; MOST * 11]",
-            "ZELEZMUT_RESOURCES (64 * 11)",
+            "const LAYOUT_VERSION: u64 = 1;",
+            "#define ZELEZMUT_LAYOUT_VERSION 1",
         ),
-        ("Records", "[u64; MOST * 5]", "ZELEZMUT_RECORDS (64 * 5)"),
+        ("type Words = [u64; 32];", "#define ZELEZMUT_WORDS 32"),
+        (
+            "const ENTRY_WORDS: usize = 4;",
+            "#define ZELEZMUT_ENTRIES (ZELEZMUT_MOST * 4)",
+        ),
+        (
+            "const RESOURCE_WORDS: usize = 11;",
+            "#define ZELEZMUT_RESOURCES (ZELEZMUT_MOST * 11)",
+        ),
+        (
+            "const RECORD_WORDS: usize = 5;",
+            "#define ZELEZMUT_RECORDS (ZELEZMUT_MOST * 5)",
+        ),
     ] {
-        assert!(
-            boundary.contains(&format!("type {} = {};", name, rust)),
-            "{}",
-            name
-        );
-        assert!(header.contains(&format!("#define {}\n", c)), "{}", name);
+        assert!(state.contains(rust), "{}", rust);
+        assert!(header.contains(&format!("{}\n", c)), "{}", c);
     }
-    assert!(boundary.contains("const MOST: usize = 64;"));
     for line in boundary.lines().map(str::trim_start) {
         if let Some(export) = line.strip_prefix("pub fn zelezmut_") {
             let name = export.split('(').next().expect("a name");

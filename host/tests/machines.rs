@@ -1,7 +1,7 @@
 //! The library is code for one kind of machine: a build for any other is refused in words, before anything is linked.
 mod project;
 
-use project::{called, cargo, Folder};
+use project::{cargo, said, Folder};
 
 #[test]
 fn a_program_for_another_machine_is_refused_in_words() {
@@ -15,12 +15,12 @@ fn a_program_for_another_machine_is_refused_in_words() {
         "x86_64-pc-windows-gnu",
         "x86_64-apple-darwin",
     ] {
-        let built = called(cargo(&folder.path("zelezmut/host"), target, &["check"]));
-        assert!(!built.good);
+        let built = said(cargo(&folder.path("zelezmut/host"), target, &["check"]));
+        assert!(!built.good());
         let words = format!(
             "zelezmut: the proved front is code for 64-bit Linux on x86-64 and cannot be linked into a program for {}.",
             target
         );
-        assert!(built.said.contains(&words), "{}", built.said);
+        assert!(built.all.contains(&words), "{}", built.all);
     }
 }

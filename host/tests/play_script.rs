@@ -68,7 +68,7 @@ impl Tree {
         let path = std::env::var("PATH").unwrap();
         let kit = self.0.path("kit");
         command
-            .current_dir(&self.0 .0)
+            .current_dir(self.0.root())
             .env("PATH", format!("{}:{}", kit.display(), path))
             .env_remove("CDPATH")
             .env_remove("LD_LIBRARY_PATH");
@@ -146,7 +146,9 @@ fn it_works_by_a_link_and_with_cdpath() {
     for name in ["link", "elsewhere/link of a link", "tree/play"] {
         // Called by bash and a relative name, as `bash tree/play` does.
         let mut command = tree.command(Path::new("bash"));
-        command.args([name, "here.desk"]).env("CDPATH", &tree.0 .0);
+        command
+            .args([name, "here.desk"])
+            .env("CDPATH", tree.0.root());
         let said = said(command);
         assert_eq!((said.status, said.err.as_str()), (Some(0), ""), "{}", name);
         assert_eq!(said.out, "played\n<here.desk>\n");

@@ -1,7 +1,7 @@
 //! The crate as a user has it: a folder in a workspace that is not ours, built by cargo as a user builds it, with no network.
 mod project;
 
-use project::{build, Folder};
+use project::{build, said, Folder};
 
 const EMULATOR: &str = r#"
 use zelezmut::{registers, Desk};
@@ -14,18 +14,12 @@ fn main() {
 
 #[test]
 fn a_workspace_with_the_project_as_a_folder_builds() {
-    let folder = Folder::new("users_workspace");
+    let folder = Folder::new("users-workspace");
     folder.put("Cargo.toml", "[workspace]\nmembers = [\"emulator\"]\n");
-    folder.put(
-        "emulator/Cargo.toml",
-        "[package]\nname = \"emulator\"\nversion = \"0.1.0\"\nedition = \"2021\"\n\n\
-         [dependencies]\nzelezmut = { path = \"../zelezmut/host\" }\n",
-    );
-    folder.put("emulator/src/main.rs", EMULATOR);
-    folder.copy_project("zelezmut");
+    folder.put_emulator("emulator", EMULATOR);
 
     let built = build(&folder, &["build", "--package", "emulator"]);
-    assert!(built.good, "{}", built.said);
-    assert!(!built.said.contains("warning"), "{}", built.said);
-    assert_eq!(folder.run("emulator"), "version 65539\n");
+    assert!(built.good(), "{}", built.all);
+    assert!(!built.all.contains("warning"), "{}", built.all);
+    assert_eq!(said(folder.program("emulator")).all, "version 65539\n");
 }
