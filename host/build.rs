@@ -58,18 +58,35 @@ fn named_folder() -> Option<Looked> {
             why: "which ZELEZMUT_LIB_DIR names",
         });
     }
-    println!("cargo:rerun-if-env-changed=PWD");
-    let start = env::var_os("PWD").unwrap_or_else(|| {
+    let start = start_folder().unwrap_or_else(|| {
         fail(&format!(
-            "{} is a relative folder, {}, and PWD does not say where cargo was started. Name the whole path.",
+            "{} is a relative folder, {}, and nothing says where cargo was started. Name the whole path.",
             FOLDER_VARIABLE,
             named.display()
         ))
     });
     Some(Looked {
-        folder: Path::new(&start).join(named),
+        folder: start.join(named),
         why: "which ZELEZMUT_LIB_DIR names, from where cargo was started",
     })
+}
+
+/// The folder that cargo was started in. PWD has it where a shell started cargo; another program may have left that as it was.
+fn start_folder() -> Option<PathBuf> {
+    println!("cargo:rerun-if-env-changed=PWD");
+    cargos_folder().or_else(|| env::var_os("PWD").map(PathBuf::from))
+}
+
+/// Cargo is this program's parent.
+#[cfg(unix)]
+fn cargos_folder() -> Option<PathBuf> {
+    let cargo = std::os::unix::process::parent_id();
+    std::fs::read_link(format!("/proc/{}/cwd", cargo)).ok()
+}
+
+#[cfg(not(unix))]
+fn cargos_folder() -> Option<PathBuf> {
+    None
 }
 
 /// `rt staticlib zelezmut` writes to target/staticlib in the project's root, the folder above this crate.

@@ -147,7 +147,9 @@ fn units_count_and_not_how_they_were_spent() {
     submitted.submit(&[5, 6], &[create(2), dirty(1, 8), dirty(2, 8)]);
     let after = |slices: &[u16]| {
         let mut night = submitted.clone();
-        slices.iter().for_each(|&units| drop(night.run(units)));
+        for &units in slices {
+            night.run(units);
+        }
         night.desk
     };
     for units in 0..6 {

@@ -52,6 +52,7 @@ fn a_relative_folder_is_one_below_where_cargo_was_started() {
 
     let checked = call(&folder, Some("proved"), &["check"]);
     assert!(checked.good(), "{}", checked.all);
+    // Cargo's own folder counts, whatever PWD says: see `cargo` of these tests.
     let there = missing_in(&folder.path("proved"));
     assert!(checked.all.contains(&there), "{}", checked.all);
 

@@ -174,7 +174,8 @@ pub fn cargo(folder: &Path, target: &str, words: &[&str]) -> Command {
     }
     command
         .current_dir(folder)
-        .env("PWD", folder)
+        // As where another program than a shell starts cargo.
+        .env("PWD", "/")
         .env("CARGO_TERM_COLOR", "never")
         .args(words)
         .args(["--offline", "--target", target, "--target-dir", "target"]);
