@@ -6,7 +6,8 @@
 //!
 //! GUEST MEMORY MAY HAVE CHANGED SINCE IT WAS CHECKED. The guest runs between the slices of a run, and while the host works. So this
 //! host copies the stream out once and decodes the copy; it judges every handle and range anew, by its own surfaces; it takes addresses
-//! in guest memory from the records alone, never from the stream; and where the two do not fit each other it answers "failed".
+//! in guest memory from the records alone, never from the stream; and where the two do not fit each other it answers "failed". So a guest
+//! that changes its stream behind the check gets what it wrote last, or an error, and reaches nothing but its own surfaces.
 //!
 //!     cargo run --example emulator
 use std::collections::BTreeMap;
@@ -78,7 +79,8 @@ impl Emulator {
     /// Carries out the submission that waits, answers it and works on.
     fn finish(&mut self, troubles: &mut Vec<Trouble>) -> Result<zelezmut::Ran, Refused> {
         let waiting = self.desk.waiting().ok_or(Refused::NothingWaits)?;
-        // A failed submission must leave no trace on the surfaces. A host with large ones would keep a list of what to undo.
+        // A failed submission must leave no trace on the surfaces; what it has written to guest memory may stay. A host with large
+        // surfaces would keep a list of what to undo.
         let mut draft = self.surfaces.clone();
         let done = carry_out(&self.desk, waiting, &mut self.memory, &mut draft);
         let answer = HostAnswer::from(done.is_ok());

@@ -235,6 +235,17 @@ mod tests {
     use super::super::{stream, stream_of};
     use super::*;
 
+    fn copy(writeback: bool) -> Packet {
+        Packet::CopyBuffer {
+            destination: 13,
+            source: 14,
+            destination_offset: 1 << 40,
+            source_offset: 1 << 41,
+            size: 1 << 42,
+            writeback,
+        }
+    }
+
     /// One of each kind, every field with another number.
     fn every_packet() -> Vec<Packet> {
         let backing = Some(Backing { id: 11, offset: 12 });
@@ -255,14 +266,6 @@ mod tests {
             handle: 8,
             shape,
             backing,
-        };
-        let copy = |writeback| Packet::CopyBuffer {
-            destination: 13,
-            source: 14,
-            destination_offset: 1 << 40,
-            source_offset: 1 << 41,
-            size: 1 << 42,
-            writeback,
         };
         let dirty = Packet::DirtyRange {
             handle: 9,
@@ -388,7 +391,7 @@ mod tests {
 
     #[test]
     fn a_copys_unknown_flags_are_told() {
-        let copy = every_packet()[7].to_bytes();
+        let copy = copy(true).to_bytes();
         for flags in [2, 3, 1 << 31, u32::MAX] {
             let mut other = copy.clone();
             other[40..44].copy_from_slice(&flags.to_le_bytes());
