@@ -344,7 +344,7 @@ mod tests {
     fn what_is_equal_is_the_same_to_every_call() {
         let mut numbers = Numbers(5);
         let mut met = [0; 4];
-        for _ in 0..3_000 {
+        for _ in 0..1_000 {
             let mut one = numbers.state(MEMORY_BYTES);
             one.words[TAG] = numbers.next() % 4;
             met[one.words[TAG] as usize] += 1;

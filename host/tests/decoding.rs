@@ -4,8 +4,8 @@ use std::collections::BTreeMap;
 use zelezmut::guest::{self, Descriptor, Packet, Part};
 use zelezmut::{registers, Desk, DeviceError, Ended, Place};
 
-const MEMORY: usize = 16_384;
-const STREAM: usize = 2048;
+const MEMORY: usize = 4096;
+const STREAM: usize = 1024;
 
 /// The same in every run.
 struct Numbers(u64);
@@ -128,7 +128,7 @@ fn read(stream: &[u8]) -> (usize, Option<(DeviceError, Place)>) {
 fn the_reader_and_the_front_agree() {
     let mut numbers = Numbers(1);
     let mut met = BTreeMap::new();
-    for _ in 0..20_000 {
+    for _ in 0..10_000 {
         let stream = numbers.stream();
         let (refused, units) = judged(&stream);
         let (good, wrong) = read(&stream);
@@ -159,7 +159,7 @@ fn the_reader_and_the_front_agree() {
 fn any_bytes_are_read_or_told() {
     let mut numbers = Numbers(2);
     let mut good = 0;
-    for _ in 0..20_000 {
+    for _ in 0..10_000 {
         let mut stream = numbers.stream();
         let length = numbers.below(stream.len() + 1);
         let from = numbers.below(length + 1);
