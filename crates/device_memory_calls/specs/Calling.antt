@@ -86,14 +86,12 @@ module _ (allowance u : ℕ) (s e c m s′ e′ c′ m′ : List ℕ) where
 
 pub ruleset choosing = (on-nothing, on-first, on-second, needs)
 
--- ---- carry_on
+-- ---- as many units as are allowed, and how the device then stands
 
 pub carries-on : (allowance u : ℕ) (k : Ended) (s e a b c m s′ e′ a′ b′ c′ m′ : List ℕ) → RanOn allowance (lent s e a b c m) u (lent s′ e′ a′ b′ c′ m′) → Ends s′ k
     → CarriesOn allowance (lent s e a b c m) (record { answer = done; units = u; ended = k }) (lent s′ e′ a′ b′ c′ m′)
 carries-on allowance u k s e a b c m s′ e′ a′ b′ c′ m′ x ends =
     record { carried = rw (ends .ended e′ (pick (sideIn s′) b′ a′) (pick (sideIn s′) a′ b′) c′ m′) (ap ran (x .run)) }
-
-pub ruleset carrying-on = (carries-on, needs)
 
 -- ---- the memory that is lent
 
@@ -132,7 +130,7 @@ module _ (s e a b c m : List ℕ) (allowance memory : ℕ) (is : memory ≡ getD
         still = λ q. absurd (q (not-refused allowance s e a b c m s′ e′ a′ b′ c′ m′ x k));
       }
 
-pub ruleset running = (runs-other, runs-done, needs)
+pub ruleset running = (runs-other, runs-done, carries-on, needs)
 
 -- ---- settle_answered
 
@@ -190,4 +188,4 @@ module _ (s e a b c m : List ℕ) (good : Bool) (allowance memory : ℕ) (is : m
             still = λ q. absurd (q (not-refused allowance s₁ e a b c m₁ s′ e′ a′ b′ c′ m′ x k));
           }
 
-pub ruleset answering = (answers-other, answers-unasked, answers-done, needs)
+pub ruleset answering = (answers-other, answers-unasked, answers-done, carries-on, needs)

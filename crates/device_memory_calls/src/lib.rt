@@ -23,7 +23,7 @@ use widths::word_to_usize;
 ghost use mathlib.Core.Path.{_≡_};
 ghost use Prim.Native.Nat.{_≤_};
 ghost use Rattle.run_state.specs.Views.{tagIn};
-ghost use Rattle.device_memory_calls.specs.Views.{Ends, RanOn, refusedWith, CarriesOn, Runs, SettlesAnswered, Answers};
+ghost use Rattle.device_memory_calls.specs.Views.{Ends, RanOn, refusedWith, Runs, SettlesAnswered, Answers};
 
 // What a run or an answer is answered with: the call's answer, the units spent and how it ended.
 pub struct Spent {
@@ -101,44 +101,6 @@ fn refused(answer: u32) -> Spent
     }
 }
 
-// The units that are due, as many as are allowed, and how the device then stands.
-fn carry_on(
-    words: &mut Words,
-    entries: &mut Entries,
-    first: &mut Resources,
-    second: &mut Resources,
-    records: &mut Records,
-    mem: &mut [u8],
-    allowance: u16,
-) -> Spent
-    ensures { λ r. ⌜ CarriesOn allowance
-        (record {
-          words = now (words .entry);
-          entries = now (entries .entry);
-          first = now (first .entry);
-          second = now (second .entry);
-          records = now (records .entry);
-          mem = now (mem .entry);
-        })
-        r
-        (record {
-          words = now (words .exit);
-          entries = now (entries .exit);
-          first = now (first .exit);
-          second = now (second .exit);
-          records = now (records .exit);
-          mem = now (mem .exit);
-        }) ⌝ }
-{
-    let units = run_on(words, entries, first, second, records, mem, allowance);
-    let ended = ended_in(words);
-    Spent {
-        answer: DONE,
-        units,
-        ended,
-    }
-}
-
 // As many units as are allowed, over the memory lent now; says how many were spent and how it ended.
 pub fn run(
     words: &mut Words,
@@ -172,7 +134,13 @@ pub fn run(
     if mem.len() != memory {
         return refused(OTHER_MEMORY);
     }
-    carry_on(words, entries, first, second, records, mem, allowance)
+    let units = run_on(words, entries, first, second, records, mem, allowance);
+    let ended = ended_in(words);
+    Spent {
+        answer: DONE,
+        units,
+        ended,
+    }
 }
 
 // Settles what waits with the host's answer. No table is needed: a good answer only says which one is the device's from now on.
@@ -230,5 +198,11 @@ pub fn answer(
         return refused(NOTHING_WAITS);
     }
     settle_answered(words, mem, good);
-    carry_on(words, entries, first, second, records, mem, allowance)
+    let units = run_on(words, entries, first, second, records, mem, allowance);
+    let ended = ended_in(words);
+    Spent {
+        answer: DONE,
+        units,
+        ended,
+    }
 }

@@ -28,8 +28,11 @@ returns-2 c = search answering
 settle-answered-requires : tie.Need-settle-answered-requires
 settle-answered-requires c κs = search needs
 
-carry-on-requires : tie.Need-carry-on-requires
-carry-on-requires c κs = search needs
+run-on-requires : tie.Need-run-on-requires
+run-on-requires c κs = search needs
+
+ended-in-requires : tie.Need-ended-in-requires
+ended-in-requires c κs = search needs
 
 same-length : tie.Need-same-length
 same-length c = search needs
@@ -49,6 +52,7 @@ answer-spec =
     refused-requires-2
     returns-2
     settle-answered-requires
-    carry-on-requires
+    run-on-requires
+    ended-in-requires
     same-length
     returns-3)

@@ -16,8 +16,11 @@ refused-requires c κs = search needs
 returns : tie.Need-returns
 returns c = search running
 
-carry-on-requires : tie.Need-carry-on-requires
-carry-on-requires c κs = search needs
+run-on-requires : tie.Need-run-on-requires
+run-on-requires c κs = search needs
+
+ended-in-requires : tie.Need-ended-in-requires
+ended-in-requires c κs = search needs
 
 same-length : tie.Need-same-length
 same-length c = search needs
@@ -33,6 +36,7 @@ run-spec =
     word-to-usize-requires
     refused-requires
     returns
-    carry-on-requires
+    run-on-requires
+    ended-in-requires
     same-length
     returns-2)
