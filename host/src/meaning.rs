@@ -254,24 +254,27 @@ mod tests {
     fn every_live_row_counts_and_no_other_does() {
         let state = busy(PACKETS);
         // The second table is the device's, and the first the submission's.
-        for i in 0..704 {
+        for i in 0..state.first.len() {
             let changed = |word: u64| if i % RESOURCE_WORDS == 1 { 0 } else { word + 1 };
+            let [live, held] = [LIVE, HELD].map(|count| RESOURCE_WORDS * state.rows(count));
             let mut other = state.clone();
             other.second[i] = changed(other.second[i]);
-            assert_eq!(state != other, i < 11 * state.rows(LIVE), "second {}", i);
+            assert_eq!(state != other, i < live, "second {}", i);
             let mut other = state.clone();
             other.first[i] = changed(other.first[i]);
-            assert_eq!(state != other, i < 11 * state.rows(HELD), "first {}", i);
+            assert_eq!(state != other, i < held, "first {}", i);
         }
-        for i in 0..256 {
+        for i in 0..state.entries.len() {
             let mut other = state.clone();
             other.entries[i] += 1;
-            assert_eq!(state != other, i < 4 * state.rows(KEPT), "entry {}", i);
+            let live = ENTRY_WORDS * state.rows(KEPT);
+            assert_eq!(state != other, i < live, "entry {}", i);
         }
-        for i in 0..320 {
+        for i in 0..state.records.len() {
             let mut other = state.clone();
             other.records[i] += 1;
-            assert_eq!(state != other, i < 5 * state.rows(MADE), "record {}", i);
+            let live = RECORD_WORDS * state.rows(MADE);
+            assert_eq!(state != other, i < live, "record {}", i);
         }
     }
 
@@ -279,7 +282,7 @@ mod tests {
     fn a_buffer_has_no_shape() {
         let mut state = busy(NOTHING);
         state.second[1] = 0;
-        for i in 0..11 {
+        for i in 0..RESOURCE_WORDS {
             let mut other = state.clone();
             other.second[i] += 1;
             assert_eq!(state != other, !(3..8).contains(&i), "word {}", i);
@@ -305,7 +308,7 @@ mod tests {
     fn in_other_words(state: &State, numbers: &mut Numbers) -> Box<State> {
         let mut other = numbers.state(MEMORY_BYTES);
         let tag = state.words[TAG];
-        for i in (0..32).filter(|&i| says_something(tag, i)) {
+        for i in (0..state.words.len()).filter(|&i| says_something(tag, i)) {
             other.words[i] = state.words[i];
         }
         for i in SMALL {

@@ -62,11 +62,19 @@ fn the_c_example_tells_a_library_of_another_layout() {
     ]);
     assert!(built.good(), "{}", built.all);
     let played = said(started(&program));
-    assert_eq!(
-        played.all,
-        "the library has layout 0x20201002c0140, and its header 0x10201002c0140: build the two from one tree\n"
-    );
+    assert!(played.all.starts_with("the library has layout 0x"));
+    assert!(played.all.ends_with(": build the two from one tree\n"));
     assert_eq!(played.status, Some(1));
+}
+
+/// The number that stands behind these words.
+fn number_behind(text: &str, words: &str) -> u64 {
+    let behind = text
+        .split(words)
+        .nth(1)
+        .unwrap_or_else(|| panic!("{}", words));
+    let digits: String = behind.chars().take_while(char::is_ascii_digit).collect();
+    digits.parse().unwrap_or_else(|_| panic!("{}", words))
 }
 
 /// The header's sizes are those of the boundary in Rust, which the library is called by in all other tests.
@@ -78,27 +86,31 @@ fn the_header_has_the_sizes_of_the_boundary() {
     );
     let header = include_str!("../include/zelezmut.h");
     for (rust, c) in [
-        ("const MOST: usize = 64;", "#define ZELEZMUT_MOST 64"),
         (
-            "const LAYOUT_VERSION: u64 = 1;",
-            "#define ZELEZMUT_LAYOUT_VERSION 1",
+            "const LAYOUT_VERSION: u64 = ",
+            "define ZELEZMUT_LAYOUT_VERSION ",
         ),
-        ("type Words = [u64; 32];", "#define ZELEZMUT_WORDS 32"),
+        ("const MOST: usize = ", "define ZELEZMUT_MOST "),
+        ("type Words = [u64; ", "define ZELEZMUT_WORDS "),
         (
-            "const ENTRY_WORDS: usize = 4;",
-            "#define ZELEZMUT_ENTRIES (ZELEZMUT_MOST * 4)",
-        ),
-        (
-            "const RESOURCE_WORDS: usize = 11;",
-            "#define ZELEZMUT_RESOURCES (ZELEZMUT_MOST * 11)",
+            "const ENTRY_WORDS: usize = ",
+            "define ZELEZMUT_ENTRIES (ZELEZMUT_MOST * ",
         ),
         (
-            "const RECORD_WORDS: usize = 5;",
-            "#define ZELEZMUT_RECORDS (ZELEZMUT_MOST * 5)",
+            "const RESOURCE_WORDS: usize = ",
+            "define ZELEZMUT_RESOURCES (ZELEZMUT_MOST * ",
+        ),
+        (
+            "const RECORD_WORDS: usize = ",
+            "define ZELEZMUT_RECORDS (ZELEZMUT_MOST * ",
         ),
     ] {
-        assert!(state.contains(rust), "{}", rust);
-        assert!(header.contains(&format!("{}\n", c)), "{}", c);
+        assert_eq!(
+            number_behind(state, rust),
+            number_behind(header, c),
+            "{}",
+            c
+        );
     }
     for line in boundary.lines().map(str::trim_start) {
         if let Some(export) = line.strip_prefix("pub fn zelezmut_") {

@@ -14,9 +14,17 @@ fn the_state_takes_at_most_16_500_bytes() {
     assert!(size_of::<State>() <= 16_500);
 }
 
+/// The number has 12 bits for each length: none may run into the next.
 #[test]
-fn the_layout_is_a_version_and_four_lengths() {
-    assert_eq!(LAYOUT, 0x0001_0201_002C_0140);
+fn the_layout_is_the_librarys() {
+    let lengths = [
+        size_of::<Words>(),
+        size_of::<Entries>(),
+        size_of::<Resources>(),
+        size_of::<Records>(),
+    ];
+    let told = [36, 24, 12, 0].map(|at| (LAYOUT >> at) as usize % 4096);
+    assert_eq!(told.map(|words| 8 * words), lengths);
     // SAFETY: it takes nothing, and gives a number.
     assert_eq!(unsafe { library::zelezmut_layout() }, LAYOUT);
 }
