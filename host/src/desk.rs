@@ -254,7 +254,7 @@ impl Desk {
         answer: HostAnswer,
         allowance: u16,
     ) -> Result<Ran, Refused> {
-        if ticket != self.ticket && self.state.waits() {
+        if self.state.waits() && ticket != self.ticket {
             return Err(self.refused_for_ticket(memory));
         }
         let good = answer == HostAnswer::Good;
