@@ -146,7 +146,7 @@ const DRAWING: [Packet; 5] = [
 ];
 
 /// A submission of two entries and nine packets, and the ring that holds it, in the first 2048 bytes.
-fn submission(memory: &mut [u8]) {
+pub(super) fn submission(memory: &mut [u8]) {
     let create = |handle| Packet::CreateBuffer {
         handle,
         size: 32,
