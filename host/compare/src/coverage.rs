@@ -3,12 +3,12 @@
 use crate::carried::{self, Carried, CARRIED};
 use crate::detail::{self, Detail, Errors, DETAILS};
 use crate::event::{Event, EVENTS};
+use crate::expected::Expected;
 use crate::floats::{Edge, EDGES};
 use crate::front::{Ended, Front, Ran, Record};
 use crate::generator::Drawn;
 use crate::numbers::error::{HOST_FAILED, RING, STATE};
 use crate::player::{Said, Seat};
-use crate::target::Target;
 use crate::twists::{Aim, Outcome};
 use std::collections::{BTreeMap, BTreeSet};
 use std::fmt;
@@ -266,7 +266,7 @@ impl Coverage {
         for event in &drawn.events {
             self.count(Met::Event(*event));
         }
-        for Target { aim, head } in &drawn.targets {
+        for Expected { aim, head } in &drawn.expected {
             let met = match aim.outcome {
                 Outcome::Kept => watch.waited.contains(head),
                 Outcome::Broken(error) => watch.errors.contains(&error),

@@ -4,7 +4,7 @@ use crate::twists::Aim;
 
 /// An aim, and the ring's head when its submission is the next: by it one can tell which submission waits.
 #[derive(Clone, Copy, Debug)]
-pub struct Target {
+pub struct Expected {
     pub aim: Aim,
     pub head: u32,
 }
