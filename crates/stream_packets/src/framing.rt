@@ -4,14 +4,14 @@ ghost use mathlib.Core.Path.{_≡_};
 ghost use Prim.Native.Nat.{_+_, _-_, _≤_, _<_};
 ghost use lib.ListN.{length, take, drop};
 ghost use Rattle.stream_packets.specs.Framing.{misframed, in-blocks, packetAt, Passed};
-use crate::fields::Reading;
-use crate::fields::read_part;
 use rules::Packet;
 use rules::Refusal;
 use rules::numbers::BAD_PACKET;
 use rules::numbers::CLEAR;
 use rules::numbers::CREATE_BUFFER;
 use rules::numbers::SET_TARGET;
+use stream_fields::fields::Reading;
+use stream_fields::fields::read_part;
 use widths::u32_to_usize;
 use words::u32_at;
 
