@@ -14,7 +14,7 @@ use std::collections::BTreeMap;
 use std::io::{self, Write};
 use zelezmut::guest::{self, Backing, Descriptor, Entry, Packet, Part};
 use zelezmut::{packed_size, registers, Desk, Ended, HostAnswer};
-use zelezmut::{Record, RecordKind, Refused, Waiting, Written};
+use zelezmut::{Range, Record, RecordKind, Refused, Waiting, Written};
 
 /// Units a slice: the guest's processors stand still for no longer.
 const SLICE: u16 = 2;
@@ -114,7 +114,7 @@ fn carry_out(
     }
     match records.next() {
         None => Ok(()),
-        Some(record) => Err(format!("the stream has nothing for {:?}", record)),
+        Some(record) => Err(format!("the stream has nothing for: {}", record)),
     }
 }
 
@@ -126,7 +126,7 @@ fn stream_of(desk: &Desk, waiting: Waiting, memory: &[u8]) -> Option<Vec<u8>> {
     submission.commands.within(memory).map(<[u8]>::to_vec)
 }
 
-/// Carries out one packet. The records come in the order of the packets, one for each that names guest memory.
+/// Carries out one packet. The records come in the order of the packets, one for each that names guest memory and for each scissor.
 fn apply(
     packet: Packet,
     records: &mut impl Iterator<Item = Record>,
@@ -152,18 +152,32 @@ fn apply(
             Some(_) => Ok(()),
             None => Err(format!("there is no surface {}", handle)),
         },
-        Packet::DirtyRange { size: 0, .. } => Ok(()),
-        Packet::DirtyRange {
-            handle,
-            offset,
-            size,
-        } => {
-            let range = guest_range(records, RecordKind::Reads, handle, size, memory)?;
-            part(surfaces, handle, offset, size)?.copy_from_slice(range);
-            Ok(())
-        }
+        Packet::DirtyRange { .. } => upload(packet, records, memory, surfaces),
         Packet::CopyBuffer { .. } => copy(packet, records, memory, surfaces),
+        Packet::Target { .. } | Packet::Viewport(_) | Packet::Scissor(_) | Packet::Clear(_) => {
+            draw(packet, records, surfaces)
+        }
         Packet::Unknown { .. } => Ok(()),
+    }
+}
+
+/// Says how to draw. This host does not: it only judges anew what was checked.
+fn draw(
+    packet: Packet,
+    records: &mut impl Iterator<Item = Record>,
+    surfaces: &Surfaces,
+) -> Result<(), Trouble> {
+    match packet {
+        Packet::Target { handle } if !surfaces.contains_key(&handle) => {
+            Err(format!("there is no surface {}", handle))
+        }
+        // A host that draws clips to the record's rectangle: the stream's own may be another by now.
+        Packet::Scissor(_) => match records.next() {
+            Some(Record::Clips(_)) => Ok(()),
+            _ => Err("no record clips".to_string()),
+        },
+        _ if packet.has_nan() => Err("a float is no number".to_string()),
+        _ => Ok(()),
     }
 }
 
@@ -179,11 +193,32 @@ fn create(
         return Err(format!("surface {} of {} bytes is too large", handle, size));
     }
     if backing.is_some() {
-        next_record(records, RecordKind::Backs, handle, size)?;
+        next_range(records, RecordKind::Backs, handle, size)?;
     }
     match surfaces.insert(handle, vec![0; size as usize]) {
         None => Ok(()),
         Some(_) => Err(format!("there is a surface {} already", handle)),
+    }
+}
+
+/// Takes over what the guest has changed. A range of no bytes has no record.
+fn upload(
+    packet: Packet,
+    records: &mut impl Iterator<Item = Record>,
+    memory: &mut [u8],
+    surfaces: &mut Surfaces,
+) -> Result<(), Trouble> {
+    match packet {
+        Packet::DirtyRange {
+            handle,
+            offset,
+            size,
+        } if size != 0 => {
+            let range = guest_range(records, RecordKind::Reads, handle, size, memory)?;
+            part(surfaces, handle, offset, size)?.copy_from_slice(range);
+            Ok(())
+        }
+        _ => Ok(()),
     }
 }
 
@@ -238,20 +273,22 @@ fn guest_range<'a>(
     size: u64,
     memory: &'a mut [u8],
 ) -> Result<&'a mut [u8], Trouble> {
-    let record = next_record(records, kind, handle, size)?;
-    range_of(memory, record.gpa, record.length).ok_or_else(|| "no such range".to_string())
+    let range = next_range(records, kind, handle, size)?;
+    range_of(memory, range.gpa, range.length).ok_or_else(|| "no such range".to_string())
 }
 
-/// The next record, which has to be the one that this packet was checked for.
-fn next_record(
+/// The next record's range, which has to be the one that this packet was checked for.
+fn next_range(
     records: &mut impl Iterator<Item = Record>,
     kind: RecordKind,
     handle: u32,
     size: u64,
-) -> Result<Record, Trouble> {
+) -> Result<Range, Trouble> {
     records
         .next()
-        .filter(|r| (r.kind, r.handle, r.length) == (kind, handle, size))
+        .filter(|record| record.kind() == kind)
+        .and_then(Record::range)
+        .filter(|range| (range.handle, range.length) == (handle, size))
         .ok_or_else(|| format!("no record {} {} bytes of surface {}", kind, size, handle))
 }
 

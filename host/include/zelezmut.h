@@ -17,8 +17,8 @@
  * - One version. Before any other call, and once is enough, a host asks zelezmut_layout() and goes on only if that is ZELEZMUT_LAYOUT.
  *   Any other number is that of a library with other arrays, or other meanings of their words: build library and header from one tree.
  *
- * A refused call, one whose answer is not 0, has changed nothing. The meaning of registers, records and errors is in docs/01-scope.md;
- * examples/submission.c plays a submission.
+ * A refused call, one whose answer is not 0, has changed nothing. The meaning of registers, records and errors is in docs/01-scope.md, and
+ * of what came later in docs/LANDINGS.md; examples/submission.c plays a submission.
  */
 #ifndef ZELEZMUT_H
 #define ZELEZMUT_H
@@ -43,7 +43,7 @@ extern "C" {
 
 /* The layout number of the library that this header is for: these sizes, and a version that goes up with every landing that grows the
  * state or changes what its words mean. */
-#define ZELEZMUT_LAYOUT_VERSION 1
+#define ZELEZMUT_LAYOUT_VERSION 2
 #define ZELEZMUT_LAYOUT \
     (((uint64_t)ZELEZMUT_LAYOUT_VERSION << 48) | ((uint64_t)ZELEZMUT_WORDS << 36) | ((uint64_t)ZELEZMUT_ENTRIES << 24) | \
      ((uint64_t)ZELEZMUT_RESOURCES << 12) | (uint64_t)ZELEZMUT_RECORDS)
@@ -86,7 +86,16 @@ uint64_t zelezmut_run(uint64_t words[ZELEZMUT_WORDS], uint64_t entries[ZELEZMUT_
                       uint64_t second[ZELEZMUT_RESOURCES], uint64_t records[ZELEZMUT_RECORDS], uint8_t *memory, size_t len,
                       uint16_t allowance);
 
-/* Record i of the submission that waits: the answer. Sets kind, handle, id, address and length; zeros if it is refused. */
+/* What a record asks of the host. */
+enum {
+    ZELEZMUT_BACKS = 1,  /* the range is where a new resource lives in guest memory */
+    ZELEZMUT_READS = 2,  /* the guest changed the range: the host reads it */
+    ZELEZMUT_WRITES = 3, /* the host writes the range */
+    ZELEZMUT_CLIPS = 4   /* the host draws within this part of the target alone */
+};
+
+/* Record i of the submission that waits: the answer. Sets kind, handle, id, address and length, or for ZELEZMUT_CLIPS kind, left, top,
+ * width and height, all 0 if nothing is left of the target; zeros if the call is refused. */
 uint32_t zelezmut_record(const uint64_t words[ZELEZMUT_WORDS], const uint64_t records[ZELEZMUT_RECORDS], uint32_t i,
                          uint64_t said[5]);
 

@@ -5,7 +5,7 @@ use std::fmt;
 /// What becomes of a number that is none of the front's. By the rule book it gives no other, so a caller could not act on one:
 /// it means that another library than this crate's was linked.
 #[cold]
-fn none_of_ours(what: &str, number: u32) -> ! {
+pub(crate) fn none_of_ours(what: &str, number: u64) -> ! {
     unreachable!(
         "the proved front gives no {} of number {}; was another libzelezmut.a linked?",
         what, number
@@ -63,7 +63,7 @@ impl Refused {
     fn from_number(answer: u32) -> Refused {
         match Refused::ALL.iter().find(|r| r.number() == Some(answer)) {
             Some(&refused) => refused,
-            None => none_of_ours("call answer", answer),
+            None => none_of_ours("call answer", answer.into()),
         }
     }
 }
@@ -112,7 +112,7 @@ impl Ended {
             0 => Ended::Idle,
             1 => Ended::Waiting,
             2 => Ended::Paused,
-            _ => none_of_ours("ending", number),
+            _ => none_of_ours("ending", number.into()),
         }
     }
 }
@@ -127,7 +127,7 @@ impl fmt::Display for Ended {
     }
 }
 
-/// What a record asks of the host.
+/// What a record asks of the host; a [`Record`](crate::Record) has what it says too.
 #[derive(Clone, Copy, Debug, PartialEq, Eq, Hash)]
 #[repr(u32)]
 pub enum RecordKind {
@@ -137,10 +137,12 @@ pub enum RecordKind {
     Reads = 2,
     /// The host writes the range: a copy's result goes back to guest memory.
     Writes = 3,
+    /// The host draws within this part of the target alone: what a scissor leaves of it.
+    Clips = 4,
 }
 
 impl RecordKind {
-    /// The kind's number in document 01, 1 to 3.
+    /// The kind's number in documents 01 and 02, 1 to 4.
     #[inline]
     pub fn number(self) -> u32 {
         self as u32
@@ -150,7 +152,7 @@ impl RecordKind {
     pub(crate) fn from_front(number: u32) -> RecordKind {
         match RecordKind::try_from(number) {
             Ok(kind) => kind,
-            Err(UnknownKind(number)) => none_of_ours("record kind", number),
+            Err(UnknownKind(number)) => none_of_ours("record kind", number.into()),
         }
     }
 }
@@ -176,6 +178,7 @@ impl TryFrom<u32> for RecordKind {
             1 => Ok(RecordKind::Backs),
             2 => Ok(RecordKind::Reads),
             3 => Ok(RecordKind::Writes),
+            4 => Ok(RecordKind::Clips),
             _ => Err(UnknownKind(number)),
         }
     }
@@ -187,6 +190,7 @@ impl fmt::Display for RecordKind {
             RecordKind::Backs => "backs",
             RecordKind::Reads => "reads",
             RecordKind::Writes => "writes",
+            RecordKind::Clips => "clips",
         })
     }
 }
@@ -232,7 +236,7 @@ pub enum DeviceError {
     BadStream = 16,
     /// A packet's size breaks a rule, or bytes are left over.
     BadPacket = 17,
-    /// A handle is 0, live when created, or not live (or no buffer) when used.
+    /// A handle is 0, live when created, or not live when used; or a copy's is no buffer, a target's no texture.
     BadHandle = 18,
     /// More than 64 table entries, resources or records.
     TooMany = 19,
@@ -252,11 +256,13 @@ pub enum DeviceError {
     BadCopy = 26,
     /// The host said that it failed.
     HostFailed = 27,
+    /// A viewport, clear or scissor breaks a rule, or there is no target for the scissor.
+    BadState = 30,
 }
 
 impl DeviceError {
     /// Every error, by rising number.
-    pub const ALL: [DeviceError; 18] = [
+    pub const ALL: [DeviceError; 19] = [
         DeviceError::BadRing,
         DeviceError::BadDescriptor,
         DeviceError::OutsideMemory,
@@ -275,9 +281,10 @@ impl DeviceError {
         DeviceError::HostBacked,
         DeviceError::BadCopy,
         DeviceError::HostFailed,
+        DeviceError::BadState,
     ];
 
-    /// The error's number in document 01, 10 to 27.
+    /// The error's number in documents 01 and 02: 10 to 27, and 30.
     #[inline]
     pub fn number(self) -> u32 {
         self as u32
@@ -299,7 +306,7 @@ impl DeviceError {
         }
         match DeviceError::from_number(number) {
             Some(error) => Some(error),
-            None => none_of_ours("error", number),
+            None => none_of_ours("error", number.into()),
         }
     }
 }
@@ -325,6 +332,9 @@ impl fmt::Display for DeviceError {
             DeviceError::HostBacked => "the resource has no guest memory behind it",
             DeviceError::BadCopy => "a copy within one buffer, or with unknown flags",
             DeviceError::HostFailed => "the host failed",
+            DeviceError::BadState => {
+                "a viewport, clear or scissor breaks a rule, or a scissor has no target"
+            }
         })
     }
 }
@@ -349,12 +359,12 @@ mod tests {
     }
 
     #[test]
-    fn errors_are_10_to_27() {
+    fn errors_are_10_to_27_and_30() {
         let numbers: Vec<u32> = DeviceError::ALL.iter().map(|e| e.number()).collect();
-        assert_eq!(numbers, (10..=27).collect::<Vec<u32>>());
+        assert_eq!(numbers, (10..=27).chain([30]).collect::<Vec<u32>>());
         for number in 0..100 {
             let error = DeviceError::from_number(number);
-            assert_eq!(error.is_some(), (10..=27).contains(&number));
+            assert_eq!(error.is_some(), numbers.contains(&number));
             assert_eq!(error.map_or(number, DeviceError::number), number);
         }
         assert_eq!(DeviceError::from_front(0), None);
@@ -379,10 +389,10 @@ mod tests {
                 Ok(kind) => assert_eq!(kind.number(), number),
                 Err(unknown) => assert_eq!(unknown, UnknownKind(number)),
             }
-            let known = (1..=3).contains(&number);
+            let known = (1..=4).contains(&number);
             assert_eq!(RecordKind::try_from(number).is_ok(), known);
         }
-        assert_eq!(UnknownKind(4).to_string(), "no record has kind 4");
+        assert_eq!(UnknownKind(5).to_string(), "no record has kind 5");
         assert_eq!(HostAnswer::from(true), HostAnswer::Good);
         assert_eq!(HostAnswer::from(false), HostAnswer::Failed);
     }

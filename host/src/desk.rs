@@ -1,6 +1,7 @@
 //! The desk: the proved front with its state, as a Rust value with safe methods.
-use crate::answers::{DeviceError, Ended, HostAnswer, RecordKind, Refused, Written};
+use crate::answers::{DeviceError, Ended, HostAnswer, Refused, Written};
 use crate::place::{write_error_at, Place};
+use crate::record::Record;
 use crate::state::State;
 use crate::ticket::{Ticket, Waiting};
 use crate::{front, registers};
@@ -56,31 +57,6 @@ impl Ran {
             ended: Ended::from_number(ended),
         })
     }
-}
-
-/// A checked range of guest memory, for the host to work on.
-///
-/// It says where guest memory is to be read or written, and for which resource. What else the submission asks of the host is in its
-/// stream alone, which [`decode`](crate::guest::decode) reads:
-///
-/// - where within the resource the range is. A create's record, [`RecordKind::Backs`], has the whole resource: a later range's `gpa`
-///   less that one's is the offset, as long as the resource's entry has not moved since;
-/// - what a copy reads: the source, be it backed or not, has no record, and a copy without writeback has none at all;
-/// - a resource that lives with the host: neither its create nor what is done with it makes a record; nor does any destroy, nor a
-///   dirty range or a copy of no bytes;
-/// - a texture's shape, and packets that the front does not know.
-#[derive(Clone, Copy, Debug, PartialEq, Eq, Hash)]
-pub struct Record {
-    /// What is asked of the host.
-    pub kind: RecordKind,
-    /// The resource's handle.
-    pub handle: u32,
-    /// The table entry's id.
-    pub id: u32,
-    /// Where the range starts in guest memory; all of it lies within.
-    pub gpa: u64,
-    /// The range's bytes.
-    pub length: u64,
 }
 
 /// What the error registers say.
@@ -206,14 +182,7 @@ impl Desk {
     pub fn record(&self, i: u32) -> Result<Record, Refused> {
         let (answer, said) = front::record(&self.state, i);
         Refused::from_answer(answer)?;
-        let [kind, handle, id, gpa, length] = said;
-        Ok(Record {
-            kind: RecordKind::from_front(kind as u32),
-            handle: handle as u32,
-            id: id as u32,
-            gpa,
-            length,
-        })
+        Ok(Record::from_front(said))
     }
 
     /// All records of the waiting submission, in the order of its packets; none if no submission waits.
@@ -285,7 +254,7 @@ impl Desk {
         answer: HostAnswer,
         allowance: u16,
     ) -> Result<Ran, Refused> {
-        if ticket != self.ticket && self.state.waits() {
+        if self.state.waits() && ticket != self.ticket {
             return Err(self.refused_for_ticket(memory));
         }
         let good = answer == HostAnswer::Good;

@@ -220,4 +220,6 @@ pub(crate) fn answer(state: &mut State, memory: &mut [u8], good: bool, allowance
 #[cfg(test)]
 mod fuzz;
 #[cfg(test)]
+mod resting;
+#[cfg(test)]
 mod tests;

@@ -7,9 +7,11 @@
 mod decoding;
 mod fields;
 mod packet;
+mod state_packets;
 
 pub use decoding::{decode, Decoded, Packets, StreamError};
 pub use packet::{stream, stream_of, Backing, Packet, Shape};
+pub use state_packets::{Clear, Scissor, Viewport};
 
 use fields::{put_field, put_long, put_word, Fields};
 

@@ -1,8 +1,8 @@
 //! The front of an emulated graphics adapter, for emulators in Rust.
 //!
 //! A [`Desk`] keeps the adapter's registers, takes submissions from a ring in guest memory, checks their tables and packets
-//! one unit at a time, hands the ranges they name to the host as [`Record`]s, and finishes fences. What a resource holds,
-//! shaders and scanout are the host's own business.
+//! one unit at a time, hands the ranges they name, and their clipped scissors, to the host as [`Record`]s, and finishes fences. What a
+//! resource holds, shaders and scanout are the host's own business.
 //!
 //! The rules are not in this crate. They are in `libzelezmut.a`, written in Rattle and proved to meet the rule book, which
 //! states document 01 as definitions; this crate lends it state and memory, and gives its numbers names. Its one module with
@@ -12,7 +12,7 @@
 //!
 //! ```
 //! use zelezmut::guest::{self, Backing, Descriptor, Entry, Packet, Part};
-//! use zelezmut::{registers, Desk, Ended, HostAnswer, Record, RecordKind};
+//! use zelezmut::{registers, Desk, Ended, HostAnswer, Range, Record};
 //!
 //! // What the guest's driver has written: a table of one entry, a stream of two packets, and a ring that names them.
 //! let mut memory = vec![0; 16_384];
@@ -48,8 +48,8 @@
 //! assert_eq!(
 //!     records,
 //!     [
-//!         Record { kind: RecordKind::Backs, handle: 1, id: 5, gpa: 8256, length: 256 },
-//!         Record { kind: RecordKind::Reads, handle: 1, id: 5, gpa: 8272, length: 32 },
+//!         Record::Backs(Range { handle: 1, id: 5, gpa: 8256, length: 256 }),
+//!         Record::Reads(Range { handle: 1, id: 5, gpa: 8272, length: 32 }),
 //!     ]
 //! );
 //!
@@ -63,12 +63,13 @@
 //! # How a host carries a submission out
 //!
 //! When a run ends [waiting](Ended::Waiting), all of the submission was checked. Each range of guest memory that the host is to read or
-//! write is a [`Record`]; what a record does not say (the source of a copy, where within a resource a range is, resources that live
-//! with the host) stands in the submission's stream. So a host
+//! write is a [`Record`], and so is what each scissor leaves of its target; what a record does not say (the source of a copy, where
+//! within a resource a range is, resources that live with the host, viewports and clears) stands in the submission's stream. So a host
 //!
 //! 1. takes the ticket from [`Desk::waiting`] and the records from [`Desk::records`];
 //! 2. finds the stream by [`guest::at_head`], and reads its packets by [`guest::decode`], once, from a copy;
-//! 3. does what each packet says, with the next record where the packet names guest memory: the records come in the packets' order;
+//! 3. does what each packet says, with the next record where the packet names guest memory or is a scissor: the records come in the
+//!    packets' order;
 //! 4. answers with the ticket: [`Good`](HostAnswer::Good), or [`Failed`](HostAnswer::Failed) if something did not fit.
 //!
 //! **Guest memory may have changed since it was checked**: the guest runs between the slices of a run, and while the host works. What
@@ -81,7 +82,8 @@
 //! - Memory is lent to [`Desk::run`] and [`Desk::answer`] as `&mut [u8]`: nobody else, no virtual processor either, may touch
 //!   it during such a call. Between calls the guest may write anywhere; what was checked is kept, not read again. Guest memory in
 //!   several regions is lent as one slice: [`Desk::run`] has more.
-//! - A [`Record`] is a range and its resource, no more: its documentation says what a host finds in the stream alone.
+//! - A [`Record`] is a range and its resource, or a part of the target, no more: its documentation says what a host finds in the stream
+//!   alone.
 //! - No rule bounds a buffer that lives with the host: a guest may ask for 2^64 - 1 bytes. The host's own limit is an answer
 //!   [`Failed`](HostAnswer::Failed).
 //! - [`Desk::write`] says when the doorbell rang and when the device was reset.
@@ -112,12 +114,14 @@ mod meaning;
 #[cfg(test)]
 mod numbers;
 mod place;
+mod record;
 pub mod registers;
 pub mod script;
 mod state;
 mod ticket;
 
 pub use answers::{DeviceError, Ended, HostAnswer, RecordKind, Refused, UnknownKind, Written};
-pub use desk::{packed_size, table_error, Desk, ErrorReport, Ran, Record, TableError};
+pub use desk::{packed_size, table_error, Desk, ErrorReport, Ran, TableError};
 pub use place::Place;
+pub use record::{Range, Record, Rectangle};
 pub use ticket::{Ticket, Waiting};

@@ -45,8 +45,8 @@ type Table = (u64, u32, u32);
 /// Address and size.
 type Stream = (u64, u32);
 
-/// The submission's resources, and the records that it has made.
-type Held<'a> = (Map<'a>, Made<'a>);
+/// The submission's resources, the records that it has made, and its target.
+type Held<'a> = (Map<'a>, Made<'a>, u32);
 
 fn work(state: &State) -> Work<'_> {
     let kept = Kept(state.live(&state.entries, ENTRY_WORDS, KEPT));
@@ -100,6 +100,7 @@ fn held(state: &State) -> Held<'_> {
     (
         Map(state.live(table, RESOURCE_WORDS, HELD)),
         Made(state.live(&state.records, RECORD_WORDS, MADE)),
+        state.small(TARGET),
     )
 }
 
@@ -186,7 +187,7 @@ mod tests {
     use crate::registers;
 
     const MEMORY_BYTES: usize = 4096;
-    const SMALL: [usize; 9] = [
+    const SMALL: [usize; 10] = [
         RING_SIZE,
         IRQ_ENABLE,
         ERROR_CODE,
@@ -196,6 +197,7 @@ mod tests {
         TABLE_COUNT,
         TABLE_STRIDE,
         STREAM_SIZE,
+        TARGET,
     ];
     const FLAGS: [usize; 7] = [ENABLED, FENCED, FAILED, DOORBELL, JOB_SILENT, SIDE, COPIED];
 
@@ -207,9 +209,9 @@ mod tests {
             ENTRIES => (JOB_RING..=STREAM_SIZE).contains(&i) || i == KEPT,
             PACKETS => {
                 let read = (STREAM_GPA..=KEPT).contains(&i);
-                of_the_job || read || [HELD, MADE, COPIED].contains(&i)
+                of_the_job || read || [HELD, MADE, COPIED, TARGET].contains(&i)
             }
-            _ => of_the_job || [KEPT, HELD, MADE, COPIED].contains(&i),
+            _ => of_the_job || [KEPT, HELD, MADE, COPIED, TARGET].contains(&i),
         };
         in_work || i <= TAG || [LIVE, SIDE, ERROR_DETAIL].contains(&i)
     }

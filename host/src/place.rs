@@ -47,7 +47,8 @@ impl Place {
             | DeviceError::ReadOnly
             | DeviceError::PastResource
             | DeviceError::HostBacked
-            | DeviceError::BadCopy => Place::Packet(detail),
+            | DeviceError::BadCopy
+            | DeviceError::BadState => Place::Packet(detail),
         }
     }
 }

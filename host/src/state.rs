@@ -34,7 +34,7 @@ pub(crate) struct State {
 }
 
 /// It goes up with every landing that grows the state or changes what its words mean, here and in the library.
-const LAYOUT_VERSION: u64 = 1;
+const LAYOUT_VERSION: u64 = 2;
 
 /// The number that the library must give of itself: the version, and how many words each array has.
 pub(crate) const LAYOUT: u64 = LAYOUT_VERSION << 48
@@ -85,6 +85,8 @@ pub(crate) mod word {
     pub(crate) const COPIED: usize = 29;
     /// With the words of the error above.
     pub(crate) const ERROR_DETAIL: usize = 30;
+    /// The handle of the submission's target, 0 for none.
+    pub(crate) const TARGET: usize = 31;
 }
 
 /// What is in work, by its tag; any other waits for the host.

@@ -187,7 +187,8 @@ fn the_run_goes_on_over_a_refusal_to_the_next_that_waits() {
     );
     assert_eq!(night.error(), Some((DeviceError::BadHandle, 3, 2)));
     assert_eq!(night.desk.completed_fence(), 3);
-    assert_eq!(night.desk.record(0).unwrap().handle, 3);
+    let range = night.desk.record(0).unwrap().range().unwrap();
+    assert_eq!(range.handle, 3);
     assert_eq!(night.answer(HostAnswer::Good, 100), ran(1, Ended::Idle));
     assert_eq!(night.desk.completed_fence(), 4);
 }

@@ -1,7 +1,7 @@
 //! The reader of streams held against the front: what the front has checked is read to its end, and where the front refuses a stream
 //! or a packet's size, so does the reader.
 use std::collections::BTreeMap;
-use zelezmut::guest::{self, Descriptor, Packet, Part};
+use zelezmut::guest::{self, Clear, Descriptor, Packet, Part, Viewport};
 use zelezmut::{registers, Desk, DeviceError, Ended, Place};
 
 const MEMORY: usize = 4096;
@@ -22,8 +22,19 @@ impl Numbers {
         1 + self.below(8) as u32 % 3
     }
 
+    /// 0, 1, and now and then a number that is neither.
+    fn float(&mut self) -> f32 {
+        let any = f32::from_bits(self.0 as u32);
+        [0.0, -0.0, 0.5, 1.0, 0.5, any][self.below(6)]
+    }
+
+    /// Between the opcodes that are known, and those.
+    fn opcode(&mut self) -> u32 {
+        [255, 1023, 1535][self.below(3)] + self.below(9) as u32
+    }
+
     fn packet(&mut self) -> Packet {
-        match self.below(6) {
+        match self.below(9) {
             0 => Packet::Destroy {
                 handle: self.handle(),
             },
@@ -35,8 +46,25 @@ impl Numbers {
                 size: 16,
                 writeback: false,
             },
+            3 => Packet::Target {
+                handle: self.handle(),
+            },
+            4 => Packet::Viewport(Viewport {
+                x: self.float(),
+                y: self.float(),
+                width: 1.0,
+                height: self.float(),
+                near: 0.0,
+                far: self.float(),
+            }),
+            5 => Packet::Clear(Clear {
+                flags: self.below(9) as u32,
+                colour: [(); 4].map(|()| self.float()),
+                depth: self.float(),
+                stencil: 0,
+            }),
             _ => Packet::Unknown {
-                opcode: 255 + self.below(9) as u32,
+                opcode: self.opcode(),
                 size: 8 + 4 * self.below(12) as u32,
             },
         }
@@ -148,7 +176,7 @@ fn the_reader_and_the_front_agree() {
             Some(other) => panic!("{:?}: {:?}", other, stream),
         }
     }
-    for error in [0, 16, 17, 18, 26] {
+    for error in [0, 16, 17, 18, 26, 30] {
         let times = met.get(&error).copied().unwrap_or(0);
         assert!(times > 100, "error {}: {:?}", error, met);
     }

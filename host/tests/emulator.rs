@@ -3,7 +3,7 @@
 mod emulator;
 
 use emulator::{play, start, submit, Emulator, GET_BACK, MEMORY, PICTURE, STREAM, UPLOAD};
-use zelezmut::guest::{self, Backing, Packet, Shape};
+use zelezmut::guest::{self, Backing, Clear, Packet, Scissor, Shape, Viewport};
 use zelezmut::DeviceError;
 
 /// Where buffer 1 of the example lives in guest memory.
@@ -36,11 +36,11 @@ fn uploaded() -> Emulator {
 fn changed_behind(packets: &[Packet], change: impl Fn(&mut [u8])) -> String {
     let mut emulator = uploaded();
     submit(&mut emulator, 2, packets).unwrap();
-    // Opening and entry are the first slice; after the second the submission waits.
-    let mut slices = 0;
+    // Opening, entry and packets in slices of two: after the last one the submission waits.
+    let (mut slices, last) = (0, (2 + packets.len() + 1) / 2);
     let troubles = emulator.serve(|memory| {
         slices += 1;
-        if slices == 2 {
+        if slices == last {
             change(memory);
         }
     });
@@ -67,7 +67,7 @@ fn what_the_guest_changes_behind_the_check_is_answered_failed() {
         (first + 20, 1, "surface 1 has no 5 bytes at 4294967396"),
         (first + 24, u32::MAX, "surface 2 has no 5 bytes at 4294967295"),
         (first + 32, 4, "no record writes 4 bytes of surface 1"),
-        (first + 40, 0, "the stream has nothing for Record { kind: Writes, handle: 1, id: 5, gpa: 8356, length: 5 }"),
+        (first + 40, 0, "the stream has nothing for: writes 5 bytes at 8356: resource 1, table entry 5"),
         (first + 48 + 8, 3, "there is no surface 3"),
         (64 + 64 + 48, 8, "the ring has changed"),
     ] {
@@ -89,6 +89,75 @@ fn the_guest_is_not_given_more_than_the_host_has() {
             told,
             format!("fence 2: surface 3 of {} bytes is too large", size)
         );
+    }
+}
+
+/// A texture, and what says how to draw on it.
+fn drawing() -> [Packet; 5] {
+    let shape = Shape {
+        format: 1,
+        width: 5,
+        height: 3,
+        mips: 1,
+        layers: 1,
+        pitch: 0,
+    };
+    [
+        Packet::CreateTexture {
+            handle: 3,
+            shape,
+            backing: None,
+        },
+        Packet::Target { handle: 3 },
+        Packet::Viewport(Viewport {
+            x: 0.0,
+            y: 0.0,
+            width: 5.0,
+            height: 3.0,
+            near: 0.0,
+            far: 1.0,
+        }),
+        Packet::Scissor(Scissor {
+            x: -1,
+            y: 1,
+            width: 3,
+            height: 9,
+        }),
+        Packet::Clear(Clear {
+            flags: 1,
+            colour: [1.0; 4],
+            depth: 1.0,
+            stencil: 0,
+        }),
+    ]
+}
+
+#[test]
+fn state_packets_are_carried_out_and_judged_anew() {
+    let mut emulator = uploaded();
+    submit(&mut emulator, 2, &drawing()).unwrap();
+    assert_eq!(emulator.serve(|_| ()), Ok(Vec::new()));
+    assert!(emulator.surfaces.contains_key(&3));
+
+    let [texture, target, viewport] = [24, 24 + 56, 24 + 56 + 16].map(|at| STREAM + at);
+    let scissor = viewport + 32;
+    let not_a_number = f32::NAN.to_bits();
+    for (at, value, trouble) in [
+        (target + 8, 9, "there is no surface 9"),
+        (viewport + 28, not_a_number, "a float is no number"),
+        (scissor + 24 + 28, not_a_number, "a float is no number"),
+        // A texture that lives with the host has no record, one that is backed would have the scissor's.
+        (texture + 40, 5, "no record backs 0 bytes of surface 3"),
+        (
+            scissor,
+            9,
+            "the stream has nothing for: clips to 2 by 2 pixels at 0, 1",
+        ),
+        (viewport, 1026, "no record clips"),
+    ] {
+        let put = |memory: &mut [u8]| guest::put(memory, at, &value.to_le_bytes());
+        let told = changed_behind(&drawing(), put);
+        assert!(told.contains(trouble), "{}", told);
     }
 }
 

@@ -5,7 +5,7 @@ use current::ticket;
 use zelezmut::guest::{self, Backing, Descriptor, Entry, Packet, Part, Shape};
 use zelezmut::{
     packed_size, registers, table_error, Desk, DeviceError, Ended, ErrorReport, HostAnswer, Place,
-    Ran, Record, RecordKind, Refused, TableError,
+    Ran, Range, Record, Refused, TableError,
 };
 
 const MEMORY: usize = 16_384;
@@ -87,20 +87,18 @@ fn ran(units: u16, ended: Ended) -> Result<Ran, Refused> {
 fn example_9_waits_after_4_units_with_two_records() {
     let (mut desk, mut memory) = example_9();
     assert_eq!(desk.run(&mut memory, 100), ran(4, Ended::Waiting));
-    let backs = Record {
-        kind: RecordKind::Backs,
+    let backs = Record::Backs(Range {
         handle: 1,
         id: 5,
         gpa: 8256,
         length: 256,
-    };
-    let reads = Record {
-        kind: RecordKind::Reads,
+    });
+    let reads = Record::Reads(Range {
         handle: 1,
         id: 5,
         gpa: 8272,
         length: 32,
-    };
+    });
     assert_eq!(desk.record(0), Ok(backs));
     assert_eq!(desk.record(1), Ok(reads));
     assert_eq!(desk.record(2), Err(Refused::NoRecord));

@@ -136,7 +136,7 @@ pub ruleset running = (runs-other, runs-done, carries-on, needs)
 
 -- the rules' answer to what waits
 module _ (s e r h c m : List ℕ) (asked : 3 ≤ tagIn s) where
-  good-answer : answered true (worldIn s e r h c m) ≡ settled (jobIn s) fine (heldIn s r h c .resources) (bareIn s r m)
+  good-answer : answered true (worldIn s e r h c m) ≡ settled (jobIn s) fine (heldIn s r h c .holdings .resources) (bareIn s r m)
   unfolding answered settled worldIn
   good-answer = ap (answer-on true (worldIn s e r h c m)) (waits-in s e r h c m asked)
 

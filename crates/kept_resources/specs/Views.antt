@@ -4,7 +4,7 @@ use Prim.Native.Nat.{ℕ, _+_, _%_, _^_}
 use lib.Dec.{eqb}
 use lib.ListN.{getD}
 use Rattle.machine.specs.Machine.{pick}
-use Rattle.rules.specs.Packets.{Holdings}
+use Rattle.rules.specs.Packets.{Holdings, Progress}
 use Rattle.rules.specs.declared.Kind.{Kind}
 use Rattle.rules.specs.declared.Kind.the-variants.{Buffer, Texture}
 use Rattle.rules.specs.declared.Resource.{Resource}
@@ -42,6 +42,10 @@ recordsOf n l = table recordOf 5 n l
 -- what a submission holds
 abbrev pub holdingsOf : ℕ → List ℕ → ℕ → List ℕ → Holdings
 holdingsOf live resources made records = record { resources = resourcesOf live resources; records = recordsOf made records }
+
+-- what it carries from packet to packet: that, and its target
+abbrev pub progressOf : ℕ → ℕ → List ℕ → ℕ → List ℕ → Progress
+progressOf target live resources made records = record { holdings = holdingsOf live resources made records; target = target }
 
 -- ---- the tables of a device, each by its name
 

@@ -1,5 +1,5 @@
--- What a packet can come to, whatever it is: refused with what was held, or one of five effects, each with what the rules then
--- know. A fact about outcomes is shown once for these. Assumes nothing.
+-- What a packet can come to, whatever it is: refused with what was held, or one of seven effects, each with what the rules then
+-- know. A fact about what a submission carries from packet to packet is shown once for these. Assumes nothing.
 use mathlib.Core.Path.{_≡_, refl}
 use mathlib.Core.Bool.{Bool, true, false, not, _||_}
 use mathlib.Core.List.{List}
@@ -9,25 +9,31 @@ use borrow.Author.Tests.{eqb-false, leb-false, ltb-false, not-true, not-false}
 use lib.Dec.{ltb, eqb}
 use lib.ListN.{length, take}
 use Rattle.machine.specs.Machine.{pick}
-use Rattle.rules.specs.Numbers.{bad-handle, too-many, bad-shape, not-in-table, past-entry, read-only, past-resource, host-backed, bad-copy, most, backs, reads, writes}
+use Rattle.rules.specs.Numbers.{bad-handle, too-many, bad-shape, not-in-table, past-entry, read-only, past-resource, host-backed, bad-copy, bad-state, most, backs, reads, writes}
 use Rattle.rules.specs.Lists.{Found, indexOf, removed}
 use Rattle.rules.specs.Lists.Found.{none, found}
 use Rattle.rules.specs.Judging.{refusal}
 use Rattle.rules.specs.Shapes.{packed-size}
+use Rattle.rules.specs.StatePackets.{bad-viewport, bad-clear, bad-sides, clip-of}
 use Rattle.rules.specs.Table.{matching}
 use Rattle.rules.specs.Stream.{frame-of, packet-of}
-use Rattle.rules.specs.Packets.{Holdings, Outcome, accepted, refuse, full, handle-of, live, is-live, on-live, on-kind, on-buffer, on-entry, backed, range-of, recorded, hand-out, stored, create-hosted, create-backed, create, on-buffer-packet, on-texture-packet, on-destroy-packet, on-dirty-packet, write-back, on-copy-packet, apply, apply-frame, take-packet}
+use Rattle.rules.specs.Packets.{Holdings, Outcome, accepted, refuse, full, handle-of, live, is-live, on-live, on-kind, on-buffer, on-entry, backed, range-of, recorded, hand-out, stored, create-hosted, create-backed, create, on-buffer-packet, on-texture-packet, on-destroy-packet, on-dirty-packet, write-back, on-copy-packet, live-texture, on-texture, on-target-packet, on-viewport-packet, on-clear-packet, on-scissor-packet, apply, Progress, Passed, passed, target-after, pass, pass-frame, take-packet}
 use Rattle.rules.specs.declared.Entry.{Entry}
 use Rattle.rules.specs.declared.Resource.{Resource}
 use Rattle.rules.specs.declared.Shape.{Shape}
+use Rattle.rules.specs.declared.SetScissor.{SetScissor}
+use Rattle.rules.specs.declared.DestroyResource.{DestroyResource}
+use Rattle.rules.specs.declared.DirtyRange.{DirtyRange}
+use Rattle.rules.specs.declared.CopyBuffer.{CopyBuffer}
+use Rattle.rules.specs.declared.SetTarget.{SetTarget}
 use Rattle.rules.specs.declared.Refusal.{Refusal}
-use Rattle.rules.specs.declared.Verdict.the-variants.{Broken}
+use Rattle.rules.specs.declared.Verdict.the-variants.{Fine, Broken}
 use Rattle.rules.specs.declared.Kind.{Kind}
 use Rattle.rules.specs.declared.Kind.the-variants.{Buffer as BufferKind, Texture as TextureKind}
 use Rattle.rules.specs.declared.Frame.{Frame}
 use Rattle.rules.specs.declared.Frame.the-variants.{Whole, Misframed}
 use Rattle.rules.specs.declared.Packet.{Packet}
-use Rattle.rules.specs.declared.Packet.the-variants.{Buffer, Texture, Destroy, Dirty, Copy, Unknown}
+use Rattle.rules.specs.declared.Packet.the-variants.{Buffer, Texture, Destroy, Dirty, Copy, Target, Viewport, Scissor, Clear, NotANumber, Unknown}
 
 -- ---- the bytes that a resource keeps
 
@@ -53,11 +59,21 @@ pub record Fresh (h : Holdings) (r : Resource) : Type 0 where
   pub room : length (h .resources) < most
   pub bytes : KeepsBytes r
 
--- a range of a resource, inside its entry, and there was room for its record
+-- a range of a resource, inside its entry, of one of the three kinds of range, and there was room for its record
 pub record InRange (es : List Entry) (h : Holdings) (kind : ℕ) (r : Resource) (e : Entry) (from size : ℕ) : Type 0 where
   pub entry : matching (r .backing) es ≡ found e
   pub inside : r .offset + (from + size) ≤ e .size
   pub room : length (h .records) < most
+  pub low : backs ≤ kind
+  pub high : kind ≤ writes
+
+-- a scissor in a submission whose target is a live texture: its sides are not negative, and there was room for its record
+pub record Clipped (target : ℕ) (h : Holdings) (s : Shape) (c : SetScissor) : Type 0 where
+  pub texture : live-texture target h ≡ found s
+  pub sides : bad-sides c ≡ false
+  pub room : length (h .records) < most
+
+-- ---- a packet's rules, one by one
 
 module _ (P : Outcome → Type 0) (h : Holdings) (refuses : (r : Refusal) → P (record { verdict = Broken r; held = h })) where
   refuse-or : (n : ℕ) (t : Bool) (later : Outcome) → (t ≡ false → P later) → P (refuse n t h later)
@@ -79,31 +95,27 @@ module _ (P : Outcome → Type 0) (h : Holdings) (refuses : (r : Refusal) → P 
   entry-or none later k = refuses (refusal not-in-table)
   entry-or (found e) later k = k e refl
 
+  texture-or : (n : ℕ) (f : Found Shape) (later : Shape → Outcome) → ((s : Shape) → f ≡ found s → P (later s)) → P (on-texture n f h later)
+  texture-or n none later k = refuses (refusal n)
+  texture-or n (found s) later k = k s refl
+
   pick-or : (t : Bool) (x y : Outcome) → (t ≡ true → P x) → (t ≡ false → P y) → P (pick t x y)
   pick-or true x y p q = p refl
   pick-or false x y p q = q refl
 
+  neither : (a b : Bool) → a || b ≡ false → (a ≡ false) × (b ≡ false)
+  neither true b e = absurd (let z : _≡_ {A = ℕ} 0 1 = cc in omega arith)
+  neither false b e = (refl, e)
+
+  unlive : (f : Found Resource) → is-live f ≡ false → f ≡ none
+  unlive none e = refl
+  unlive (found r) e = absurd (let z : _≡_ {A = ℕ} 0 1 = cc in omega arith)
+
+  -- ---- each kind of packet
+
   module _ (es : List Entry)
-      (keeps : P (accepted h))
       (stores : (r : Resource) → Fresh h r → P (accepted (stored r h)))
-      (backs-up : (r : Resource) (e : Entry) → Fresh h r → InRange es h backs r e 0 (r .bytes) → P (accepted (recorded (range-of backs r e 0 (r .bytes)) (stored r h))))
-      (removes : (k : ℕ) (r : Resource) → live k h ≡ found r → P (accepted (record { resources = removed (indexOf handle-of k (h .resources)) (h .resources); records = h .records })))
-      (hands : (kind : ℕ) (r : Resource) (e : Entry) (from size : ℕ) → InRange es h kind r e from size → P (accepted (recorded (range-of kind r e from size) h))) where
-    handed-or : (kind : ℕ) (r : Resource) (e : Entry) (from size : ℕ) → matching (r .backing) es ≡ found e → r .offset + (from + size) ≤ e .size → P (hand-out (range-of kind r e from size) h)
-    unfolding hand-out
-    handed-or kind r e from size m i =
-        pick-or (eqb size 0) (accepted h) _ (λ _. keeps) (λ _.
-        refuse-or too-many (full (h .records)) _ (λ f.
-        hands kind r e from size (record { entry = m; inside = i; room = leb-false most (length (h .records)) f })))
-
-    neither : (a b : Bool) → a || b ≡ false → (a ≡ false) × (b ≡ false)
-    neither true b e = absurd (let z : _≡_ {A = ℕ} 0 1 = cc in omega arith)
-    neither false b e = (refl, e)
-
-    unlive : (f : Found Resource) → is-live f ≡ false → f ≡ none
-    unlive none e = refl
-    unlive (found r) e = absurd (let z : _≡_ {A = ℕ} 0 1 = cc in omega arith)
-
+      (backs-up : (r : Resource) (e : Entry) → Fresh h r → InRange es h backs r e 0 (r .bytes) → P (accepted (recorded (range-of backs r e 0 (r .bytes)) (stored r h)))) where
     create-or : (good : Bool) (r : Resource) → (good ≡ true → KeepsBytes r) → P (create es h good r)
     unfolding create create-hosted create-backed
     create-or good r keep =
@@ -120,24 +132,33 @@ module _ (P : Outcome → Type 0) (h : Holdings) (refuses : (r : Refusal) → P 
         refuse-or too-many (full (h .records)) _ (λ g.
         let fits : r .offset + r .bytes ≤ e .size = ltb-false (e .size) (r .offset + r .bytes) i in
         backs-up r e (record { some = some; unused = unused; room = leb-false most (length (h .resources)) f; bytes = bytes })
-        (record { entry = m; inside = omega arith; room = leb-false most (length (h .records)) g }))))))
+        (record { entry = m; inside = omega arith; room = leb-false most (length (h .records)) g; low = omega arith; high = omega arith }))))))
         (λ _. refuse-or too-many (full (h .resources)) _ (λ f.
         stores r (record { some = some; unused = unused; room = leb-false most (length (h .resources)) f; bytes = bytes })))))
 
-    -- one packet, whatever it is
-    pub apply-or : (p : Packet) → P (apply es h p)
-    unfolding apply on-buffer-packet on-texture-packet on-destroy-packet on-dirty-packet on-copy-packet write-back
-    apply-or (Buffer c) = create-or _ _ (λ g. eqb-false (c .size) 0 (not-true (eqb (c .size) 0) g))
-    apply-or (Texture c) = create-or _ _ (λ _. pitch-kept (backed (c .backing)) (c .shape) (c .pitch))
-    apply-or (Destroy c) = live-or (live (c .handle) h) _ (λ r e. removes (c .handle) r e)
-    apply-or (Dirty c) =
+  module _ (es : List Entry) (keeps : P (accepted h))
+      (hands : (kind : ℕ) (r : Resource) (e : Entry) (from size : ℕ) → InRange es h kind r e from size → P (accepted (recorded (range-of kind r e from size) h))) where
+    handed-or : (kind : ℕ) (r : Resource) (e : Entry) (from size : ℕ) → backs ≤ kind → kind ≤ writes → matching (r .backing) es ≡ found e → r .offset + (from + size) ≤ e .size
+        → P (hand-out (range-of kind r e from size) h)
+    unfolding hand-out
+    handed-or kind r e from size low high m i =
+        pick-or (eqb size 0) (accepted h) _ (λ _. keeps) (λ _.
+        refuse-or too-many (full (h .records)) _ (λ f.
+        hands kind r e from size (record { entry = m; inside = i; room = leb-false most (length (h .records)) f; low = low; high = high })))
+
+    dirty-or : (c : DirtyRange) → P (on-dirty-packet es h c)
+    unfolding on-dirty-packet
+    dirty-or c =
         live-or (live (c .handle) h) _ (λ r _.
         refuse-or host-backed (not (backed (r .backing))) _ (λ _.
         refuse-or past-resource (ltb (r .bytes) (c .offset + c .size)) _ (λ _.
         entry-or (matching (r .backing) es) _ (λ e m.
         refuse-or past-entry (ltb (e .size) (r .offset + (c .offset + c .size))) _ (λ i.
-        handed-or reads r e (c .offset) (c .size) m (ltb-false (e .size) (r .offset + (c .offset + c .size)) i))))))
-    apply-or (Copy c) =
+        handed-or reads r e (c .offset) (c .size) (omega arith) (omega arith) m (ltb-false (e .size) (r .offset + (c .offset + c .size)) i))))))
+
+    copy-or : (c : CopyBuffer) → P (on-copy-packet es h c)
+    unfolding on-copy-packet write-back
+    copy-or c =
         buffer-or (live (c .dst) h) _ (λ d _.
         buffer-or (live (c .src) h) _ (λ s _.
         refuse-or bad-copy (eqb (c .dst) (c .src) || ltb 1 (c .flags)) _ (λ _.
@@ -148,15 +169,67 @@ module _ (P : Outcome → Type 0) (h : Holdings) (refuses : (r : Refusal) → P 
         entry-or (matching (d .backing) es) _ (λ e m.
         refuse-or past-entry (ltb (e .size) (d .offset + (c .dstoffset + c .size))) _ (λ i.
         refuse-or read-only (eqb (e .flags % 2) 1) _ (λ _.
-        handed-or writes d e (c .dstoffset) (c .size) m (ltb-false (e .size) (d .offset + (c .dstoffset + c .size)) i))))))
+        handed-or writes d e (c .dstoffset) (c .size) (omega arith) (omega arith) m (ltb-false (e .size) (d .offset + (c .dstoffset + c .size)) i))))))
         (λ _. keeps))))))
-    apply-or Unknown = keeps
 
-    frame-or : (b : List ℕ) (f : Frame) → P (apply-frame es h b f)
-    frame-or b (Whole op size) = apply-or (packet-of op (take size b))
-    frame-or b (Misframed r) = refuses r
+  pub destroy-or : (c : DestroyResource)
+      → ((r : Resource) → live (c .handle) h ≡ found r → P (accepted (record { resources = removed (indexOf handle-of (c .handle) (h .resources)) (h .resources); records = h .records })))
+      → P (on-destroy-packet h c)
+  unfolding on-destroy-packet
+  destroy-or c removes = live-or (live (c .handle) h) _ removes
 
-    -- the packet that some bytes begin with
-    pub take-or : (b : List ℕ) → P (take-packet es h b)
-    unfolding take-packet
-    take-or b = frame-or b (frame-of b)
+  pub target-or : (c : SetTarget) → ((s : Shape) → live-texture (c .handle) h ≡ found s → P (accepted h)) → P (on-target-packet h c)
+  unfolding on-target-packet
+  target-or c targets = texture-or bad-handle (live-texture (c .handle) h) _ targets
+
+  pub scissor-or : (target : ℕ) (c : SetScissor) → ((s : Shape) → Clipped target h s c → P (accepted (recorded (clip-of s c) h))) → P (on-scissor-packet target h c)
+  unfolding on-scissor-packet
+  scissor-or target c clips-to =
+      texture-or bad-state (live-texture target h) _ (λ s t.
+      refuse-or bad-state (bad-sides c) _ (λ b.
+      refuse-or too-many (full (h .records)) _ (λ f. clips-to s (record { texture = t; sides = b; room = leb-false most (length (h .records)) f }))))
+
+-- ---- one packet, whatever it is
+
+-- what is held after it, with the same target
+abbrev pub going-on : Progress → Holdings → Passed
+going-on h held = record { verdict = Fine; held = record { holdings = held; target = h .target } }
+
+module _ (P : Passed → Type 0) (es : List Entry) (h : Progress)
+    (refuses : (r : Refusal) → P (record { verdict = Broken r; held = h }))
+    (keeps : P (record { verdict = Fine; held = h }))
+    (stores : (r : Resource) → Fresh (h .holdings) r → P (going-on h (stored r (h .holdings))))
+    (backs-up : (r : Resource) (e : Entry) → Fresh (h .holdings) r → InRange es (h .holdings) backs r e 0 (r .bytes) → P (going-on h (recorded (range-of backs r e 0 (r .bytes)) (stored r (h .holdings)))))
+    (removes : (k : ℕ) (r : Resource) → live k (h .holdings) ≡ found r
+    → P (record { verdict = Fine; held = record { holdings = record { resources = removed (indexOf handle-of k (h .holdings .resources)) (h .holdings .resources); records = h .holdings .records }; target = pick (eqb k (h .target)) 0 (h .target) } }))
+    (hands : (kind : ℕ) (r : Resource) (e : Entry) (from size : ℕ) → InRange es (h .holdings) kind r e from size → P (going-on h (recorded (range-of kind r e from size) (h .holdings))))
+    (targets : (k : ℕ) (s : Shape) → live-texture k (h .holdings) ≡ found s → P (record { verdict = Fine; held = record { holdings = h .holdings; target = k } }))
+    (cuts : (s : Shape) (c : SetScissor) → Clipped (h .target) (h .holdings) s c → P (going-on h (recorded (clip-of s c) (h .holdings)))) where
+  -- the same of what its rules come to
+  abbrev Of : Packet → Outcome → Type 0
+  Of p o = P (passed p (h .target) o)
+
+  pub pass-or : (p : Packet) → P (pass es h p)
+  unfolding pass apply target-after on-buffer-packet on-texture-packet on-viewport-packet on-clear-packet
+  pass-or (Buffer c) =
+      create-or (Of (Buffer c)) (h .holdings) refuses es stores backs-up _ _ (λ g. eqb-false (c .size) 0 (not-true (eqb (c .size) 0) g))
+  pass-or (Texture c) =
+      create-or (Of (Texture c)) (h .holdings) refuses es stores backs-up _ _ (λ _. pitch-kept (backed (c .backing)) (c .shape) (c .pitch))
+  pass-or (Destroy c) = destroy-or (Of (Destroy c)) (h .holdings) refuses c (removes (c .handle))
+  pass-or (Dirty c) = dirty-or (Of (Dirty c)) (h .holdings) refuses es keeps hands c
+  pass-or (Copy c) = copy-or (Of (Copy c)) (h .holdings) refuses es keeps hands c
+  pass-or (Target c) = target-or (Of (Target c)) (h .holdings) refuses c (targets (c .handle))
+  pass-or (Viewport v) = refuse-or (Of (Viewport v)) (h .holdings) refuses bad-state (bad-viewport v) _ (λ _. keeps)
+  pass-or (Scissor c) = scissor-or (Of (Scissor c)) (h .holdings) refuses (h .target) c (λ s k. cuts s c k)
+  pass-or (Clear c) = refuse-or (Of (Clear c)) (h .holdings) refuses bad-state (bad-clear c) _ (λ _. keeps)
+  pass-or NotANumber = refuses (refusal bad-state)
+  pass-or Unknown = keeps
+
+  frame-or : (b : List ℕ) (f : Frame) → P (pass-frame es h b f)
+  frame-or b (Whole op size) = pass-or (packet-of op (take size b))
+  frame-or b (Misframed r) = refuses r
+
+  -- the packet that some bytes begin with
+  pub take-or : (b : List ℕ) → P (take-packet es h b)
+  unfolding take-packet
+  take-or b = frame-or b (frame-of b)

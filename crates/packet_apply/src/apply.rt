@@ -10,42 +10,76 @@ use packet_create::create::on_texture;
 use packet_destroy::destroy::on_destroy;
 use packet_dirty::dirty::on_dirty;
 use packet_ranges::applied::Applied;
+use packet_ranges::applied::refuse;
+use packet_state::scissor::on_scissor;
+use packet_state::scissor::on_target;
+use packet_state::values::on_clear;
+use packet_state::values::on_viewport;
 use rules::CopyBuffer;
 use rules::CreateBuffer;
 use rules::CreateTexture;
 use rules::DestroyResource;
 use rules::DirtyRange;
 use rules::Packet;
+use rules::SetScissor;
+use rules::SetTarget;
 use rules::Verdict;
+use rules::numbers::BAD_STATE;
 ghost use mathlib.Core.Path.{_≡_};
 ghost use Prim.Native.Nat.{_≤_};
+ghost use lib.Dec.{eqb};
 ghost use Rattle.machine.specs.Machine.{pick};
 ghost use Rattle.rules.specs.Numbers.{most};
-ghost use Rattle.rules.specs.Packets.{on-buffer-packet, on-texture-packet, on-destroy-packet, on-dirty-packet, on-copy-packet, apply};
+ghost use Rattle.rules.specs.Packets.{on-buffer-packet, on-texture-packet, on-destroy-packet, on-dirty-packet, on-copy-packet, on-target-packet, on-scissor-packet, if-fine, passed, pass};
+ghost use Rattle.rules.specs.declared.Packet.the-variants.{Destroy, Target};
 ghost use Rattle.kept_entries.specs.Views.{entriesOf};
-ghost use Rattle.kept_resources.specs.Views.{resourcesOf, holdingsOf};
+ghost use Rattle.kept_resources.specs.Views.{resourcesOf};
 ghost use Rattle.packet_ranges.specs.Views.{RowsExist};
-ghost use Rattle.packet_apply.specs.Apply.{changedOf, Changes};
+ghost use Rattle.packet_apply.specs.Apply.{heldOf, changedOf, beside, Changes};
 
-// What a packet came to: its verdict, how many resources and records are held after it, and whether the resources are in the
-// submission's own table.
-pub struct Changed {
-    pub verdict: Verdict,
+// What a submission holds, beside the rows of its tables: how many resources and records there are, whether the resources are in the
+// submission's own table, and the handle of its target, 0 for none.
+pub struct Held {
     pub live: usize,
     pub made: usize,
     pub copied: bool,
+    pub target: u32,
 }
 
-fn with_own(a: Applied, copied: bool) -> Changed
-    ensures { λ x. ⌜ x ≡ changedOf a copied ⌝ }
+// What a packet came to: its verdict, and what is held after it.
+pub struct Changed {
+    pub verdict: Verdict,
+    pub held: Held,
+}
+
+fn with_own(a: Applied, copied: bool, target: u32) -> Changed
+    ensures { λ x. ⌜ x ≡ changedOf a copied target ⌝ }
 {
     let verdict = a.verdict;
-    Changed {
-        verdict,
+    let held = Held {
         live: a.live,
         made: a.made,
         copied,
+        target,
+    };
+    Changed { verdict, held }
+}
+
+// The target after a packet that would change it: one that is refused does not.
+fn if_fine(verdict: Verdict, new: u32, old: u32) -> u32
+    ensures { λ r. ⌜ r ≡ if-fine verdict new old ⌝ }
+{
+    match verdict {
+        Verdict::Fine => new,
+        Verdict::Broken(_) => old,
     }
+}
+
+// The target once a handle is destroyed: none, if it was that one.
+fn without(handle: u32, target: u32) -> u32
+    ensures { λ r. ⌜ r ≡ pick (eqb handle target) 0 target ⌝ }
+{
+    if handle == target { 0 } else { target }
 }
 
 // The table that has the submission's resources.
@@ -70,19 +104,18 @@ fn make_buffer(
     kept: usize,
     resources: &Resources,
     own: &mut Resources,
-    copied: bool,
-    live: usize,
     records: &mut Records,
-    made: usize,
+    h: Held,
     c: CreateBuffer,
 ) -> Changed
-    requires { ⌜ RowsExist kept live made ⌝ }
-    ensures { λ x. ⌜ Changes (on-buffer-packet (entriesOf kept (now (entries .entry)))
-        (holdingsOf live (pick copied (now (own .entry)) (now (resources .entry))) made (now (records .entry))) c)
+    requires { ⌜ RowsExist kept (h .live) (h .made) ⌝ }
+    ensures { λ x. ⌜ Changes (beside h (on-buffer-packet (entriesOf kept (now (entries .entry)))
+        (heldOf h (now (resources .entry)) (now (own .entry)) (now (records .entry)) .holdings) c))
         (now (resources .entry)) x (now (own .exit)) (now (records .exit)) ⌝ }
 {
-    take_own(resources, own, copied, live);
-    with_own(on_buffer(entries, kept, own, live, records, made, c), true)
+    take_own(resources, own, h.copied, h.live);
+    let a = on_buffer(entries, kept, own, h.live, records, h.made, c);
+    with_own(a, true, h.target)
 }
 
 fn make_texture(
@@ -90,37 +123,37 @@ fn make_texture(
     kept: usize,
     resources: &Resources,
     own: &mut Resources,
-    copied: bool,
-    live: usize,
     records: &mut Records,
-    made: usize,
+    h: Held,
     c: CreateTexture,
 ) -> Changed
-    requires { ⌜ RowsExist kept live made ⌝ }
-    ensures { λ x. ⌜ Changes (on-texture-packet (entriesOf kept (now (entries .entry)))
-        (holdingsOf live (pick copied (now (own .entry)) (now (resources .entry))) made (now (records .entry))) c)
+    requires { ⌜ RowsExist kept (h .live) (h .made) ⌝ }
+    ensures { λ x. ⌜ Changes (beside h (on-texture-packet (entriesOf kept (now (entries .entry)))
+        (heldOf h (now (resources .entry)) (now (own .entry)) (now (records .entry)) .holdings) c))
         (now (resources .entry)) x (now (own .exit)) (now (records .exit)) ⌝ }
 {
-    take_own(resources, own, copied, live);
-    with_own(on_texture(entries, kept, own, live, records, made, c), true)
+    take_own(resources, own, h.copied, h.live);
+    let a = on_texture(entries, kept, own, h.live, records, h.made, c);
+    with_own(a, true, h.target)
 }
 
 fn destroy(
     resources: &Resources,
     own: &mut Resources,
-    copied: bool,
-    live: usize,
     records: &Records,
-    made: usize,
+    h: Held,
     c: DestroyResource,
 ) -> Changed
-    requires { ⌜ (live ≤ most) × (made ≤ most) ⌝ }
-    ensures { λ x. ⌜ Changes (on-destroy-packet
-        (holdingsOf live (pick copied (now (own .entry)) (now (resources .entry))) made (now (records .entry))) c)
+    requires { ⌜ (h .live ≤ most) × (h .made ≤ most) ⌝ }
+    ensures { λ x. ⌜ Changes (passed (Destroy c) (h .target) (on-destroy-packet
+        (heldOf h (now (resources .entry)) (now (own .entry)) (now (records .entry)) .holdings) c))
         (now (resources .entry)) x (now (own .exit)) (now (records .entry)) ⌝ }
 {
-    take_own(resources, own, copied, live);
-    with_own(on_destroy(own, live, made, c), true)
+    take_own(resources, own, h.copied, h.live);
+    let a = on_destroy(own, h.live, h.made, c);
+    let verdict = a.verdict;
+    let target = if_fine(verdict, without(c.handle, h.target), h.target);
+    with_own(a, true, target)
 }
 
 fn dirty<'a>(
@@ -128,22 +161,18 @@ fn dirty<'a>(
     kept: usize,
     resources: &'a Resources,
     own: &'a Resources,
-    copied: bool,
-    live: usize,
     records: &mut Records,
-    made: usize,
+    h: Held,
     c: DirtyRange,
 ) -> Changed
-    requires { ⌜ RowsExist kept live made ⌝ }
-    ensures { λ x. ⌜ Changes (on-dirty-packet (entriesOf kept (now (entries .entry)))
-        (holdingsOf live (pick copied (now (own .entry)) (now (resources .entry))) made (now (records .entry))) c)
+    requires { ⌜ RowsExist kept (h .live) (h .made) ⌝ }
+    ensures { λ x. ⌜ Changes (beside h (on-dirty-packet (entriesOf kept (now (entries .entry)))
+        (heldOf h (now (resources .entry)) (now (own .entry)) (now (records .entry)) .holdings) c))
         (now (resources .entry)) x (now (own .entry)) (now (records .exit)) ⌝ }
 {
-    let held = chosen(resources, own, copied);
-    with_own(
-        on_dirty(entries, kept, held, live, records, made, c),
-        copied,
-    )
+    let table = chosen(resources, own, h.copied);
+    let a = on_dirty(entries, kept, table, h.live, records, h.made, c);
+    with_own(a, h.copied, h.target)
 }
 
 fn copy<'a>(
@@ -151,90 +180,86 @@ fn copy<'a>(
     kept: usize,
     resources: &'a Resources,
     own: &'a Resources,
-    copied: bool,
-    live: usize,
     records: &mut Records,
-    made: usize,
+    h: Held,
     c: CopyBuffer,
 ) -> Changed
-    requires { ⌜ RowsExist kept live made ⌝ }
-    ensures { λ x. ⌜ Changes (on-copy-packet (entriesOf kept (now (entries .entry)))
-        (holdingsOf live (pick copied (now (own .entry)) (now (resources .entry))) made (now (records .entry))) c)
+    requires { ⌜ RowsExist kept (h .live) (h .made) ⌝ }
+    ensures { λ x. ⌜ Changes (beside h (on-copy-packet (entriesOf kept (now (entries .entry)))
+        (heldOf h (now (resources .entry)) (now (own .entry)) (now (records .entry)) .holdings) c))
         (now (resources .entry)) x (now (own .entry)) (now (records .exit)) ⌝ }
 {
-    let held = chosen(resources, own, copied);
-    with_own(on_copy(entries, kept, held, live, records, made, c), copied)
+    let table = chosen(resources, own, h.copied);
+    let a = on_copy(entries, kept, table, h.live, records, h.made, c);
+    with_own(a, h.copied, h.target)
 }
 
-// What a packet does to the resources and records that a submission holds, by the entries of its table. `resources` is the device's
-// table, `own` the submission's own, which has its resources where `copied` says so.
+fn aim<'a>(
+    resources: &'a Resources,
+    own: &'a Resources,
+    records: &Records,
+    h: Held,
+    c: SetTarget,
+) -> Changed
+    requires { ⌜ (h .live ≤ most) × (h .made ≤ most) ⌝ }
+    ensures { λ x. ⌜ Changes (passed (Target c) (h .target) (on-target-packet
+        (heldOf h (now (resources .entry)) (now (own .entry)) (now (records .entry)) .holdings) c))
+        (now (resources .entry)) x (now (own .entry)) (now (records .entry)) ⌝ }
+{
+    let table = chosen(resources, own, h.copied);
+    let a = on_target(table, h.live, h.made, c);
+    let verdict = a.verdict;
+    let target = if_fine(verdict, c.handle, h.target);
+    with_own(a, h.copied, target)
+}
+
+fn cut<'a>(
+    resources: &'a Resources,
+    own: &'a Resources,
+    records: &mut Records,
+    h: Held,
+    c: SetScissor,
+) -> Changed
+    requires { ⌜ (h .live ≤ most) × (h .made ≤ most) ⌝ }
+    ensures { λ x. ⌜ Changes (beside h (on-scissor-packet (h .target)
+        (heldOf h (now (resources .entry)) (now (own .entry)) (now (records .entry)) .holdings) c))
+        (now (resources .entry)) x (now (own .entry)) (now (records .exit)) ⌝ }
+{
+    let table = chosen(resources, own, h.copied);
+    let a = on_scissor(table, h.live, records, h.made, h.target, c);
+    with_own(a, h.copied, h.target)
+}
+
+// What a packet does to what a submission holds, by the entries of its table. `resources` is the device's table of resources, `own` the
+// submission's own, which has its resources where `copied` says so.
 pub fn apply_packet(
     entries: &Entries,
     kept: usize,
     resources: &Resources,
     own: &mut Resources,
-    copied: bool,
-    live: usize,
     records: &mut Records,
-    made: usize,
+    h: Held,
     p: Packet,
 ) -> Changed
-    requires { ⌜ RowsExist kept live made ⌝ }
-    ensures { λ x. ⌜ Changes (apply (entriesOf kept (now (entries .entry)))
-        (holdingsOf live (pick copied (now (own .entry)) (now (resources .entry))) made (now (records .entry))) p)
+    requires { ⌜ RowsExist kept (h .live) (h .made) ⌝ }
+    ensures { λ x. ⌜ Changes (pass (entriesOf kept (now (entries .entry)))
+        (heldOf h (now (resources .entry)) (now (own .entry)) (now (records .entry))) p)
         (now (resources .entry)) x (now (own .exit)) (now (records .exit)) ⌝ }
 {
     match p {
-        Packet::Buffer(c) => make_buffer(
-            entries,
-            kept,
-            resources,
-            own,
-            copied,
-            live,
-            records,
-            made,
-            c,
-        ),
-        Packet::Texture(c) => make_texture(
-            entries,
-            kept,
-            resources,
-            own,
-            copied,
-            live,
-            records,
-            made,
-            c,
-        ),
-        Packet::Destroy(c) => destroy(resources, own, copied, live, records, made, c),
-        Packet::Dirty(c) => dirty(
-            entries,
-            kept,
-            resources,
-            own,
-            copied,
-            live,
-            records,
-            made,
-            c,
-        ),
-        Packet::Copy(c) => copy(
-            entries,
-            kept,
-            resources,
-            own,
-            copied,
-            live,
-            records,
-            made,
-            c,
-        ),
+        Packet::Buffer(c) => make_buffer(entries, kept, resources, own, records, h, c),
+        Packet::Texture(c) => make_texture(entries, kept, resources, own, records, h, c),
+        Packet::Destroy(c) => destroy(resources, own, records, h, c),
+        Packet::Dirty(c) => dirty(entries, kept, resources, own, records, h, c),
+        Packet::Copy(c) => copy(entries, kept, resources, own, records, h, c),
+        Packet::Target(c) => aim(resources, own, records, h, c),
+        Packet::Viewport(c) => with_own(on_viewport(h.live, h.made, c), h.copied, h.target),
+        Packet::Scissor(c) => cut(resources, own, records, h, c),
+        Packet::Clear(c) => with_own(on_clear(h.live, h.made, c), h.copied, h.target),
+        Packet::NotANumber => with_own(refuse(BAD_STATE, h.live, h.made), h.copied, h.target),
         Packet::Unknown => Changed {
             verdict: Verdict::Fine,
-            live,
-            made,
-            copied,
+            held: h,
         },
     }
 }

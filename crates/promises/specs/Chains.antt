@@ -11,11 +11,11 @@ use Rattle.rules.specs.State.Work.{resting}
 use Rattle.rules.specs.Steps.{step, go, waits, answered}
 use Rattle.rules.specs.Unsliced.{submitted-on, submitted}
 use Rattle.rules.specs.declared.Registers.{Registers}
-use Rattle.promises.specs.Whole.{midst, Course}
-use Rattle.promises.specs.Writes.{resets, registers-written}
-use Rattle.promises.specs.Night.{Clear}
-use Rattle.promises.specs.Acts.{Act, units-in, answers-in, registers-after}
-use Rattle.promises.specs.Acts.Act.{unit, write, answer}
+use Rattle.promises_of_submissions.specs.Whole.{midst, Course}
+use Rattle.promises_of_units.specs.Writes.{resets, registers-written}
+use Rattle.promises_of_submissions.specs.Night.{Clear}
+use Rattle.promises_of_units.specs.Acts.{Act, units-in, answers-in, registers-after}
+use Rattle.promises_of_units.specs.Acts.Act.{unit, write, answer}
 
 -- what the unsliced rules give of a submission that is opened with w's registers and settled with the registers q
 abbrev pub submitted-under : Registers → World → Out World

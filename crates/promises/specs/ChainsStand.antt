@@ -12,13 +12,13 @@ use Rattle.rules.specs.Steps.{step, go, answered}
 use Rattle.rules.specs.Unsliced.{submitted}
 use Rattle.rules.specs.declared.Registers.{Registers}
 use Rattle.rule_laws.specs.Fine.{both-left}
-use Rattle.promises.specs.Whole.{midst, Course, course-none}
-use Rattle.promises.specs.Writes.{resets, registers-written}
-use Rattle.promises.specs.Night.{Clear, rests, waits-clear, answered-clear}
-use Rattle.promises.specs.Called.{Call, after-all, units-of-all, taken-by-all}
-use Rattle.promises.specs.Acts.{Act, acts-of-all, units-in, answers-in, registers-after, units-in-both, answers-in-both, acts-units, acts-answers, Led, NoReset, calls-lead}
-use Rattle.promises.specs.Acts.Act.{unit, write, answer}
-use Rattle.promises.specs.Acts.Led.{stays, spends, writes-one, takes}
+use Rattle.promises_of_submissions.specs.Whole.{midst, Course, course-none}
+use Rattle.promises_of_units.specs.Writes.{resets, registers-written}
+use Rattle.promises_of_submissions.specs.Night.{Clear, rests, waits-clear, answered-clear}
+use Rattle.promises_of_units.specs.Called.{Call, after-all, units-of-all, taken-by-all}
+use Rattle.promises_of_units.specs.Acts.{Act, acts-of-all, units-in, answers-in, registers-after, units-in-both, answers-in-both, acts-units, acts-answers, Led, NoReset, calls-lead}
+use Rattle.promises_of_units.specs.Acts.Act.{unit, write, answer}
+use Rattle.promises_of_units.specs.Acts.Led.{stays, spends, writes-one, takes}
 use Rattle.promises.specs.Courses.{clash, unit-alone, course-one, course-next, course-unique, course-shorter, Opens, opens, opening-ends}
 use Rattle.promises.specs.Chains.{submitted-under, Span, Into, Rest, Served, Next, Stands, counted, given}
 use Rattle.promises.specs.Chains.Span.{last, spending, writing}

@@ -15,7 +15,7 @@ use Rattle.rules.specs.Judging.Finding.{fine, broken}
 use Rattle.rules.specs.Ring.{opening-of}
 use Rattle.rules.specs.Table.{entries-of, take-entry}
 use Rattle.rules.specs.Stream.{left}
-use Rattle.rules.specs.Packets.{Holdings, at-first, take-packet}
+use Rattle.rules.specs.Packets.{Progress, at-first, take-packet}
 use Rattle.rules.specs.State.{Work, World, working, registering}
 use Rattle.rules.specs.State.Work.{resting, entries, packets, waiting}
 use Rattle.rules.specs.Settle.{settled}
@@ -28,10 +28,10 @@ use Rattle.rules.specs.declared.Stream.{Stream}
 use Rattle.rules.specs.declared.Opened.{Opened}
 use Rattle.rules.specs.declared.Opening.{Opening}
 use Rattle.rules.specs.declared.Opening.the-variants.{BadRing, NoWork, Refused, Started}
-use Rattle.promises.specs.Whole.{midst, Course, course-join}
-use Rattle.promises.specs.Submission.{LiesOn, opening-lies, later-units, table-judged, packets-judged, course-started, submission-units, submits}
-use Rattle.promises.specs.AnyRegisters.{goes-on}
-use Rattle.promises.specs.Night.{Clear, finished-clear}
+use Rattle.promises_of_submissions.specs.Whole.{midst, Course, course-join}
+use Rattle.promises_of_submissions.specs.Submission.{LiesOn, opening-lies, later-units, table-judged, packets-judged, course-started, submission-units, submits}
+use Rattle.promises_of_submissions.specs.AnyRegisters.{goes-on}
+use Rattle.promises_of_submissions.specs.Night.{Clear, finished-clear}
 use Rattle.promises.specs.Chains.{submitted-under}
 
 -- no test comes out both ways
@@ -50,7 +50,7 @@ module _ (x : World) (q : Registers) where
   entry-alone o kept fine h = refl
   entry-alone o kept (broken f) h = clash h refl
 
-  packet-alone : (j : Job) (t : Stream) (next : ℕ) (es : List Entry) (held : Holdings) (v : Finding)
+  packet-alone : (j : Job) (t : Stream) (next : ℕ) (es : List Entry) (held : Progress) (v : Finding)
       → Heedless (after-packet (registering q x) j t next es held v) (after-packet x j t next es held v)
   unfolding settled
   packet-alone j t next es held fine h = refl

@@ -6,18 +6,23 @@ use mathlib.Core.Bool.{Bool, true, false}
 use mathlib.Core.List.{List, []}
 use mathlib.Core.Logic.{_⊎_}
 use native.Mathlib.Omega.{arith}
-use Rattle.machine.specs.Machine.{run-none, run-stop}
-use Prim.Native.Nat.{ℕ, _≤_}
+use Rattle.machine.specs.Machine.{pick, run-none, run-stop}
+use Prim.Native.Nat.{ℕ, _^_, _≤_, _<_}
+use lib.Ieee.{lt}
 use lib.ListN.{length}
-use Rattle.rules.specs.Numbers.{done, no-record, host-failed}
+use Rattle.rules.specs.Numbers.{done, no-record, host-failed, clips, bad-handle, bad-state, too-many, most as most-records, set-target, set-viewport, set-scissor, clear as clear-opcode}
 use Rattle.rules.specs.Ring.{opening-of}
 use Rattle.rules.specs.Table.{entries-of}
-use Rattle.rules.specs.Packets.{Holdings, at-first}
+use Rattle.rules.specs.Layouts.{stream-header-size, target-fields, viewport-floats, viewport-fields, scissor-fields, clear-floats, clear-fields}
+use Rattle.rules.specs.Floats.{float-of, is-nan, nan-among, not-finite-among, below}
+use Rattle.rules.specs.Stream.{known, frame-of, packet-of}
+use Rattle.rules.specs.StatePackets.{bad-sides}
+use Rattle.rules.specs.Packets.{live-texture, Progress, at-first, pass, take-packet}
 use Rattle.rules.specs.Judging.{refusal, Finding, without-place}
 use Rattle.rules.specs.Judging.Finding.{fine, broken}
 use Rattle.rules.specs.Registers.{Read, register}
 use Rattle.rules.specs.State.{State, World, working, registering}
-use Rattle.rules.specs.State.Work.{resting, waiting}
+use Rattle.rules.specs.State.Work.{resting, packets, waiting}
 use Rattle.rules.specs.Settle.{settled, settled-keeping}
 use Rattle.rules.specs.Steps.{go, step, waits-on, waits, answered}
 use Rattle.rules.specs.Unsliced.{Submission, submission, finished, submitted-on}
@@ -28,35 +33,49 @@ use Rattle.rules.specs.declared.Ended.the-variants.{Idle, Paused}
 use Rattle.rules.specs.declared.Entry.{Entry}
 use Rattle.rules.specs.declared.Job.{Job}
 use Rattle.rules.specs.declared.Record.{Record}
+use Rattle.rules.specs.declared.Stream.{Stream}
+use Rattle.rules.specs.declared.SetTarget.{SetTarget}
+use Rattle.rules.specs.declared.SetScissor.{SetScissor}
+use Rattle.rules.specs.declared.DestroyResource.{DestroyResource}
+use Rattle.rules.specs.declared.Verdict.the-variants.{Fine, Broken}
+use Rattle.rules.specs.declared.Frame.the-variants.{Whole}
+use Rattle.rules.specs.declared.Packet.{Packet}
+use Rattle.rules.specs.declared.Packet.the-variants.{Destroy, Target, Viewport, Scissor, Clear, NotANumber}
 use Rattle.rules.specs.declared.Opening.{Opening}
 use Rattle.rules.specs.declared.Opened.{Opened}
 use Rattle.rules.specs.declared.Fault.{Fault}
 use Rattle.rules.specs.declared.Refusal.{Refusal}
 use Rattle.rules.specs.declared.Registers.{Registers}
 use Rattle.rules.specs.declared.Opening.the-variants.{BadRing, NoWork, Refused, Started}
-use Rattle.promises.specs.Refused.{refused-run-changes-nothing, refused-answer-changes-nothing, refused-write-changes-nothing}
-use Rattle.promises.specs.Called.{Call, after, after-all, units-of-all, taken-by-all, Called}
-use Rattle.promises.specs.Called.Call.{writes, reads, runs, records, answers}
-use Rattle.promises.specs.Acts.{Act, acts-of-all, answers-in, registers-after, acts-answers, Led, NoReset, calls-lead}
-use Rattle.promises.specs.Acts.Led.{stays, spends, writes-one, takes}
+use Rattle.promises_of_units.specs.Refused.{refused-run-changes-nothing, refused-answer-changes-nothing, refused-write-changes-nothing}
+use Rattle.promises_of_units.specs.Called.{Call, after, after-all, units-of-all, taken-by-all, Called}
+use Rattle.promises_of_units.specs.Called.Call.{writes, reads, runs, records, answers}
+use Rattle.promises_of_units.specs.Acts.{Act, acts-of-all, answers-in, registers-after, acts-answers, Led, NoReset, calls-lead}
+use Rattle.promises_of_units.specs.Acts.Led.{stays, spends, writes-one, takes}
 use Rattle.promises.specs.Courses.{clash}
-use Rattle.promises.specs.Slices.{waiting-stands-still}
-use Rattle.promises.specs.Fences.{good-settles, failed-settles}
-use Rattle.promises.specs.Units.{Breaks, Unit, unit}
+use Rattle.promises_of_submissions.specs.Slices.{waiting-stands-still}
+use Rattle.promises_of_units.specs.Fences.{good-settles, failed-settles}
+use Rattle.promises_of_units.specs.Units.{Breaks, Unit, unit}
 use Rattle.promises.specs.Chains.{submitted-under, Stands}
 use Rattle.promises.specs.ChainsStand.{calls-stand, same-acts}
 use Rattle.promises.specs.Slicing.{NoWrite, same-units-same-answers}
-use Rattle.promises.specs.Runs.{of-run, of-answer, taken-and-run, never-more-than-allowed, run-spends-all-or-is-done, paused-spent-all, answer-never-more-than-allowed, answer-spends-all-or-is-done, answer-paused-spent-all}
-use Rattle.promises.specs.AnswerAndRun.{taken-alone, IsBoth, answer-and-run-is-both, allowance-0-is-the-old-call}
-use Rattle.promises.specs.Events.{Event, History, calls-have-events}
-use Rattle.promises.specs.Changes.{told, Says, calls-say}
-use Rattle.promises.specs.Kept.{EachLent}
-use Rattle.promises.specs.LentBytes.{OfBytes}
+use Rattle.promises_of_units.specs.Runs.{of-run, of-answer, taken-and-run, never-more-than-allowed, run-spends-all-or-is-done, paused-spent-all, answer-never-more-than-allowed, answer-spends-all-or-is-done, answer-paused-spent-all}
+use Rattle.promises_of_units.specs.AnswerAndRun.{taken-alone, IsBoth, answer-and-run-is-both, allowance-0-is-the-old-call}
+use Rattle.promises_of_units.specs.Events.{Event, History, calls-have-events}
+use Rattle.promises_of_units.specs.Changes.{told, Says, calls-say}
+use Rattle.promises_of_units.specs.Kept.{EachLent}
+use Rattle.promises_of_submissions.specs.LentBytes.{OfBytes}
 use Rattle.promises.specs.Places.{OfAnEntry, OfAPacket, sizes-fit, settling-tells, TellsWhere, each-settling-tells-where}
 use Rattle.promises.specs.UnslicedPlaces.{unsliced-tells-where}
-use Rattle.promises.specs.Bytes.{WrittenBy, calls-write}
-use Rattle.promises.specs.Ranges.{InOneEntry, ranges-at-the-record-call}
-use Rattle.promises.specs.Locality.{lent, SameWhereRead, SameRun, run-of-one-reads-only}
+use Rattle.promises_of_units.specs.Bytes.{WrittenBy, calls-write}
+use Rattle.promises_of_units.specs.Ranges.{InOneEntry, ranges-at-the-record-call, kinds-at-the-record-call}
+use Rattle.packet_apply.specs.Held.{Every, OfAKind, LiveTexture, TargetLives, refused-packet-keeps-progress}
+use Rattle.promises_of_submissions.specs.LocalPackets.{framed-is-read}
+use Rattle.promises_of_submissions.specs.FloatBits.{judged-state, ViewportCarried, ClearCarried, bad-viewport-words, bad-clear-words, not-finite-viewport, not-finite-clear, viewport-is-carried, clear-is-carried, viewport-judged-by-its-words, clear-judged-by-its-words}
+use Rattle.promises_of_submissions.specs.FloatOrder.{TheBounds, below-is-the-order, the-bounds}
+use Rattle.promises.specs.Targets.{target-is-set, target-is-refused, other-packets-keep-the-target, destroyed-ends-the-target, another-destroyed-keeps-the-target, held-after, ended-target-stays-ended, scissor-without-a-target, scissor-with-negative-sides, scissor-past-the-last-record, scissor-is-accepted, called-target-lives, first-packet-finds-no-target}
+use Rattle.promises_of_submissions.specs.Clipping.{Scissored, accepted-scissor-is-clipped}
+use Rattle.promises_of_submissions.specs.Locality.{lent, SameWhereRead, SameRun, run-of-one-reads-only}
 
 -- ---- demand 1
 
@@ -215,8 +234,8 @@ pub record Settles (w : World) (good : Bool) (v : World) : Type 0 where
   pub runs-on : (n : ℕ) → (call-answer w good n ≡ call-run v n) × (call-answer w good n .answer ≡ done)
 
 -- and an answer that is lent the device's memory is taken: it settles the submission, with its resources or with error 27 and place 0
-pub an-answer-settles : (w : World) (j : Job) (es : List Entry) (h : Holdings) → w .state .work ≡ waiting j es h → lent-another w ≡ false
-    → Settles w true (settled j fine (h .resources) w) × Settles w false (settled-keeping j (broken (without-place (refusal host-failed))) w)
+pub an-answer-settles : (w : World) (j : Job) (es : List Entry) (h : Progress) → w .state .work ≡ waiting j es h → lent-another w ≡ false
+    → Settles w true (settled j fine (h .holdings .resources) w) × Settles w false (settled-keeping j (broken (without-place (refusal host-failed))) w)
 an-answer-settles w j es h e l = (settles true _ (good-settles w j es h e), settles false _ (failed-settles w j es h e))
   where
     settles : (good : Bool) (v : World) → answered good w ≡ v → Settles w good v
@@ -232,13 +251,15 @@ an-answer-settles w j es h e l = (settles true _ (good-settles w j es h e), sett
         }
 
 -- while it waits, each of its records is handed out
-pub each-record-is-handed-out : (s : State) (j : Job) (es : List Entry) (h : Holdings) → s .work ≡ waiting j es h → (i : ℕ) (c : Record)
-    → nth (h .records) i ≡ found c → call-record s i ≡ record { answer = done; range = c }
+pub each-record-is-handed-out : (s : State) (j : Job) (es : List Entry) (h : Progress) → s .work ≡ waiting j es h → (i : ℕ) (c : Record)
+    → nth (h .holdings .records) i ≡ found c → call-record s i ≡ record { answer = done; range = c }
 unfolding call-record
 each-record-is-handed-out s j es h e i c k = rw (e, k)
 
--- 6. "Each range handed out lies inside the one matching entry of that submission's table": of any device made and called, over any memories
-pub ranges-lie-in-their-one-entry : (s : State) → Called s → (i : ℕ) → call-record s i .answer ≡ done → InOneEntry s i (call-record s i .range)
+-- 6. "Each range handed out lies inside the one matching entry of that submission's table": of any device made and called, over any memories.
+-- "Demand 2's ranges mean kinds 1 to 3" (wish 7)
+pub ranges-lie-in-their-one-entry : (s : State) → Called s → (i : ℕ) → call-record s i .answer ≡ done → (call-record s i .range .kind ≡ clips → ⊥)
+    → InOneEntry s i (call-record s i .range)
 ranges-lie-in-their-one-entry = ranges-at-the-record-call
 
 -- 7. Completed fence, last error and resources are what settlings, bad rings and resets make of them, and change by nothing else.
@@ -309,3 +330,108 @@ a-unit-is-the-rules = unit
 pub a-unit-reads-only-its-own : (s : State) (m m′ : List ℕ) → length m ≡ length m′ → (go (lent s m) ≡ true → SameWhereRead s m m′)
     → SameRun m m′ (call-run (lent s m) 1) (call-run (lent s m′) 1)
 a-unit-reads-only-its-own = run-of-one-reads-only
+
+-- ---- wish 7, "state packets"
+
+-- "Read each packet as one of viewport, clear, scissor or target": what is framed is read from its first bytes; a viewport or clear with a NaN
+-- among its floats is a case of its own
+pub record ReadAs (b : List ℕ) : Type 0 where
+  pub framed : (es : List Entry) (h : Progress) (op size : ℕ) → frame-of b ≡ Whole op size → take-packet es h b ≡ pass es h (packet-of op b)
+  pub target : packet-of set-target b ≡ Target (target-fields b)
+  pub scissor : packet-of set-scissor b ≡ Scissor (scissor-fields b)
+  pub viewport : packet-of set-viewport b ≡ pick (nan-among (viewport-floats b)) NotANumber (Viewport (viewport-fields b))
+  pub clear : packet-of clear-opcode b ≡ pick (nan-among (clear-floats b)) NotANumber (Clear (clear-fields b))
+
+pub state-packets-are-read : (b : List ℕ) → ReadAs b
+unfolding packet-of known
+state-packets-are-read b = record { framed = framed-is-read b; target = refl; scissor = refl; viewport = refl; clear = refl }
+
+-- "its floats carried bit for bit": those of a packet without a NaN have the bits that stand there
+pub record Carried (b : List ℕ) : Type 0 where
+  pub viewport : nan-among (viewport-floats b) ≡ false → ViewportCarried b (viewport-fields b)
+  pub clear : nan-among (clear-floats b) ≡ false → ClearCarried b (clear-fields b)
+
+pub floats-are-carried-bit-for-bit : (b : List ℕ) → OfBytes b → Carried b
+floats-are-carried-bit-for-bit b bytes = record { viewport = λ e. viewport-is-carried b bytes e .1; clear = λ e. clear-is-carried b bytes e .1 }
+
+-- "Error 30": a viewport or a clear is judged by the words that stand there, and any infinity or NaN among its floats breaks the rule. Nothing of
+-- what is held changes.
+pub record GoesByItsWords (b : List ℕ) : Type 0 where
+  pub viewport : (es : List Entry) (h : Progress) → pass es h (packet-of set-viewport b) ≡ judged-state h (bad-viewport-words b)
+  pub clear : (es : List Entry) (h : Progress) → pass es h (packet-of clear-opcode b) ≡ judged-state h (bad-clear-words b)
+  pub not-finite-viewport : not-finite-among (viewport-floats b) ≡ true → bad-viewport-words b ≡ true
+  pub not-finite-clear : not-finite-among (clear-floats b) ≡ true → bad-clear-words b ≡ true
+
+pub viewport-and-clear-go-by-their-words : (b : List ℕ) → OfBytes b → GoesByItsWords b
+viewport-and-clear-go-by-their-words b bytes =
+    record {
+      viewport = viewport-judged-by-its-words b bytes;
+      clear = clear-judged-by-its-words b bytes;
+      not-finite-viewport = not-finite-viewport b;
+      not-finite-clear = not-finite-clear b;
+    }
+
+-- "Floats are compared in the order of IEEE 754 as told from their u32 bits, -0 equal to 0": the rules' order of two words is that of their floats
+pub words-compare-as-their-floats : (a b : ℕ) → a < 2 ^ 32 → b < 2 ^ 32 → is-nan a ≡ false → is-nan b ≡ false → below a b ≡ lt (float-of a) (float-of b)
+words-compare-as-their-floats = below-is-the-order
+
+pub the-rules-bounds-are-0-and-1 : TheBounds
+the-rules-bounds-are-0-and-1 = the-bounds
+
+-- "The target is a live texture, else 18": a target packet that names one is accepted, and that is the target from then on; else nothing changes
+pub record TargetPacket (es : List Entry) (h : Progress) (c : SetTarget) : Type 0 where
+  pub set : LiveTexture (c .handle) (h .holdings) → pass es h (Target c) ≡ record { verdict = Fine; held = record { holdings = h .holdings; target = c .handle } }
+  pub refused : live-texture (c .handle) (h .holdings) ≡ none → pass es h (Target c) ≡ record { verdict = Broken (refusal bad-handle); held = h }
+
+pub a-target-is-a-live-texture : (es : List Entry) (h : Progress) (c : SetTarget) → TargetPacket es h c
+a-target-is-a-live-texture es h c = record { set = λ l. target-is-set es h c (l .0) (l .1); refused = target-is-refused es h c }
+
+-- "it lasts until the submission ends or that handle is destroyed": a device at rest has none, since what is held goes with the submission
+pub record Lasts (es : List Entry) (h : Progress) : Type 0 where
+  -- through every packet that is refused, with all else that is held
+  pub refused : (p : Packet) (r : Refusal) → pass es h p .verdict ≡ Broken r → pass es h p .held ≡ h
+  -- and through every other packet but a target and a destroy
+  pub others : (p : Packet) → ((c : SetTarget) → p ≡ Target c → ⊥) → ((c : DestroyResource) → p ≡ Destroy c → ⊥) → pass es h p .held .target ≡ h .target
+  pub another-destroyed : (c : DestroyResource) → (c .handle ≡ h .target → ⊥) → pass es h (Destroy c) .held .target ≡ h .target
+  pub destroyed : (c : DestroyResource) → c .handle ≡ h .target → pass es h (Destroy c) .verdict ≡ Fine → pass es h (Destroy c) .held .target ≡ 0
+  -- made again, the handle does not bring it back
+  pub not-again : (ps : List Packet) → Every (λ (p : Packet). (c : SetTarget) → p ≡ Target c → ⊥) ps → h .target ≡ 0 → held-after es h ps .target ≡ 0
+
+pub how-long-a-target-lasts : (es : List Entry) (h : Progress) → Lasts es h
+how-long-a-target-lasts es h =
+    record {
+      refused = refused-packet-keeps-progress es h;
+      others = other-packets-keep-the-target es h;
+      another-destroyed = another-destroyed-keeps-the-target es h;
+      destroyed = λ c same e. destroyed-ends-the-target es h c e same;
+      not-again = ended-target-stays-ended es h;
+    }
+
+-- of any device made and called, over any memories: a submission begins with no target, and one that it has is a live texture
+pub targets-stay-live-textures : (s : State) → Called s → (j : Job) (t : Stream) (at : ℕ) (es : List Entry) (h : Progress) → s .work ≡ packets j t at es h
+    → (at ≡ stream-header-size → h .target ≡ 0) × TargetLives h
+targets-stay-live-textures s k j t at es h e = (first-packet-finds-no-target s k j t at es h e, called-target-lives s k j t at es h e)
+
+-- "Error 30 .. scissor sides negative; scissor without a target", then 19, else it is accepted
+pub record ScissorPacket (es : List Entry) (h : Progress) (c : SetScissor) : Type 0 where
+  pub no-target : h .target ≡ 0 → pass es h (Scissor c) ≡ record { verdict = Broken (refusal bad-state); held = h }
+  pub negative : LiveTexture (h .target) (h .holdings) → bad-sides c ≡ true → pass es h (Scissor c) ≡ record { verdict = Broken (refusal bad-state); held = h }
+  pub no-room : LiveTexture (h .target) (h .holdings) → bad-sides c ≡ false → most-records ≤ length (h .holdings .records) → pass es h (Scissor c) ≡ record { verdict = Broken (refusal too-many); held = h }
+  pub accepted : LiveTexture (h .target) (h .holdings) → bad-sides c ≡ false → length (h .holdings .records) < most-records → pass es h (Scissor c) .verdict ≡ Fine
+
+pub when-a-scissor-is-accepted : (es : List Entry) (h : Progress) (c : SetScissor) → ScissorPacket es h c
+when-a-scissor-is-accepted es h c =
+    record {
+      no-target = scissor-without-a-target es h c;
+      negative = λ l. scissor-with-negative-sides es h c (l .0) (l .1);
+      no-room = λ l. scissor-past-the-last-record es h c (l .0) (l .1);
+      accepted = λ l. scissor-is-accepted es h c (l .0) (l .1);
+    }
+
+-- "A scissor is clipped to the target over plain integers, negative corners included, and given to the host as a record of kind 4"
+pub a-scissor-is-clipped-to-its-target : (es : List Entry) (h : Progress) (c : SetScissor) → pass es h (Scissor c) .verdict ≡ Fine → Scissored h c (pass es h (Scissor c))
+a-scissor-is-clipped-to-its-target = accepted-scissor-is-clipped
+
+-- a record is of kind 1, 2, 3 or 4: of any device made and called
+pub records-are-of-four-kinds : (s : State) → Called s → (i : ℕ) → call-record s i .answer ≡ done → OfAKind (call-record s i .range)
+records-are-of-four-kinds = kinds-at-the-record-call

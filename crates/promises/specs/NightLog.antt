@@ -46,7 +46,7 @@ roomy = record { id = 5; flags = 0; gpa = 0; size = 1099511627776 }
 -- the error that creating such a texture gives; 0 for none
 unfoldable pub creating : Shape → ℕ → ℕ
 creating s pitch =
-    number (at-place no-place (on-texture-packet (roomy ∷ []) (at-first []) (record { handle = 1; shape = s; pitch = pitch; backing = 5; offset = 0 }) .verdict))
+    number (at-place no-place (on-texture-packet (roomy ∷ []) (at-first [] .holdings) (record { handle = 1; shape = s; pitch = pitch; backing = 5; offset = 0 }) .verdict))
 
 unfoldable pub start : Start → ℕ
 start (At n) = n

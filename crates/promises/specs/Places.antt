@@ -18,7 +18,7 @@ use Rattle.rules.specs.Judging.Finding.{broken}
 use Rattle.rules.specs.Layouts.{entry, stream-header-size}
 use Rattle.rules.specs.Table.{matching, is-found, entry-place, entry-rules, keep, in-reach, take-entry}
 use Rattle.rules.specs.Stream.{left}
-use Rattle.rules.specs.Packets.{Holdings, at-first, take-packet}
+use Rattle.rules.specs.Packets.{Progress, at-first, take-packet}
 use Rattle.rules.specs.State.{Work, State, World}
 use Rattle.rules.specs.State.Work.{resting, entries, packets, waiting}
 use Rattle.rules.specs.Settle.{faulted, signalled, doorbell-cleared, ended-by, settled, settled-keeping, ring-refused}
@@ -33,16 +33,16 @@ use Rattle.rules.specs.declared.Stream.{Stream}
 use Rattle.rules.specs.declared.Table.{Table}
 use Rattle.rules.specs.declared.Verdict.{Verdict}
 use Rattle.rules.specs.declared.Verdict.the-variants.{Fine, Broken}
-use Rattle.promises.specs.LentBytes.{OfBytes, marked-bytes}
-use Rattle.promises.specs.Submission.{Lies, LiesOn, opening-lies}
-use Rattle.promises.specs.Fences.{failed-settles}
-use Rattle.promises.specs.Locality.{lent}
-use Rattle.promises.specs.Called.{Called}
-use Rattle.promises.specs.Units.{Next, Breaks, unit-is-step}
-use Rattle.promises.specs.Units.Unit.{settles}
-use Rattle.promises.specs.Changes.{told}
-use Rattle.promises.specs.Kept.{EachLent, KeptByUnits, called-keeps}
-use Rattle.promises.specs.Tables.{StartedOnce, OwnTable, called-has-its-own-table}
+use Rattle.promises_of_submissions.specs.LentBytes.{OfBytes, marked-bytes}
+use Rattle.promises_of_submissions.specs.Submission.{Lies, LiesOn, opening-lies}
+use Rattle.promises_of_units.specs.Fences.{failed-settles}
+use Rattle.promises_of_submissions.specs.Locality.{lent}
+use Rattle.promises_of_units.specs.Called.{Called}
+use Rattle.promises_of_units.specs.Units.{Next, Breaks, unit-is-step}
+use Rattle.promises_of_units.specs.Units.Unit.{settles}
+use Rattle.promises_of_units.specs.Changes.{told}
+use Rattle.promises_of_units.specs.Kept.{EachLent, KeptByUnits, called-keeps}
+use Rattle.promises_of_units.specs.Tables.{StartedOnce, OwnTable, called-has-its-own-table}
 
 -- the numbers that an entry's rules have
 abbrev pub EntryRule : ℕ → Type 0
@@ -141,7 +141,7 @@ unit-placed w n (waiting j es held) own fits i f h = h
 
 -- ---- of any device that was made and called
 
-packets-fit : (j : Job) (t : Stream) (at : ℕ) (es : List Entry) (h : Holdings) → t .size < 2 ^ 32 → SizeFits (packets-at j t at es h)
+packets-fit : (j : Job) (t : Stream) (at : ℕ) (es : List Entry) (h : Progress) → t .size < 2 ^ 32 → SizeFits (packets-at j t at es h)
 packets-fit j t at es h fits = by-test (ltb at (t .size))
   where
     by-test : (b : Bool) → SizeFits (pick b (packets j t at es h) (waiting j es h))
@@ -196,7 +196,7 @@ pub bad-ring-has-no-place : (w : World) → (ring-refused w .state .regs .error 
 unfolding faulted doorbell-cleared
 bad-ring-has-no-place w = (refl, refl)
 
-pub failed-has-no-place : (w : World) (j : Job) (es : List Entry) (h : Holdings) → w .state .work ≡ waiting j es h
+pub failed-has-no-place : (w : World) (j : Job) (es : List Entry) (h : Progress) → w .state .work ≡ waiting j es h
     → (answered false w .state .regs .error .code ≡ host-failed) × (answered false w .state .regs .error .detail ≡ no-place)
 unfolding settled ended-by signalled faulted
 failed-has-no-place w j es h e = rw (failed-settles w j es h e) (refl, refl)

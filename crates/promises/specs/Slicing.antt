@@ -12,12 +12,12 @@ use Rattle.rules.specs.State.{World}
 use Rattle.rules.specs.Steps.{answered}
 use Rattle.rules.specs.Calls.{call-run, call-answer}
 use Rattle.packet_apply.specs.Held.{Every}
-use Rattle.promises.specs.Slices.{waiting-stands-still}
-use Rattle.promises.specs.Called.{Call, is-reset, after, after-all, units-of-all, taken-by-all}
-use Rattle.promises.specs.Called.Call.{writes, reads, runs, records, answers}
-use Rattle.promises.specs.Acts.{Act, in-a-row, acts-of, acts-of-all, units-in, answers-in, acts-units, acts-answers, Led, NoReset, calls-lead}
-use Rattle.promises.specs.Acts.Act.{unit, write, answer}
-use Rattle.promises.specs.Acts.Led.{stays, spends, writes-one, takes}
+use Rattle.promises_of_submissions.specs.Slices.{waiting-stands-still}
+use Rattle.promises_of_units.specs.Called.{Call, is-reset, after, after-all, units-of-all, taken-by-all}
+use Rattle.promises_of_units.specs.Called.Call.{writes, reads, runs, records, answers}
+use Rattle.promises_of_units.specs.Acts.{Act, in-a-row, acts-of, acts-of-all, units-in, answers-in, acts-units, acts-answers, Led, NoReset, calls-lead}
+use Rattle.promises_of_units.specs.Acts.Act.{unit, write, answer}
+use Rattle.promises_of_units.specs.Acts.Led.{stays, spends, writes-one, takes}
 
 -- ---- no register is written
 

@@ -13,7 +13,7 @@ use Rattle.rules.specs.Layouts.{entry, stream-header-size}
 use Rattle.rules.specs.Table.{Judged, entry-place, entry-rules, entries-from, entries-of, stop-or-go, judge-entries}
 use Rattle.rules.specs.Stream.{left, frame-of, size-of, packet-of, before, cut, stream-bytes, packets-of}
 use Rattle.rules.specs.Ring.{opening-of}
-use Rattle.rules.specs.Packets.{Holdings, apply}
+use Rattle.rules.specs.Packets.{Progress, pass}
 use Rattle.rules.specs.Unsliced.{Reckoned, one-further, judge-packets, after-entries, submission}
 use Rattle.rules.specs.declared.Entry.{Entry}
 use Rattle.rules.specs.declared.Fault.{Fault}
@@ -28,8 +28,8 @@ use Rattle.rules.specs.declared.Opening.the-variants.{Started}
 use Rattle.words.specs.Over.{below-or-not}
 use Rattle.stream_packets.specs.Framing.{frame-sound}
 use Rattle.stream_packets.specs.Listing.{cut-end, cut-packet}
-use Rattle.promises.specs.LentBytes.{OfBytes}
-use Rattle.promises.specs.Submission.{Lies, LiesOn, opening-lies}
+use Rattle.promises_of_submissions.specs.LentBytes.{OfBytes}
+use Rattle.promises_of_submissions.specs.Submission.{Lies, LiesOn, opening-lies}
 use Rattle.promises.specs.Places.{EntryRule, OfAnEntry, OfAPacket, BrokenAt, broken-at, entry-number}
 
 fine-not-broken : {f : Fault} → fine ≡ broken f → ⊥
@@ -65,7 +65,7 @@ module _ (f : Fault) where
   abbrev Among : ℕ → List ℕ → Type 0
   Among at b = (at ≤ f .place) × (f .place < at + length b)
 
-  judged-packet : (es : List Entry) (k at : ℕ) (b : List ℕ) (h : Holdings) → at + length b < 2 ^ 32
+  judged-packet : (es : List Entry) (k at : ℕ) (b : List ℕ) (h : Progress) → at + length b < 2 ^ 32
       → judge-packets es h (cut k at b) .finding ≡ broken f → Among at b
   unfolding judge-packets cut
   judged-packet es zero at b h room e = absurd (fine-not-broken e)
@@ -86,12 +86,12 @@ module _ (f : Fault) where
       by-verdict size fits some (Broken r) q ih g = here r some g
 
       by-frame : 0 < length b → (x : Frame) → frame-of b ≡ x
-          → ((at′ : ℕ) (b′ : List ℕ) (h′ : Holdings) → at′ + length b′ < 2 ^ 32 → judge-packets es h′ (cut k at′ b′) .finding ≡ broken f → Among at′ b′)
+          → ((at′ : ℕ) (b′ : List ℕ) (h′ : Progress) → at′ + length b′ < 2 ^ 32 → judge-packets es h′ (cut k at′ b′) .finding ≡ broken f → Among at′ b′)
           → judge-packets es h (before at x b (cut k (at + size-of x) (drop (size-of x) b))) .finding ≡ broken f → Among at b
       by-frame some (Whole op size) e ih g =
           let fits : size ≤ length b = frame-sound b op size e .inside in
-          by-verdict size fits some (apply es h (packet-of op (take size b)) .verdict) _
-          (ih (at + size) (drop size b) (apply es h (packet-of op (take size b)) .held) (omega (arith, length-drop size b))) g
+          by-verdict size fits some (pass es h (packet-of op (take size b)) .verdict) _
+          (ih (at + size) (drop size b) (pass es h (packet-of op (take size b)) .held) (omega (arith, length-drop size b))) g
       by-frame some (Misframed r) e ih g = here r some g
 
 -- what an opening started over bytes, judged by the unsliced rules over the same bytes: the first broken rule is an entry's or a packet's
@@ -99,7 +99,7 @@ module _ (m : List ℕ) (ring size : ℕ) (o : Opened) (opened : opening-of m ri
   lies : Lies m o
   lies = subst (LiesOn m) opened (opening-lies m ring size)
 
-  pub unsliced-tells-where : (h : Holdings) (f : Fault) → submission m o h .finding ≡ broken f → OfAnEntry (o .table) f ⊎ OfAPacket (o .stream) f
+  pub unsliced-tells-where : (h : Progress) (f : Fault) → submission m o h .finding ≡ broken f → OfAnEntry (o .table) f ⊎ OfAPacket (o .stream) f
   unfolding submission
   unsliced-tells-where h f = by-table (judge-entries (length m) [] (entries-of m (o .table)) .finding) refl
     where

@@ -4,7 +4,7 @@
 use mathlib.Core.Path.{_≡_, refl, sym, ap, subst, _∙_}
 use mathlib.Core.Bool.{true, false}
 use mathlib.Core.List.{List, [], _∷_, _++_}
-use Prim.Native.Nat.{ℕ, zero, suc, _+_, _*_, _≤_}
+use Prim.Native.Nat.{ℕ, zero, suc, _+_, _*_}
 use lib.ListN.{take, drop}
 use Rattle.machine.specs.Machine.{runFor}
 use Rattle.rules.specs.Numbers.{ring-magic, table-magic, stream-magic, version, create-buffer, destroy}
@@ -16,7 +16,7 @@ use Rattle.rules.specs.Headers.{wrong-header}
 use Rattle.rules.specs.Table.{header-rules, entry-id, entry-rules, take-entry, entries-from, entries-of, judge-entries}
 use Rattle.rules.specs.Stream.{known, stream-rules, least-size, frame-rules, frame-of, packet-of, cut, packets-of}
 use Rattle.rules.specs.Ring.{descriptor-rules, range-rules, submission-rules, submission-opening, power-of-two, good-header, good-ring, ring-opening, opening-of}
-use Rattle.rules.specs.Packets.{Holdings, at-first, create-backed, create, on-buffer-packet, on-destroy-packet, apply, take-packet}
+use Rattle.rules.specs.Packets.{Progress, at-first, create-backed, create, on-buffer-packet, on-destroy-packet, apply, target-after, pass, take-packet}
 use Rattle.rules.specs.State.{World, made, with-regs, registers-of, no-error, working, registering}
 use Rattle.rules.specs.State.Work.{waiting}
 use Rattle.rules.specs.Settle.{faulted, signalled, ended-by, written, head-written, page-written, marked, settled, settled-keeping}
@@ -26,7 +26,6 @@ use Rattle.rules.specs.Unsliced.{Submission, judge-packets, submission, finishe
 use Rattle.rules.specs.Calls.{call-write, call-read, call-run, call-record}
 use Rattle.rules.specs.declared.Entry.{Entry}
 use Rattle.rules.specs.declared.Kind.the-variants.{Buffer}
-use Rattle.rules.specs.declared.Record.{Record}
 use Rattle.rules.specs.declared.Registers.{Registers}
 use Rattle.rules.specs.declared.Stream.{Stream}
 use Rattle.rules.specs.declared.Opened.{Opened}
@@ -34,19 +33,19 @@ use Rattle.rules.specs.declared.Opening.the-variants.{Started}
 use Rattle.rows.specs.Keys.{Once}
 use Rattle.packet_apply.specs.Held.{Every, Inside}
 use Rattle.promises.specs.NightLog.{zeros}
-use Rattle.promises.specs.Submission.{LiesOn, opening-lies}
-use Rattle.promises.specs.LocalBytes.{Agree}
-use Rattle.promises.specs.Locality.{after-one, over-moving, SameWhenRead, moving-memory-reads-only}
-use Rattle.promises.specs.Locality.SameWhenRead.{ends, unit}
-use Rattle.promises.specs.Appended.{appended-bytes-cannot-matter}
-use Rattle.promises.specs.Appended.SameButAppended.{packet, ends as stream-ends}
-use Rattle.promises.specs.Sound.{SoundState, made-sound, waiting-ranges-inside}
-use Rattle.promises.specs.InMemory.{Lies, made-lies, run-call-lies, waiting-ranges-in-memory}
-use Rattle.promises.specs.Refused.{run-call-keeps-sound}
-use Rattle.promises.specs.AnyRegisters.{under, writes-between-units}
-use Rattle.promises.specs.Called.{Call, Called, after, after-all, units-of, units-of-all}
-use Rattle.promises.specs.Called.Call.{writes, runs}
-use Rattle.promises.specs.Called.Called.{makes, calls}
+use Rattle.promises_of_submissions.specs.Submission.{LiesOn, opening-lies}
+use Rattle.promises_of_submissions.specs.LocalBytes.{Agree}
+use Rattle.promises_of_submissions.specs.Locality.{after-one, over-moving, SameWhenRead, moving-memory-reads-only}
+use Rattle.promises_of_submissions.specs.Locality.SameWhenRead.{ends, unit}
+use Rattle.promises_of_submissions.specs.Appended.{appended-bytes-cannot-matter}
+use Rattle.promises_of_submissions.specs.Appended.SameButAppended.{packet, ends as stream-ends}
+use Rattle.promises_of_units.specs.Sound.{SoundState, made-sound, waiting-ranges-inside}
+use Rattle.promises_of_units.specs.InMemory.{Lies, RangeEndsIn, made-lies, run-call-lies, waiting-ranges-in-memory}
+use Rattle.promises_of_units.specs.Refused.{run-call-keeps-sound}
+use Rattle.promises_of_submissions.specs.AnyRegisters.{under, writes-between-units}
+use Rattle.promises_of_units.specs.Called.{Call, Called, after, after-all, units-of, units-of-all}
+use Rattle.promises_of_units.specs.Called.Call.{writes, runs}
+use Rattle.promises_of_units.specs.Called.Called.{makes, calls}
 
 -- ---- the guest's memory, word by word; a u64 is its low word and then its high word
 
@@ -94,12 +93,15 @@ begun n =
       stream = record { gpa = 152 + n * 32; size = 64 };
     }
 
--- what is held after its packet: the buffer, and the record of the range that backs it
-unfoldable pub held : Holdings
+-- what is held after its packet: the buffer, and the record of the range that backs it; no target
+unfoldable pub held : Progress
 held =
     record {
-      resources = record { handle = 1; kind = Buffer; bytes = 32; pitch = 0; backing = 5; offset = 16 } ∷ [];
-      records = record { kind = 1; handle = 1; id = 5; gpa = 80; length = 32 } ∷ [];
+      holdings = record {
+        resources = record { handle = 1; kind = Buffer; bytes = 32; pitch = 0; backing = 5; offset = 16 } ∷ [];
+        records = record { kind = 1; handle = 1; id = 5; gpa = 80; length = 32 } ∷ [];
+      };
+      target = 0;
     }
 
 unfoldable pub the-entry : Entry
@@ -150,7 +152,7 @@ pub record TwoGuests : Type 0 where
   pub by-units : over-moving (guest 1 ∷ guest 1 ∷ guest 1 ∷ []) (asking 1 .state) ≡ awaiting .state
 
 pub two-guests : TwoGuests
-unfolding zeros in-bytes ring-words slot-words table-words entry-words stream-words guest asking begun held the-entry awaiting ringing rewriting rewritten le bytesOf over lookup nth ring-header descriptor table-header entry stream-header buffer-fields page-bytes power-of-two good-header good-ring ring-opening opening-of descriptor-rules range-rules submission-rules submission-opening wrong-header header-rules stream-rules entry-rules take-entry entries-from judge-entries known least-size frame-rules frame-of packet-of cut apply take-packet on-buffer-packet create create-backed judge-packets submission submitted faulted signalled ended-by written head-written page-written marked settled write-of open-step entry-step packet-step step go runFor call-write call-read register call-run call-record after after-all units-of units-of-all over-moving
+unfolding zeros in-bytes ring-words slot-words table-words entry-words stream-words guest asking begun held the-entry awaiting ringing rewriting rewritten le bytesOf over lookup nth ring-header descriptor table-header entry stream-header buffer-fields page-bytes power-of-two good-header good-ring ring-opening opening-of descriptor-rules range-rules submission-rules submission-opening wrong-header header-rules stream-rules entry-rules take-entry entries-from judge-entries known least-size frame-rules frame-of packet-of cut apply target-after pass take-packet on-buffer-packet create create-backed judge-packets submission submitted faulted signalled ended-by written head-written page-written marked settled write-of open-step entry-step packet-step step go runFor call-write call-read register call-run call-record after after-all units-of units-of-all over-moving
 two-guests =
     record {
       one-starts = refl;
@@ -184,7 +186,7 @@ pub record TwoMore : Type 0 where
   pub many-are-refused : submitted (asking 65) .state .state .regs .error ≡ record { code = 19; fence = 7; count = 1; detail = 0 }
 
 pub two-more : TwoMore
-unfolding zeros in-bytes ring-words slot-words table-words entry-words stream-words guest asking begun le bytesOf over lookup ring-header descriptor table-header stream-header buffer-fields power-of-two good-header good-ring ring-opening opening-of descriptor-rules range-rules submission-rules submission-opening wrong-header header-rules stream-rules entries-from judge-entries known least-size frame-rules frame-of packet-of cut apply on-buffer-packet create create-backed judge-packets submission submitted faulted signalled ended-by written head-written page-written marked settled register call-read
+unfolding zeros in-bytes ring-words slot-words table-words entry-words stream-words guest asking begun le bytesOf over lookup ring-header descriptor table-header stream-header buffer-fields power-of-two good-header good-ring ring-opening opening-of descriptor-rules range-rules submission-rules submission-opening wrong-header header-rules stream-rules entries-from judge-entries known least-size frame-rules frame-of packet-of cut apply target-after pass on-buffer-packet create create-backed judge-packets submission submitted faulted signalled ended-by written head-written page-written marked settled register call-read
 two-more = record { none-starts = refl; none-is-refused = refl; none-detail = refl; many-are-refused = refl }
 
 -- ---- so the theorems speak of them
@@ -209,11 +211,11 @@ awaiting-lies : Lies (awaiting .state)
 unfolding after asking
 awaiting-lies = subst (λ (w : World). Lies (w .state)) (two-guests .run-accepted) (run-call-lies (asking 1) 65535 (made-lies 248))
 
-pub its-record-lies-inside : Every (Inside (the-entry ∷ [])) (held .records) × Once entry-id (the-entry ∷ [])
+pub its-record-lies-inside : Every (Inside (the-entry ∷ [])) (held .holdings .records) × Once entry-id (the-entry ∷ [])
 unfolding awaiting
 its-record-lies-inside = waiting-ranges-inside (awaiting .state) (begun 1 .job) (the-entry ∷ []) held awaiting-is-sound refl
 
-pub its-record-lies-in-memory : Every (λ (c : Record). c .gpa + c .length ≤ 248) (held .records)
+pub its-record-lies-in-memory : Every (RangeEndsIn 248) (held .holdings .records)
 unfolding awaiting asking
 its-record-lies-in-memory = waiting-ranges-in-memory (awaiting .state) (begun 1 .job) (the-entry ∷ []) held awaiting-is-sound awaiting-lies refl
 
@@ -270,7 +272,7 @@ second-broken = in-bytes (stream-magic ∷ version ∷ 80 ∷ 0 ∷ 0 ∷ 0 ∷ 
 
 pub second-packet-is-refused : judge-packets (the-entry ∷ []) (at-first []) (packets-of second-broken (record { gpa = 0; size = 80 }))
     ≡ record { finding = broken (record { code = 18; place = 64 }); held = held; count = 2 }
-unfolding second-broken held the-entry in-bytes le bytesOf lookup buffer-fields destroy-fields known least-size frame-rules frame-of packet-of cut apply on-buffer-packet on-destroy-packet create create-backed judge-packets
+unfolding second-broken held the-entry in-bytes le bytesOf lookup buffer-fields destroy-fields known least-size frame-rules frame-of packet-of cut apply target-after pass on-buffer-packet on-destroy-packet create create-backed judge-packets
 second-packet-is-refused = refl
 
 -- ---- its packet once more, 8 bytes longer than its row: whatever two words are appended, the same record is made
@@ -283,6 +285,6 @@ longer = record { gpa = 0; size = 72 }
 
 pub appended-and-accepted : (a b : ℕ)
     → judge-packets (the-entry ∷ []) (at-first []) (packets-of (longer-stream a b) longer) ≡ record { finding = fine; held = held; count = 1 }
-unfolding longer-stream held the-entry in-bytes le bytesOf lookup buffer-fields known least-size frame-rules frame-of packet-of cut apply on-buffer-packet create create-backed judge-packets
+unfolding longer-stream held the-entry in-bytes le bytesOf lookup buffer-fields known least-size frame-rules frame-of packet-of cut apply target-after pass on-buffer-packet create create-backed judge-packets
 appended-and-accepted a b =
     appended-bytes-cannot-matter (longer-stream a b) (longer-stream 0 0) longer longer refl (packet create-buffer 48 refl refl refl stream-ends) (the-entry ∷ []) (at-first [])

@@ -14,9 +14,9 @@ use Rattle.device.specs.Views.{stateOf, worldOf, wroteOf, ranOf}
 use Rattle.device.specs.declared.Device.{Device}
 use Rattle.device.specs.declared.Wrote.{Wrote}
 use Rattle.device.specs.declared.Ran.{Ran}
-use Rattle.promises.specs.Called.{Call, after}
-use Rattle.promises.specs.Called.Call.{writes, reads, runs, records, answers}
-use Rattle.promises.specs.Locality.{lent}
+use Rattle.promises_of_units.specs.Called.{Call, after}
+use Rattle.promises_of_units.specs.Called.Call.{writes, reads, runs, records, answers}
+use Rattle.promises_of_submissions.specs.Locality.{lent}
 use Rattle.promises_of_calls.specs.Layers.{Reply, answering, showing, spending, handing, reply-to, Layer}
 
 -- a device with memory m beside it, a call of it, its reply, and the device and memory after it

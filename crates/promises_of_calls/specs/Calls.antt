@@ -7,17 +7,17 @@ use Prim.Native.Nat.{ℕ}
 use lib.Dec.{eqb}
 use lib.ListN.{length}
 use Rattle.machine.specs.Machine.{pick}
-use Rattle.rules.specs.Numbers.{done}
+use Rattle.rules.specs.Numbers.{done, clips}
 use Rattle.rules.specs.State.{State, World}
 use Rattle.rules.specs.Steps.{go}
 use Rattle.rules.specs.Calls.{RecordRead, call-run, call-record, call-answer}
-use Rattle.promises.specs.Called.{Call, after, units-of, taken-by, Called}
-use Rattle.promises.specs.Called.Call.{writes, reads, runs, records, answers}
-use Rattle.promises.specs.Called.Called.{makes, calls}
-use Rattle.promises.specs.Acts.{Act, in-a-row, acts-of}
-use Rattle.promises.specs.Acts.Act.{write, answer}
-use Rattle.promises.specs.Ranges.{InOneEntry, ranges-at-the-record-call}
-use Rattle.promises.specs.Locality.{lent, SameWhereRead, SameEnd, SameRun, run-of-one-reads-only}
+use Rattle.promises_of_units.specs.Called.{Call, after, units-of, taken-by, Called}
+use Rattle.promises_of_units.specs.Called.Call.{writes, reads, runs, records, answers}
+use Rattle.promises_of_units.specs.Called.Called.{makes, calls}
+use Rattle.promises_of_units.specs.Acts.{Act, in-a-row, acts-of}
+use Rattle.promises_of_units.specs.Acts.Act.{write, answer}
+use Rattle.promises_of_units.specs.Ranges.{InOneEntry, ranges-at-the-record-call}
+use Rattle.promises_of_submissions.specs.Locality.{lent, SameWhereRead, SameEnd, SameRun, run-of-one-reads-only}
 use Rattle.promises_of_calls.specs.Layers.{reply-to, taken-in, Layer, standing}
 
 -- ---- one call that was made
@@ -124,11 +124,12 @@ module _ {L : Layer} (i : ℕ) (k : CallMade L (records i)) where
   unfolding reply-to
   hands-out = ap (L .record-read) (says-the-reply k) ∙ L .record-read-as i (reply-to (records i) (before k))
 
-  -- of a device that was made and called: a range handed out lies inside exactly one entry of the table of the submission that waits, and
-  -- inside memory
-  pub handed-out-in-one-entry : MadeAndCalled L (k .of) → L .record-read (k .said) .answer ≡ done → InOneEntry (L .state (k .of)) i (L .record-read (k .said) .range)
+  -- of a device that was made and called: a range handed out, a record of kind 1 to 3, lies inside exactly one entry of the table of the
+  -- submission that waits, and inside memory
+  pub handed-out-in-one-entry : MadeAndCalled L (k .of) → L .record-read (k .said) .answer ≡ done → (L .record-read (k .said) .range .kind ≡ clips → ⊥)
+      → InOneEntry (L .state (k .of)) i (L .record-read (k .said) .range)
   handed-out-in-one-entry c =
-      subst (λ (h : RecordRead). h .answer ≡ done → InOneEntry (L .state (k .of)) i (h .range)) (sym hands-out)
+      subst (λ (h : RecordRead). h .answer ≡ done → (h .range .kind ≡ clips → ⊥) → InOneEntry (L .state (k .of)) i (h .range)) (sym hands-out)
       (ranges-at-the-record-call (L .state (k .of)) (made-and-called L (k .of) c) i)
 
 -- ---- the same call of two devices that mean the same state

@@ -16,20 +16,20 @@ use Rattle.rules.specs.State.{World}
 use Rattle.rules.specs.Steps.{run-for}
 use Rattle.rules.specs.Calls.{Ran}
 use Rattle.packet_apply.specs.Held.{Every}
-use Rattle.promises.specs.Slices.{played}
+use Rattle.promises_of_submissions.specs.Slices.{played}
 use Rattle.promises.specs.Slicing.{is-write, NoWrite, same-units-same-answers}
-use Rattle.promises.specs.Night.{Clear, Night, finished-or-waiting-is-unsliced}
-use Rattle.promises.specs.Runs.{of-run, of-answer}
-use Rattle.promises.specs.Called.{Call, after, units-of, taken-by, after-all, units-of-all, taken-by-all}
-use Rattle.promises.specs.Called.Call.{writes, reads, runs, records, answers}
-use Rattle.promises.specs.Acts.{Act, acts-of, acts-of-all, units-in, NoReset}
+use Rattle.promises_of_submissions.specs.Night.{Clear, Night, finished-or-waiting-is-unsliced}
+use Rattle.promises_of_units.specs.Runs.{of-run, of-answer}
+use Rattle.promises_of_units.specs.Called.{Call, after, units-of, taken-by, after-all, units-of-all, taken-by-all}
+use Rattle.promises_of_units.specs.Called.Call.{writes, reads, runs, records, answers}
+use Rattle.promises_of_units.specs.Acts.{Act, acts-of, acts-of-all, units-in, NoReset}
 use Rattle.promises.specs.Chains.{Served, counted, given, Stands}
 use Rattle.promises.specs.Chains.Rest.{none-left}
 use Rattle.promises.specs.Chains.Next.{none-begun}
 use Rattle.promises.specs.ChainsStand.{calls-stand, clear-calls-are-unsliced, units-add-up, answers-are-those-given, same-acts-same-world}
-use Rattle.promises.specs.Events.{Event, History, calls-have-events}
-use Rattle.promises.specs.Bytes.{WrittenBy, calls-write}
-use Rattle.promises.specs.Changes.{Says, calls-say}
+use Rattle.promises_of_units.specs.Events.{Event, History, calls-have-events}
+use Rattle.promises_of_units.specs.Bytes.{WrittenBy, calls-write}
+use Rattle.promises_of_units.specs.Changes.{Says, calls-say}
 use Rattle.promises_of_calls.specs.Layers.{taken-in, Layer, standing}
 use Rattle.promises_of_calls.specs.Calls.{acts-in, MadeAndCalled, CallMade, AsCall, call-is-the-rules}
 use Rattle.promises_of_calls.specs.Calls.MadeAndCalled.{called-one}

@@ -5,7 +5,7 @@ use mathlib.Core.Bool.{true}
 use mathlib.Core.List.{List, []}
 use Prim.Native.Nat.{ℕ}
 use lib.ListN.{length}
-use Rattle.rules.specs.Numbers.{done}
+use Rattle.rules.specs.Numbers.{done, clips}
 use Rattle.rules.specs.Steps.{go}
 use Rattle.rules.specs.Calls.{call-run, call-record}
 use Rattle.run_state.specs.Views.{worldIn}
@@ -17,8 +17,8 @@ use Rattle.device.specs.Views.{stateOf, worldOf, ranOf}
 use Rattle.device.specs.declared.Device.{Device}
 use Rattle.device.specs.declared.Ran.{Ran}
 use Rattle.zelezmut.specs.Said.{SaysRun, SaysRecord}
-use Rattle.promises.specs.Ranges.{InOneEntry}
-use Rattle.promises.specs.Locality.{SameWhereRead, SameEnd}
+use Rattle.promises_of_units.specs.Ranges.{InOneEntry}
+use Rattle.promises_of_submissions.specs.Locality.{SameWhereRead, SameEnd}
 use Rattle.promises_of_calls.specs.Layers.{spending, handing}
 use Rattle.promises_of_calls.specs.ByValue.{by-value}
 use Rattle.promises_of_calls.specs.ByValue.Gives.{run-gives, record-gives}
@@ -32,13 +32,13 @@ use Rattle.promises_of_calls.specs.Calls.{MadeAndCalled, handed-out-in-o
 
 -- `Device::record`
 pub device-record-in-one-entry : (d : Device) → MadeAndCalled by-value d → (i : ℕ) (x : RecordRead) → recordReadOf x ≡ call-record (stateOf d) i → x .answer ≡ done
-    → InOneEntry (stateOf d) i (x .range)
+    → (x .range .kind ≡ clips → ⊥) → InOneEntry (stateOf d) i (x .range)
 device-record-in-one-entry d c i x k =
     handed-out-in-one-entry i (record { of = d; over = []; said = handing (x .answer) (x .range); leaves = d; memory = []; gives = record-gives i x k }) c
 
 -- `zelezmut_record`: the range is what stands in the five words
 pub export-record-in-one-entry : (d : Device) → MadeAndCalled exports d → (i n : ℕ) (words : List ℕ) → SaysRecord (d .words) (d .records) i n words → n ≡ done
-    → InOneEntry (stateOf d) i (range-in words)
+    → (range-in words .kind ≡ clips → ⊥) → InOneEntry (stateOf d) i (range-in words)
 export-record-in-one-entry d c i n words k =
     handed-out-in-one-entry i (record { of = d; over = []; said = record { number = n; words = words }; leaves = d; memory = []; gives = zelezmut-record i n words k }) c
 

@@ -15,7 +15,7 @@ use Rattle.rules.specs.Headers.{wrong-header}
 use Rattle.rules.specs.Table.{header-rules, entry-rules, take-entry, entries-from, judge-entries}
 use Rattle.rules.specs.Stream.{known, stream-rules, least-size, frame-rules, frame-of, packet-of, cut}
 use Rattle.rules.specs.Ring.{descriptor-rules, range-rules, submission-rules, submission-opening, power-of-two, good-header, good-ring, ring-opening, opening-of}
-use Rattle.rules.specs.Packets.{create-backed, create, on-buffer-packet, apply, take-packet}
+use Rattle.rules.specs.Packets.{create-backed, create, on-buffer-packet, apply, target-after, pass, take-packet}
 use Rattle.rules.specs.State.{State}
 use Rattle.rules.specs.Settle.{faulted, signalled, ended-by, written, head-written, page-written, marked, settled}
 use Rattle.rules.specs.Registers.{controlled, write-of}
@@ -32,13 +32,14 @@ use Rattle.zelezmut.specs.Said.{SaysRun, SaysAnswer, SaysRecord}
 use Rattle.registers.specs.Views.{Writes}
 use Rattle.device_calls.specs.Views.{Makes}
 use Rattle.promises.specs.Chains.{Served}
-use Rattle.promises.specs.Night.{Night}
-use Rattle.promises.specs.Ranges.{InOneEntry}
-use Rattle.promises.specs.Locality.{lent, SameWhereRead, SameEnd, SameWhenRead}
-use Rattle.promises.specs.Locality.SameWhenRead.{unit}
-use Rattle.promises.specs.Called.{Call}
-use Rattle.promises.specs.Called.Call.{writes, runs, records, answers}
+use Rattle.promises_of_submissions.specs.Night.{Night}
+use Rattle.promises_of_units.specs.Ranges.{InOneEntry}
+use Rattle.promises_of_submissions.specs.Locality.{lent, SameWhereRead, SameEnd, SameWhenRead}
+use Rattle.promises_of_submissions.specs.Locality.SameWhenRead.{unit}
+use Rattle.promises_of_units.specs.Called.{Call}
+use Rattle.promises_of_units.specs.Called.Call.{writes, runs, records, answers}
 use Rattle.promises.specs.Witness.{in-bytes, ring-words, slot-words, table-words, entry-words, stream-words, guest, asking, begun, held, the-entry, awaiting, opening-alone, read-alone}
+use Rattle.promises.specs.StateWitness.{drawing-guest, drawing-asked, drawing-waits}
 use Rattle.promises_of_calls.specs.Layers.{standing}
 use Rattle.promises_of_calls.specs.OverLent.{lent-of}
 use Rattle.promises_of_calls.specs.Exports.{returning, Gives, exports}
@@ -131,12 +132,12 @@ module _ (n : ℕ) where
 
 -- a run of up to 65535 units ends waiting (1) after 3
 pub runs-to-waiting : SaysRun 65535 (lent-of (asking-device 1) (guest 1)) (0 + (256 * 1 + 65536 * 3)) (lent-of waiting-device (guest 1))
-unfolding asking-device waiting-device worldIn countIn tab rowAt table zeros in-bytes ring-words slot-words table-words entry-words stream-words guest le bytesOf over lookup nth ring-header descriptor table-header entry stream-header buffer-fields page-bytes power-of-two good-header good-ring ring-opening opening-of descriptor-rules range-rules submission-rules submission-opening wrong-header header-rules stream-rules entry-rules take-entry known least-size frame-rules frame-of packet-of apply take-packet on-buffer-packet create create-backed open-step entry-step packet-step step go runFor call-run ending
+unfolding asking-device waiting-device worldIn countIn tab rowAt table zeros in-bytes ring-words slot-words table-words entry-words stream-words guest le bytesOf over lookup nth ring-header descriptor table-header entry stream-header buffer-fields page-bytes power-of-two good-header good-ring ring-opening opening-of descriptor-rules range-rules submission-rules submission-opening wrong-header header-rules stream-rules entry-rules take-entry known least-size frame-rules frame-of packet-of apply target-after pass take-packet on-buffer-packet create create-backed open-step entry-step packet-step step go runFor call-run ending
 runs-to-waiting = record { spent = refl; world = refl; still = λ z. absurd (z refl) }
 
 -- and one of 3 units over the guest with its entry twice ends paused (2), having refused it
 pub runs-to-refusal : SaysRun 3 (lent-of (asking-device 2) (guest 2)) (0 + (256 * 2 + 65536 * 3)) (lent-of refused-device (submitted (asking 2) .state .mem))
-unfolding asking asking-device refused-device worldIn countIn tab rowAt table zeros in-bytes ring-words slot-words table-words entry-words stream-words guest le bytesOf over lookup nth ring-header descriptor table-header entry stream-header buffer-fields page-bytes power-of-two good-header good-ring ring-opening opening-of descriptor-rules range-rules submission-rules submission-opening wrong-header header-rules stream-rules entry-rules take-entry known least-size frame-rules frame-of packet-of apply take-packet on-buffer-packet create create-backed open-step entry-step packet-step step go runFor call-run ending faulted signalled ended-by written head-written page-written marked settled submitted submission judge-entries entries-from judge-packets cut
+unfolding asking asking-device refused-device worldIn countIn tab rowAt table zeros in-bytes ring-words slot-words table-words entry-words stream-words guest le bytesOf over lookup nth ring-header descriptor table-header entry stream-header buffer-fields page-bytes power-of-two good-header good-ring ring-opening opening-of descriptor-rules range-rules submission-rules submission-opening wrong-header header-rules stream-rules entry-rules take-entry known least-size frame-rules frame-of packet-of apply target-after pass take-packet on-buffer-packet create create-backed open-step entry-step packet-step step go runFor call-run ending faulted signalled ended-by written head-written page-written marked settled submitted submission judge-entries entries-from judge-packets cut
 runs-to-refusal = record { spent = refl; world = refl; still = λ z. absurd (z refl) }
 
 -- the record
@@ -198,7 +199,7 @@ pub its-record-in-one-entry : InOneEntry (stateOf waiting-device) 0 (record { ki
 its-record-in-one-entry =
     handed-out-in-one-entry 0
     (record { of = waiting-device; over = guest 1; said = record { number = 0; words = 1 ∷ 1 ∷ 5 ∷ 80 ∷ 32 ∷ [] }; leaves = waiting-device; memory = guest 1; gives = asks-record })
-    waiting-was-called refl
+    waiting-was-called refl (λ z. omega arith)
 
 -- from the new device on, with the register writes before it: one whole submission was served
 pub some-chain : Chain exports (new-device 1) (guest 1) (beginning ++ serving) answered-device (answered true awaiting .mem)
@@ -259,3 +260,23 @@ unfolding guest opening-alone in-bytes ring-words slot-words table-words entry-w
 opening-reads-only-there =
     export-run-reads-only-there (asking-device 1) scrawled-device opened-device opened-device (guest 1) opening-alone (guest 1) opening-alone
     (sym one-state-of-two) refl (the-first read-alone) (0 + (256 * 2 + 65536 * 1)) (0 + (256 * 2 + 65536 * 1)) opens opens-alone .1
+
+-- ---- a device that waits with a clipped rectangle: its target stands in the last word
+
+unfoldable pub drawing-device : Device
+drawing-device =
+    record {
+      words = 316 ∷ 0 ∷ 128 ∷ 1 ∷ 0 ∷ 0 ∷ 0 ∷ 0 ∷ 0 ∷ 0 ∷ 0 ∷ 0 ∷ 1 ∷ 3 ∷ 0 ∷ 0 ∷ 7 ∷ 0 ∷ 0 ∷ 0 ∷ 0 ∷ 128 ∷ 188 ∷ 188 ∷ 0 ∷ 0 ∷ 1 ∷ 1 ∷ 0 ∷ 1 ∷ 0 ∷ 1 ∷ [];
+      entries = zeros 256;
+      first = zeros 704;
+      second = 1 ∷ 1 ∷ 0 ∷ 1 ∷ 64 ∷ 32 ∷ 1 ∷ 1 ∷ zeros 696;
+      records = 4 ∷ 0 ∷ 3 ∷ 15 ∷ 29 ∷ zeros 315;
+    }
+
+pub draws : worldOf drawing-device drawing-guest ≡ drawing-waits
+unfolding drawing-device drawing-waits drawing-asked worldIn countIn tab rowAt table zeros
+draws = refl
+
+pub says-the-clip : SaysRecord (drawing-device .words) (drawing-device .records) 0 0 (4 ∷ 0 ∷ 3 ∷ 15 ∷ 29 ∷ [])
+unfolding drawing-device worldIn countIn tab rowAt table zeros call-record nth
+says-the-clip = record { answer = λ e a b. refl; range = λ e a b. refl }

@@ -18,10 +18,10 @@ use Rattle.device.specs.Views.{stateOf}
 use Rattle.device.specs.Calling.{is-made}
 use Rattle.device.specs.declared.Device.{Device}
 use Rattle.zelezmut.specs.Said.{saidValue, recordWords, SaysValue, SaysRun, SaysAnswer, SaysRecord}
-use Rattle.promises.specs.Called.{Call, after}
-use Rattle.promises.specs.Called.Call.{writes, reads, runs, records, answers}
-use Rattle.promises.specs.Runs.{of-run, of-answer}
-use Rattle.promises.specs.Locality.{lent}
+use Rattle.promises_of_units.specs.Called.{Call, after}
+use Rattle.promises_of_units.specs.Called.Call.{writes, reads, runs, records, answers}
+use Rattle.promises_of_units.specs.Runs.{of-run, of-answer}
+use Rattle.promises_of_submissions.specs.Locality.{lent}
 use Rattle.promises_of_calls.specs.Layers.{Reply, reply-to, Layer}
 use Rattle.promises_of_calls.specs.OverLent.{with-words, lent-of, over-lent}
 use Rattle.promises_of_calls.specs.OverLent.Gives.{lent-write}

@@ -12,9 +12,9 @@ use Rattle.rules.specs.Calls.{no-range, RecordRead, call-write, call-read, call
 use Rattle.rules.specs.declared.Record.{Record}
 use Rattle.rules.specs.declared.Ended.{Ended}
 use Rattle.rules.specs.declared.Ended.the-variants.{Idle}
-use Rattle.promises.specs.Called.{Call, after}
-use Rattle.promises.specs.Called.Call.{writes, reads, runs, records, answers}
-use Rattle.promises.specs.Locality.{lent}
+use Rattle.promises_of_units.specs.Called.{Call, after}
+use Rattle.promises_of_units.specs.Called.Call.{writes, reads, runs, records, answers}
+use Rattle.promises_of_submissions.specs.Locality.{lent}
 
 -- ---- what a call replies
 

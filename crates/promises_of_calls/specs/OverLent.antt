@@ -12,8 +12,8 @@ use Rattle.device_memory_calls.specs.Views.{Runs, Answers}
 use Rattle.device_memory_calls.specs.declared.Spent.{Spent}
 use Rattle.device.specs.Calling.{is-made, wrote, read, record-read, ran, answered}
 use Rattle.device.specs.declared.Device.{Device}
-use Rattle.promises.specs.Called.{Call}
-use Rattle.promises.specs.Called.Call.{writes, reads, runs, records, answers}
+use Rattle.promises_of_units.specs.Called.{Call}
+use Rattle.promises_of_units.specs.Called.Call.{writes, reads, runs, records, answers}
 use Rattle.promises_of_calls.specs.Layers.{Reply, answering, showing, spending, handing, Layer}
 use Rattle.promises_of_calls.specs.ByValue.{Gives as GivesByValue, layer-of}
 use Rattle.promises_of_calls.specs.ByValue.Gives.{write-gives, read-gives, run-gives, record-gives, answer-gives}

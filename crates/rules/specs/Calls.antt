@@ -93,7 +93,7 @@ abbrev pub handed-out : Work → List Record
 handed-out resting = []
 handed-out (entries o kept) = []
 handed-out (packets j s at es h) = []
-handed-out (waiting j es h) = h .records
+handed-out (waiting j es h) = h .holdings .records
 
 abbrev pub record-read : Found Record → RecordRead
 record-read none = record { answer = no-record; range = no-range }

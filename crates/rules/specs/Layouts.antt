@@ -1,10 +1,13 @@
--- 01, "Layouts": where each field stands. Bytes not named are ignored.
+-- 01, "Layouts", and the "House layouts" of 02, wish 7: where each field stands. Bytes not named are ignored.
 use mathlib.Core.Bool.{Bool}
-use mathlib.Core.List.{List, _++_}
-use Prim.Native.Nat.{ℕ, _+_, _/_}
-use lib.Dec.{eqb}
+use mathlib.Core.List.{List, [], _∷_, _++_}
+use Prim.Native.Nat.{ℕ, _+_, _-_, _/_}
+use lib.Dec.{eqb, ltb}
+use lib.IntN.{ℤ, pos, negsuc}
+use Rattle.machine.specs.Machine.{pick}
 use Rattle.rules.specs.Numbers.{page-magic, version, minors, good-major}
 use Rattle.rules.specs.Bytes.{field, bytesOf}
+use Rattle.rules.specs.Floats.{float-of}
 use Rattle.rules.specs.declared.RingHeader.{RingHeader}
 use Rattle.rules.specs.declared.Descriptor.{Descriptor}
 use Rattle.rules.specs.declared.TableHeader.{TableHeader}
@@ -15,6 +18,10 @@ use Rattle.rules.specs.declared.CreateTexture.{CreateTexture}
 use Rattle.rules.specs.declared.DestroyResource.{DestroyResource}
 use Rattle.rules.specs.declared.DirtyRange.{DirtyRange}
 use Rattle.rules.specs.declared.CopyBuffer.{CopyBuffer}
+use Rattle.rules.specs.declared.SetTarget.{SetTarget}
+use Rattle.rules.specs.declared.SetViewport.{SetViewport}
+use Rattle.rules.specs.declared.SetScissor.{SetScissor}
+use Rattle.rules.specs.declared.ClearValues.{ClearValues}
 
 -- a u32 and a u64 at a byte offset
 abbrev pub word : List ℕ → ℕ → ℕ
@@ -135,6 +142,52 @@ copy-fields b =
       srcoffset = long b 24;
       size = long b 32;
       flags = word b 40;
+    }
+
+-- ---- those of 02, wish 7
+
+-- target, 16: "handle at 8"
+unfoldable pub target-fields : List ℕ → SetTarget
+target-fields b = record { handle = word b 8 }
+
+-- viewport, 32: "six f32 from 8 (x, y, width, height, near, far)": their bits, and the floats
+abbrev pub viewport-floats : List ℕ → List ℕ
+viewport-floats b = word b 8 ∷ word b 12 ∷ word b 16 ∷ word b 20 ∷ word b 24 ∷ word b 28 ∷ []
+
+unfoldable pub viewport-fields : List ℕ → SetViewport
+viewport-fields b =
+    record {
+      x = float-of (word b 8);
+      y = float-of (word b 12);
+      width = float-of (word b 16);
+      height = float-of (word b 20);
+      near = float-of (word b 24);
+      far = float-of (word b 28);
+    }
+
+-- an i32: from 2 ^ 31 on, the middle of the u32s, it is negative, and their last is -1
+unfoldable pub signed : ℕ → ℤ
+signed n = pick (ltb n 2147483648) (pos n) (negsuc (4294967295 - n))
+
+-- scissor, 24: "four i32 from 8 (x, y, width, height)"
+unfoldable pub scissor-fields : List ℕ → SetScissor
+scissor-fields b =
+    record { x = signed (word b 8); y = signed (word b 12); width = signed (word b 16); height = signed (word b 20) }
+
+-- clear, 36: "flags, four f32 colour, f32 depth, u32 stencil", from 8 on
+abbrev pub clear-floats : List ℕ → List ℕ
+clear-floats b = word b 12 ∷ word b 16 ∷ word b 20 ∷ word b 24 ∷ word b 28 ∷ []
+
+unfoldable pub clear-fields : List ℕ → ClearValues
+clear-fields b =
+    record {
+      flags = word b 8;
+      red = float-of (word b 12);
+      green = float-of (word b 16);
+      blue = float-of (word b 20);
+      alpha = float-of (word b 24);
+      depth = float-of (word b 28);
+      stencil = word b 32;
     }
 
 -- "Fence page, 16 bytes: 0 "FENC", 4 version 65539, 8 completed fence u64."

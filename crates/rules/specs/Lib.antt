@@ -1,5 +1,6 @@
 pub mod Numbers
 pub mod Bytes
+pub mod Floats
 pub mod Lists
 pub mod Judging
 pub mod Layouts
@@ -8,6 +9,7 @@ pub mod Table
 pub mod Stream
 pub mod Ring
 pub mod Shapes
+pub mod StatePackets
 pub mod Packets
 pub mod State
 pub mod Settle

@@ -57,6 +57,10 @@ bad-copy = 26
 abbrev pub host-failed : ℕ
 host-failed = 27
 
+-- "Error 30" (02, wish 7)
+abbrev pub bad-state : ℕ
+bad-state = 30
+
 -- ---- places
 
 -- "else 0" (02, wish 9): what stands for a place where no entry and no packet broke a rule
@@ -82,6 +86,10 @@ most-halvings = 14
 
 abbrev pub most-layers : ℕ
 most-layers = 256
+
+-- "clear flags above 7" (02, wish 7)
+abbrev pub most-flags : ℕ
+most-flags = 7
 
 -- ---- magics, each the little-endian number of its four bytes, and the version
 
@@ -136,6 +144,19 @@ dirty-range = 259
 abbrev pub copy-buffer : ℕ
 copy-buffer = 261
 
+-- those of 02, wish 7
+abbrev pub set-target : ℕ
+set-target = 1024
+
+abbrev pub set-viewport : ℕ
+set-viewport = 1025
+
+abbrev pub set-scissor : ℕ
+set-scissor = 1026
+
+abbrev pub clear : ℕ
+clear = 1536
+
 -- ---- the bytes of each packet that we know
 
 abbrev pub create-buffer-size : ℕ
@@ -153,6 +174,18 @@ dirty-range-size = 32
 abbrev pub copy-buffer-size : ℕ
 copy-buffer-size = 48
 
+abbrev pub set-target-size : ℕ
+set-target-size = 16
+
+abbrev pub set-viewport-size : ℕ
+set-viewport-size = 32
+
+abbrev pub set-scissor-size : ℕ
+set-scissor-size = 24
+
+abbrev pub clear-size : ℕ
+clear-size = 36
+
 -- ---- kinds of record
 
 abbrev pub backs : ℕ
@@ -163,6 +196,9 @@ reads = 2
 
 abbrev pub writes : ℕ
 writes = 3
+
+abbrev pub clips : ℕ
+clips = 4
 
 -- ---- call answers
 

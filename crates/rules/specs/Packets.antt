@@ -1,23 +1,29 @@
--- 01, "Packet rules, checked in this order": what each packet does to a submission's resources and records.
+-- 01, "Packet rules, checked in this order": what each packet does to a submission's resources and records; and by 02, wish 7, to its target.
 use mathlib.Core.Bool.{Bool, true, false, not, _||_}
 use mathlib.Core.List.{List, []}
 use Prim.Native.Nat.{ℕ, _+_, _%_}
 use lib.Dec.{ltb, leb, eqb}
 use lib.ListN.{length, take}
 use Rattle.machine.specs.Machine.{pick}
-use Rattle.rules.specs.Numbers.{bad-handle, too-many, bad-shape, not-in-table, past-entry, read-only, past-resource, host-backed, bad-copy, most, backs, reads, writes}
+use Rattle.rules.specs.Numbers.{bad-handle, too-many, bad-shape, not-in-table, past-entry, read-only, past-resource, host-backed, bad-copy, bad-state, most, backs, reads, writes}
 use Rattle.rules.specs.Lists.{Found, lookup, indexOf, pushed, removed}
 use Rattle.rules.specs.Lists.Found.{none, found}
 use Rattle.rules.specs.Judging.{refusal}
 use Rattle.rules.specs.Shapes.{good-shape, good-backed, packed-size}
+use Rattle.rules.specs.StatePackets.{bad-viewport, bad-clear, bad-sides, clip-of}
 use Rattle.rules.specs.Table.{matching}
 use Rattle.rules.specs.Stream.{frame-of, packet-of}
 use Rattle.rules.specs.declared.Entry.{Entry}
+use Rattle.rules.specs.declared.Shape.{Shape}
 use Rattle.rules.specs.declared.CreateBuffer.{CreateBuffer}
 use Rattle.rules.specs.declared.CreateTexture.{CreateTexture}
 use Rattle.rules.specs.declared.DestroyResource.{DestroyResource}
 use Rattle.rules.specs.declared.DirtyRange.{DirtyRange}
 use Rattle.rules.specs.declared.CopyBuffer.{CopyBuffer}
+use Rattle.rules.specs.declared.SetTarget.{SetTarget}
+use Rattle.rules.specs.declared.SetViewport.{SetViewport}
+use Rattle.rules.specs.declared.SetScissor.{SetScissor}
+use Rattle.rules.specs.declared.ClearValues.{ClearValues}
 use Rattle.rules.specs.declared.Resource.{Resource}
 use Rattle.rules.specs.declared.Record.{Record}
 use Rattle.rules.specs.declared.Verdict.{Verdict}
@@ -27,16 +33,12 @@ use Rattle.rules.specs.declared.Kind.the-variants.{Buffer as BufferKind,
 use Rattle.rules.specs.declared.Frame.{Frame}
 use Rattle.rules.specs.declared.Frame.the-variants.{Whole, Misframed}
 use Rattle.rules.specs.declared.Packet.{Packet}
-use Rattle.rules.specs.declared.Packet.the-variants.{Buffer, Texture, Destroy, Dirty, Copy, Unknown}
+use Rattle.rules.specs.declared.Packet.the-variants.{Buffer, Texture, Destroy, Dirty, Copy, Target, Viewport, Scissor, Clear, NotANumber, Unknown}
 
 -- what a submission holds: its resources as its earlier packets left them, and the records they made
 pub record Holdings : Type 0 where
   pub resources : List Resource
   pub records : List Record
-
--- "Resources live within a submission as its earlier packets left them": at first they are the device's
-abbrev pub at-first : List Resource → Holdings
-at-first resources = record { resources = resources; records = [] }
 
 -- what a packet comes to. One that is refused leaves what was held.
 pub record Outcome : Type 0 where
@@ -184,21 +186,106 @@ on-copy-packet es h c =
     (refuse past-resource (ltb (s .bytes) (c .srcoffset + c .size)) h
     (pick (eqb (c .flags) 1) (write-back es h c d) (accepted h))))))
 
--- ---- one packet
+-- ---- state packets (02, wish 7)
 
-unfoldable pub apply : List Entry → Holdings → Packet → Outcome
-apply es h (Buffer c) = on-buffer-packet es h c
-apply es h (Texture c) = on-texture-packet es h c
-apply es h (Destroy c) = on-destroy-packet h c
-apply es h (Dirty c) = on-dirty-packet es h c
-apply es h (Copy c) = on-copy-packet es h c
-apply es h Unknown = accepted h
+-- a texture's shape
+abbrev pub shape-of : Kind → Found Shape
+shape-of BufferKind = none
+shape-of (TextureKind s) = found s
+
+abbrev pub shape-in : Found Resource → Found Shape
+shape-in none = none
+shape-in (found r) = shape-of (r .kind)
+
+-- that of the live texture that has a handle. Handle 0 is not live.
+unfoldable pub live-texture : ℕ → Holdings → Found Shape
+live-texture k h = pick (eqb k 0) none (shape-in (live k h))
+
+-- the rule with number n, unless there is such a texture
+abbrev pub on-texture : ℕ → Found Shape → Holdings → (Shape → Outcome) → Outcome
+on-texture n none h later = refused n h
+on-texture n (found s) h later = later s
+
+-- "The target is a live texture, else 18"
+unfoldable pub on-target-packet : Holdings → SetTarget → Outcome
+on-target-packet h c = on-texture bad-handle (live-texture (c .handle) h) h (λ s. accepted h)
+
+unfoldable pub on-viewport-packet : Holdings → SetViewport → Outcome
+on-viewport-packet h v = refuse bad-state (bad-viewport v) h (accepted h)
+
+unfoldable pub on-clear-packet : Holdings → ClearValues → Outcome
+on-clear-packet h c = refuse bad-state (bad-clear c) h (accepted h)
+
+-- "scissor sides negative; scissor without a target": 30. The clipped rectangle is a record "which counts toward the 64": 19. "Order: 18, 30, 19."
+-- A target that is no live texture, which only made-up words hold, counts as none (docs/DECISIONS.md, 89).
+unfoldable pub on-scissor-packet : ℕ → Holdings → SetScissor → Outcome
+on-scissor-packet target h c =
+    on-texture bad-state (live-texture target h) h (λ s.
+    refuse bad-state (bad-sides c) h
+    (refuse too-many (full (h .records)) h (accepted (recorded (clip-of s c) h))))
+
+-- ---- one packet, in a submission that has this target
+
+unfoldable pub apply : List Entry → ℕ → Holdings → Packet → Outcome
+apply es target h (Buffer c) = on-buffer-packet es h c
+apply es target h (Texture c) = on-texture-packet es h c
+apply es target h (Destroy c) = on-destroy-packet h c
+apply es target h (Dirty c) = on-dirty-packet es h c
+apply es target h (Copy c) = on-copy-packet es h c
+apply es target h (Target c) = on-target-packet h c
+apply es target h (Viewport v) = on-viewport-packet h v
+apply es target h (Scissor c) = on-scissor-packet target h c
+apply es target h (Clear c) = on-clear-packet h c
+apply es target h NotANumber = refused bad-state h
+apply es target h Unknown = accepted h
+
+-- ---- what a submission carries from packet to packet
+
+-- what it holds, and the handle of its target, 0 while it has none
+pub record Progress : Type 0 where
+  pub holdings : Holdings
+  pub target : ℕ
+
+-- "Resources live within a submission as its earlier packets left them": at first they are the device's, and there is no target
+abbrev pub at-first : List Resource → Progress
+at-first resources = record { holdings = record { resources = resources; records = [] }; target = 0 }
+
+-- a packet that is refused leaves the target
+abbrev pub if-fine : Verdict → ℕ → ℕ → ℕ
+if-fine Fine new old = new
+if-fine (Broken r) new old = old
+
+-- "it lasts until the submission ends or that handle is destroyed"
+unfoldable pub target-after : Packet → Verdict → ℕ → ℕ
+target-after (Buffer c) v old = old
+target-after (Texture c) v old = old
+target-after (Destroy c) v old = if-fine v (pick (eqb (c .handle) old) 0 old) old
+target-after (Dirty c) v old = old
+target-after (Copy c) v old = old
+target-after (Target c) v old = if-fine v (c .handle) old
+target-after (Viewport c) v old = old
+target-after (Scissor c) v old = old
+target-after (Clear c) v old = old
+target-after NotANumber v old = old
+target-after Unknown v old = old
+
+-- what a packet comes to, and what is held after it
+pub record Passed : Type 0 where
+  pub verdict : Verdict
+  pub held : Progress
+
+abbrev pub passed : Packet → ℕ → Outcome → Passed
+passed p target o =
+    record { verdict = o .verdict; held = record { holdings = o .held; target = target-after p (o .verdict) target } }
+
+unfoldable pub pass : List Entry → Progress → Packet → Passed
+pass es h p = passed p (h .target) (apply es (h .target) (h .holdings) p)
 
 -- ---- the packet that the bytes left of a stream begin with
 
-abbrev pub apply-frame : List Entry → Holdings → List ℕ → Frame → Outcome
-apply-frame es h b (Whole op size) = apply es h (packet-of op (take size b))
-apply-frame es h b (Misframed r) = record { verdict = Broken r; held = h }
+abbrev pub pass-frame : List Entry → Progress → List ℕ → Frame → Passed
+pass-frame es h b (Whole op size) = pass es h (packet-of op (take size b))
+pass-frame es h b (Misframed r) = record { verdict = Broken r; held = h }
 
-unfoldable pub take-packet : List Entry → Holdings → List ℕ → Outcome
-take-packet es h b = apply-frame es h b (frame-of b)
+unfoldable pub take-packet : List Entry → Progress → List ℕ → Passed
+take-packet es h b = pass-frame es h b (frame-of b)

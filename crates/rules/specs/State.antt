@@ -1,8 +1,8 @@
--- 01, "State and calls": the device's state, and the memory beside it. What a phase does not use is no part of it.
+-- 01, "State and calls": the device's state, and the memory beside it. What a phase does not use is no part of it, but for what is said at `waiting`.
 use mathlib.Core.Bool.{Bool, false}
 use mathlib.Core.List.{List, []}
 use Prim.Native.Nat.{ℕ}
-use Rattle.rules.specs.Packets.{Holdings}
+use Rattle.rules.specs.Packets.{Progress}
 use Rattle.rules.specs.declared.LastError.{LastError}
 use Rattle.rules.specs.declared.Registers.{Registers}
 use Rattle.rules.specs.declared.Entry.{Entry}
@@ -17,9 +17,10 @@ pub data Work : Type 0 where
   -- what was opened, and the entries kept so far
   entries : Opened → List Entry → Work
   -- the stream and the place in it, the table's entries, and what is held
-  packets : Job → Stream → ℕ → List Entry → Holdings → Work
-  -- the host's answer is awaited. The entries stay, so that it can be said of each record handed out which one it lies in.
-  waiting : Job → List Entry → Holdings → Work
+  packets : Job → Stream → ℕ → List Entry → Progress → Work
+  -- the host's answer is awaited. The entries stay, so that it can be said of each range handed out which one it lies in, and the target with what
+  -- is held.
+  waiting : Job → List Entry → Progress → Work
 
 pub record State : Type 0 where
   -- "made for one memory length"

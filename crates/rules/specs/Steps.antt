@@ -12,7 +12,7 @@ use Rattle.rules.specs.Layouts.{stream-header-size}
 use Rattle.rules.specs.Table.{take-entry}
 use Rattle.rules.specs.Stream.{left, frame-of, size-of}
 use Rattle.rules.specs.Ring.{opening-of}
-use Rattle.rules.specs.Packets.{Holdings, at-first, take-packet}
+use Rattle.rules.specs.Packets.{Progress, at-first, take-packet}
 use Rattle.rules.specs.State.{Work, State, World, working}
 use Rattle.rules.specs.State.Work.{resting, entries, packets, waiting}
 use Rattle.rules.specs.Settle.{settled, settled-keeping, ring-refused, found-no-work}
@@ -27,7 +27,7 @@ use Rattle.rules.specs.declared.Opening.the-variants.{BadRing, NoWork, R
 -- ---- what comes next: "After the last step the submission waits for the host."
 
 -- the next packet, if one is left
-abbrev pub packets-at : Job → Stream → ℕ → List Entry → Holdings → Work
+abbrev pub packets-at : Job → Stream → ℕ → List Entry → Progress → Work
 packets-at j s at es h = pick (ltb at (s .size)) (packets j s at es h) (waiting j es h)
 
 -- the next entry, if one is left
@@ -61,7 +61,7 @@ entry-step w o kept =
 
 -- ---- one packet
 
-abbrev pub after-packet : World → Job → Stream → ℕ → List Entry → Holdings → Finding → World
+abbrev pub after-packet : World → Job → Stream → ℕ → List Entry → Progress → Finding → World
 after-packet w j s next es h fine = working (packets-at j s next es h) w
 after-packet w j s next es h (broken f) = settled-keeping j (broken f) w
 
@@ -71,7 +71,7 @@ next-place at b = at + size-of (frame-of b)
 
 -- "the packet's byte offset in the stream for packet errors" (02, wish 9): all that a packet's step raises, 17 of the last bytes and 19 of its
 -- records too
-unfoldable pub packet-step : World → Job → Stream → ℕ → List Entry → Holdings → World
+unfoldable pub packet-step : World → Job → Stream → ℕ → List Entry → Progress → World
 packet-step w j s at es h =
     after-packet w j s (next-place at (left (w .mem) s at)) es (take-packet es h (left (w .mem) s at) .held)
     (at-place at (take-packet es h (left (w .mem) s at) .verdict))
@@ -117,7 +117,7 @@ abbrev pub answer-on : Bool → World → Work → World
 answer-on good w resting = w
 answer-on good w (entries o kept) = w
 answer-on good w (packets j s at es h) = w
-answer-on true w (waiting j es h) = settled j fine (h .resources) w
+answer-on true w (waiting j es h) = settled j fine (h .holdings .resources) w
 answer-on false w (waiting j es h) = settled-keeping j (broken (without-place (refusal host-failed))) w
 
 unfoldable pub answered : Bool → World → World

@@ -5,9 +5,10 @@ use Prim.Native.Nat.{ℕ, zero, suc, _+_, _%_}
 use lib.Dec.{ltb, eqb}
 use lib.ListN.{length, take, drop}
 use Rattle.machine.specs.Machine.{pick}
-use Rattle.rules.specs.Numbers.{bad-stream, bad-packet, stream-magic, create-buffer, create-texture, destroy, dirty-range, copy-buffer, create-buffer-size, create-texture-size, destroy-size, dirty-range-size, copy-buffer-size}
+use Rattle.rules.specs.Numbers.{bad-stream, bad-packet, stream-magic, create-buffer, create-texture, destroy, dirty-range, copy-buffer, set-target, set-viewport, set-scissor, clear, create-buffer-size, create-texture-size, destroy-size, dirty-range-size, copy-buffer-size, set-target-size, set-viewport-size, set-scissor-size, clear-size}
 use Rattle.rules.specs.Judging.{rule, _▹_}
-use Rattle.rules.specs.Layouts.{word, stream-header-size, packet-header-size, buffer-fields, texture-fields, destroy-fields, dirty-fields, copy-fields}
+use Rattle.rules.specs.Layouts.{word, stream-header-size, packet-header-size, buffer-fields, texture-fields, destroy-fields, dirty-fields, copy-fields, target-fields, viewport-floats, viewport-fields, scissor-fields, clear-floats, clear-fields}
+use Rattle.rules.specs.Floats.{nan-among}
 use Rattle.rules.specs.Headers.{wrong-header}
 use Rattle.rules.specs.Lists.{Found}
 use Rattle.rules.specs.Lists.Found.{none, found}
@@ -17,7 +18,7 @@ use Rattle.rules.specs.declared.Refusal.{Refusal}
 use Rattle.rules.specs.declared.Verdict.{Verdict}
 use Rattle.rules.specs.declared.Verdict.the-variants.{Fine, Broken}
 use Rattle.rules.specs.declared.Packet.{Packet}
-use Rattle.rules.specs.declared.Packet.the-variants.{Buffer, Texture, Destroy, Dirty, Copy, Unknown}
+use Rattle.rules.specs.declared.Packet.the-variants.{Buffer, Texture, Destroy, Dirty, Copy, Target, Viewport, Scissor, Clear, NotANumber, Unknown}
 use Rattle.rules.specs.declared.Frame.{Frame}
 use Rattle.rules.specs.declared.Frame.the-variants.{Whole, Misframed}
 
@@ -43,14 +44,22 @@ pub record Known : Type 0 where
 abbrev pub row : ℕ → (List ℕ → Packet) → Found Known
 row size fields = found (record { size = size; fields = fields })
 
--- "Opcode | Packet, bytes | Fields": each row once
+-- a packet that has floats, these by their bits: one with a NaN among them is a case of its own
+abbrev pub unless-nan : List ℕ → Packet → Packet
+unless-nan floats p = pick (nan-among floats) NotANumber p
+
+-- "Opcode | Packet, bytes | Fields": each row once. The last four are wish 7's.
 unfoldable pub known : ℕ → Found Known
 known op =
     pick (eqb op create-buffer) (row create-buffer-size (λ b. Buffer (buffer-fields b)))
     (pick (eqb op create-texture) (row create-texture-size (λ b. Texture (texture-fields b)))
     (pick (eqb op destroy) (row destroy-size (λ b. Destroy (destroy-fields b)))
     (pick (eqb op dirty-range) (row dirty-range-size (λ b. Dirty (dirty-fields b)))
-    (pick (eqb op copy-buffer) (row copy-buffer-size (λ b. Copy (copy-fields b))) none))))
+    (pick (eqb op copy-buffer) (row copy-buffer-size (λ b. Copy (copy-fields b)))
+    (pick (eqb op set-target) (row set-target-size (λ b. Target (target-fields b)))
+    (pick (eqb op set-viewport) (row set-viewport-size (λ b. unless-nan (viewport-floats b) (Viewport (viewport-fields b))))
+    (pick (eqb op set-scissor) (row set-scissor-size (λ b. Scissor (scissor-fields b)))
+    (pick (eqb op clear) (row clear-size (λ b. unless-nan (clear-floats b) (Clear (clear-fields b)))) none))))))))
 
 -- the bytes of a row, 0 where there is none, which are the least that its packet has; and what a packet's own bytes say. "Unknown opcodes are skipped."
 abbrev pub bytes-in : Found Known → ℕ

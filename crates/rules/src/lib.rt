@@ -1,4 +1,4 @@
-// The vocabulary of document 01: the things it speaks of, by value, of plain numbers. No function stands here;
+// The vocabulary of document 01 and of the wishes of 02: the things they speak of, by value, of plain numbers. No function stands here;
 // what the rules say of these things is in specs/, a file for each heading.
 pub mod numbers;
 
@@ -100,19 +100,59 @@ pub struct CopyBuffer {
     pub flags: u32,
 }
 
+// The texture that later scissors are clipped to (02, wish 7).
+pub struct SetTarget {
+    pub handle: u32,
+}
+
+// A rectangle and a range of depths. It is judged, and kept nowhere.
+pub struct SetViewport {
+    pub x: f32,
+    pub y: f32,
+    pub width: f32,
+    pub height: f32,
+    pub near: f32,
+    pub far: f32,
+}
+
+// A rectangle, to be clipped to the target.
+pub struct SetScissor {
+    pub x: i32,
+    pub y: i32,
+    pub width: i32,
+    pub height: i32,
+}
+
+// Flags, a colour, a depth and a stencil. They are judged, and kept nowhere.
+pub struct ClearValues {
+    pub flags: u32,
+    pub red: f32,
+    pub green: f32,
+    pub blue: f32,
+    pub alpha: f32,
+    pub depth: f32,
+    pub stencil: u32,
+}
+
 // What the bytes left of a stream begin with: a whole packet, by opcode and size, or none.
 pub enum Frame {
     Whole(u32, u32),
     Misframed(Refusal),
 }
 
-// A packet that is framed well. One whose opcode we do not know is skipped.
+// A packet that is framed well. One whose opcode we do not know is skipped. A viewport or clear with a NaN among its floats is a case of its
+// own, since no f32 is made of a NaN's bits.
 pub enum Packet {
     Buffer(CreateBuffer),
     Texture(CreateTexture),
     Destroy(DestroyResource),
     Dirty(DirtyRange),
     Copy(CopyBuffer),
+    Target(SetTarget),
+    Viewport(SetViewport),
+    Scissor(SetScissor),
+    Clear(ClearValues),
+    NotANumber,
     Unknown,
 }
 
@@ -141,7 +181,8 @@ pub struct Resource {
     pub offset: u32,
 }
 
-// A range of guest memory that is handed to the host: kind 1 a backing, 2 to be read, 3 to be written.
+// What is handed to the host: a range of guest memory, of kind 1 a backing, 2 to be read, 3 to be written; or, of kind 4, a clipped
+// rectangle, with left, top, width and height in the places of handle, id, gpa and length.
 pub struct Record {
     pub kind: u32,
     pub handle: u32,

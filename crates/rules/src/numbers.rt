@@ -1,4 +1,4 @@
-// The numbers of document 01, for code. Each has the name that specs/Numbers.antt gives it.
+// The numbers of document 01, and of the wishes of 02, for code. Each has the name that specs/Numbers.antt gives it.
 
 // ---- errors
 pub const BAD_RING: u32 = 10;
@@ -37,12 +37,16 @@ pub const BAD_COPY: u32 = 26;
 
 pub const HOST_FAILED: u32 = 27;
 
+pub const BAD_STATE: u32 = 30;
+
 // ---- limits
 pub const MOST_ROWS: usize = 64;
 
 pub const LONGEST_SIDE: u32 = 16384;
 
 pub const MOST_LAYERS: u32 = 256;
+
+pub const MOST_FLAGS: u32 = 7;
 
 // ---- magics and the version
 pub const RING_MAGIC: u32 = 0x474e5241;
@@ -88,6 +92,14 @@ pub const DIRTY_RANGE: u32 = 259;
 
 pub const COPY_BUFFER: u32 = 261;
 
+pub const SET_TARGET: u32 = 1024;
+
+pub const SET_VIEWPORT: u32 = 1025;
+
+pub const SET_SCISSOR: u32 = 1026;
+
+pub const CLEAR: u32 = 1536;
+
 // ---- the bytes of each packet that we know
 pub const CREATE_BUFFER_SIZE: u32 = 40;
 
@@ -99,12 +111,22 @@ pub const DIRTY_RANGE_SIZE: u32 = 32;
 
 pub const COPY_BUFFER_SIZE: u32 = 48;
 
+pub const SET_TARGET_SIZE: u32 = 16;
+
+pub const SET_VIEWPORT_SIZE: u32 = 32;
+
+pub const SET_SCISSOR_SIZE: u32 = 24;
+
+pub const CLEAR_SIZE: u32 = 36;
+
 // ---- kinds of record
 pub const BACKS: u32 = 1;
 
 pub const READS: u32 = 2;
 
 pub const WRITES: u32 = 3;
+
+pub const CLIPS: u32 = 4;
 
 // ---- call answers
 pub const DONE: u32 = 0;

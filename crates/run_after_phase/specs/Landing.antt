@@ -18,7 +18,7 @@ use Rattle.run_entries.specs.declared.entries.EntriesPlace.{EntriesPlace}
 use Rattle.run_packets.specs.Playing.{playingOf}
 use Rattle.run_packets.specs.declared.PacketsPlace.{PacketsPlace}
 use Rattle.run_state.specs.Views.{flagOf, smallIn, tagIn, jobIn, streamIn, openedIn, keptIn, worldIn, bareIn}
-use Rattle.run_state.specs.Reading.{flag-as, count-as}
+use Rattle.run_state.specs.Reading.{flag-as, small-as, count-as}
 use Rattle.run_state.specs.Spelled.{spell}
 use Rattle.run_settle.specs.Views.{Refuses}
 use Rattle.run_begin.specs.Views.{Begins}
@@ -63,7 +63,7 @@ pub ruleset landing-entries = (lands-going, lands-done, lands-broken, needs)
 
 -- ---- land_packets
 
-module _ (s : List ℕ) (p : PacketsPlace) (m : List ℕ) (pre : (tagIn s ≡ 2) × (p .live ≤ most) × (p .made ≤ most)) where
+module _ (s : List ℕ) (p : PacketsPlace) (m : List ℕ) (pre : (tagIn s ≡ 2) × (p .held .live ≤ most) × (p .held .made ≤ most)) where
   -- a device whose phase has this ending
   played-to : (k : Ending) → endingOf (p .ending) (p .why) ≡ k → (e r h c : List ℕ)
       → played-on (bareIn s r m) (jobIn s) (streamIn s) (keptIn s e) (playingOf p r h c) k ≡ played-on (bareIn s r m) (jobIn s) (streamIn s) (keptIn s e) (playingOf p r h c) (playingOf p r h c .ending)
@@ -76,30 +76,30 @@ module _ (s : List ℕ) (p : PacketsPlace) (m : List ℕ) (pre : (tagIn s ≡ 2)
         side = f .side;
       }
 
-  module _ (long : length s ≡ 32) (y z o : ℕ) (is-y : (y ≡ p .live) × (y < 18446744073709551616)) (is-z : (z ≡ p .made) × (z < 18446744073709551616)) (is-o : o ≡ flagOf (p .copied)) where
+  module _ (long : length s ≡ 32) (y z o t : ℕ) (is-y : (y ≡ p .held .live) × (y < 18446744073709551616)) (is-z : (z ≡ p .held .made) × (z < 18446744073709551616)) (is-o : o ≡ flagOf (p .held .copied)) (is-t : (t ≡ p .held .target) × (t < 4294967296)) where
     abbrev onward-words : ℕ → List ℕ → List ℕ
-    onward-words x w = set (set (set (set w 23 x) 26 y) 27 z) 29 o
+    onward-words x w = set (set (set (set (set w 23 x) 26 y) 27 z) 29 o) 31 t
 
     abbrev waiting-words : List ℕ → List ℕ
-    waiting-words w = set (set (set (set (set (set (set w 13 3) 21 0) 22 0) 23 0) 26 y) 27 z) 29 o
+    waiting-words w = set (set (set (set (set (set (set (set w 13 3) 21 0) 22 0) 23 0) 26 y) 27 z) 29 o) 31 t
 
-    pub plays-going : (x : ℕ) → p .ending ≡ 0 → (x ≡ p .at) × (x < 18446744073709551616) → LandsPackets s p m (set (set (set (set s 23 x) 26 y) 27 z) 29 o) m
+    pub plays-going : (x : ℕ) → p .ending ≡ 0 → (x ≡ p .at) × (x < 18446744073709551616) → LandsPackets s p m (set (set (set (set (set s 23 x) 26 y) 27 z) 29 o) 31 t) m
     unfolding worldIn
     plays-going x q is-x =
         record {
           world = λ e r h c.
               spell (λ w. worldIn (onward-words x w) e r h c m) s long
-              ∙ rw (pre .0, is-x .0, count-as y (p .live) is-y (pre .1), count-as z (p .made) is-z (pre .2), flag-as o (p .copied) is-o) (played-to Going (is-going (p .ending) (p .why) q) e r h c);
+              ∙ rw (pre .0, is-x .0, count-as y (p .held .live) is-y (pre .1), count-as z (p .held .made) is-z (pre .2), flag-as o (p .held .copied) is-o, small-as t (p .held .target) is-t) (played-to Going (is-going (p .ending) (p .why) q) e r h c);
           side = spell (λ w. getD (onward-words x w) 28 0) s long;
         }
 
-    pub plays-done : p .ending ≡ 1 → LandsPackets s p m (set (set (set (set (set (set (set s 13 3) 21 0) 22 0) 23 0) 26 y) 27 z) 29 o) m
+    pub plays-done : p .ending ≡ 1 → LandsPackets s p m (set (set (set (set (set (set (set (set s 13 3) 21 0) 22 0) 23 0) 26 y) 27 z) 29 o) 31 t) m
     unfolding worldIn
     plays-done q =
         record {
           world = λ e r h c.
               spell (λ w. worldIn (waiting-words w) e r h c m) s long
-              ∙ rw (count-as y (p .live) is-y (pre .1), count-as z (p .made) is-z (pre .2), flag-as o (p .copied) is-o) (played-to Done (is-done (p .ending) (p .why) q) e r h c);
+              ∙ rw (count-as y (p .held .live) is-y (pre .1), count-as z (p .held .made) is-z (pre .2), flag-as o (p .held .copied) is-o, small-as t (p .held .target) is-t) (played-to Done (is-done (p .ending) (p .why) q) e r h c);
           side = spell (λ w. getD (waiting-words w) 28 0) s long;
         }
 

@@ -15,9 +15,11 @@ use run_state::PLACE;
 use run_state::STREAM_GPA;
 use run_state::STREAM_SIZE;
 use run_state::TAG;
+use run_state::TARGET;
 use run_state::WAITING;
 use run_state::Words;
 use run_state::flag;
+use widths::u32_to_word;
 use widths::usize_to_word;
 use words::low32;
 ghost use mathlib.Core.Path.{_≡_};
@@ -55,19 +57,22 @@ pub fn land_entries(words: &mut Words, p: EntriesPlace, mem: &mut [u8])
 
 // The packets at a place. A submission that waits has no word of its stream left.
 pub fn land_packets(words: &mut Words, p: PacketsPlace, mem: &mut [u8])
-    requires { ⌜ (tagIn (now words) ≡ 2) × (p .live ≤ most) × (p .made ≤ most) ⌝ }
+    requires { ⌜ (tagIn (now words) ≡ 2) × (p .held .live ≤ most) × (p .held .made ≤ most) ⌝ }
     ensures { λ _. ⌜ LandsPackets (now (words .entry)) p (now (mem .entry)) (now (words .exit)) (now (mem .exit)) ⌝ }
 {
+    let held = p.held;
     let at = usize_to_word(p.at);
-    let live = usize_to_word(p.live);
-    let made = usize_to_word(p.made);
-    let copied = flag(p.copied);
+    let live = usize_to_word(held.live);
+    let made = usize_to_word(held.made);
+    let copied = flag(held.copied);
+    let target = u32_to_word(held.target);
     if p.ending == GOING {
         let all = &words[..];
         words[PLACE] = at;
         words[HELD] = live;
         words[MADE] = made;
         words[COPIED] = copied;
+        words[TARGET] = target;
         return;
     }
     if p.ending == DONE {
@@ -79,6 +84,7 @@ pub fn land_packets(words: &mut Words, p: PacketsPlace, mem: &mut [u8])
         words[HELD] = live;
         words[MADE] = made;
         words[COPIED] = copied;
+        words[TARGET] = target;
         return;
     }
     settle_refused(words, mem, fault(p.why, p.at));

@@ -26,9 +26,9 @@ use Rattle.run_begin.specs.Views.{Begins, StoresJob, StoresOpened, Start
 module _ (s : List ℕ) (kept size n : ℕ) (long : length s ≡ 32) (few : kept ≤ most) (is-n : (n ≡ kept) × (n < 18446744073709551616)) (is-size : size ≡ smallIn (getD s 22 0)) where
   -- with no word left of the table
   abbrev begun : List ℕ → List ℕ
-  begun w = set (set (set (set (set (set (set w 18 0) 19 0) 20 0) 24 n) 26 (getD w 25 0)) 27 0) 29 0
+  begun w = set (set (set (set (set (set (set (set w 18 0) 19 0) 20 0) 24 n) 26 (getD w 25 0)) 27 0) 29 0) 31 0
 
-  pub begins-more : 24 < size → Begins s kept (set (set (set (set (set (set (set (set (set s 18 0) 19 0) 20 0) 24 n) 26 (getD s 25 0)) 27 0) 29 0) 23 24) 13 2)
+  pub begins-more : 24 < size → Begins s kept (set (set (set (set (set (set (set (set (set (set s 18 0) 19 0) 20 0) 24 n) 26 (getD s 25 0)) 27 0) 29 0) 31 0) 23 24) 13 2)
   unfolding worldIn
   begins-more h =
       record {
@@ -40,7 +40,7 @@ module _ (s : List ℕ) (kept size n : ℕ) (long : length s ≡ 32) (few : kept
   abbrev begun-none : List ℕ → List ℕ
   begun-none w = set (set (set (set (begun w) 21 0) 22 0) 23 0) 13 3
 
-  pub begins-none : size ≤ 24 → Begins s kept (set (set (set (set (set (set (set (set (set (set (set s 18 0) 19 0) 20 0) 24 n) 26 (getD s 25 0)) 27 0) 29 0) 21 0) 22 0) 23 0) 13 3)
+  pub begins-none : size ≤ 24 → Begins s kept (set (set (set (set (set (set (set (set (set (set (set (set s 18 0) 19 0) 20 0) 24 n) 26 (getD s 25 0)) 27 0) 29 0) 31 0) 21 0) 22 0) 23 0) 13 3)
   unfolding worldIn
   begins-none h =
       record {

@@ -21,6 +21,7 @@ use run_state::TABLE_COUNT;
 use run_state::TABLE_GPA;
 use run_state::TABLE_STRIDE;
 use run_state::TAG;
+use run_state::TARGET;
 use run_state::WAITING;
 use run_state::Words;
 use run_state::flag;
@@ -31,8 +32,8 @@ ghost use Prim.Native.Nat.{_≤_};
 ghost use Rattle.rules.specs.Numbers.{most};
 ghost use Rattle.run_begin.specs.Views.{Begins, StoresJob, StoresOpened, Starts};
 
-// The packets come next, after so many entries: the submission holds the device's resources and no record. Of its table no word is left, and
-// of its stream none where no packet comes.
+// The packets come next, after so many entries: the submission holds the device's resources and no record, and has no target. Of its table no
+// word is left, and of its stream none where no packet comes.
 pub fn begin_packets(words: &mut Words, kept: usize)
     requires { ⌜ kept ≤ most ⌝ }
     ensures { λ _. ⌜ Begins (now (words .entry)) kept (now (words .exit)) ⌝ }
@@ -48,6 +49,7 @@ pub fn begin_packets(words: &mut Words, kept: usize)
     words[HELD] = live;
     words[MADE] = 0;
     words[COPIED] = 0;
+    words[TARGET] = 0;
     if STREAM_HEADER_SIZE < size {
         words[PLACE] = STREAM_HEADER_SIZE as u64;
         words[TAG] = PACKETS;

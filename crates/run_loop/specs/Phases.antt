@@ -16,7 +16,7 @@ use Rattle.rules.specs.Judging.{refusal, at-place}
 use Rattle.rules.specs.Layouts.{entry, stream-header-size}
 use Rattle.rules.specs.Table.{entry-place, entry-rules, keep, in-reach, take-entry}
 use Rattle.rules.specs.Stream.{stream-bytes}
-use Rattle.rules.specs.Packets.{Holdings, at-first, take-packet}
+use Rattle.rules.specs.Packets.{Progress, at-first, take-packet}
 use Rattle.rules.specs.State.{Work, World, working}
 use Rattle.rules.specs.State.Work.{entries, packets, waiting}
 use Rattle.rules.specs.Settle.{settled}
@@ -130,7 +130,7 @@ module _ (w : World) (on : w .state .regs .enabled ≡ true) (j : Job) (t : Stre
       by-ending Done h = absurd (let z : _≡_ {A = ℕ} 0 1 = cc in omega arith)
       by-ending (Broken r) h = absurd (let z : _≡_ {A = ℕ} 0 1 = cc in omega arith)
 
-  play-lays : (k : Work) (at next : ℕ) (h : Holdings) (v : Verdict) → after-packet (working k w) j t next es h (at-place at v) ≡ played w j t es (play-on at next (t .size) h v)
+  play-lays : (k : Work) (at next : ℕ) (h : Progress) (v : Verdict) → after-packet (working k w) j t next es h (at-place at v) ≡ played w j t es (play-on at next (t .size) h v)
   unfolding settled
   play-lays k at next h Fine = by-test (ltb next (t .size))
     where

@@ -29,7 +29,8 @@ use Rattle.run_state.specs.Reading.{unset, is-set}
 use Rattle.run_state.specs.Stages.{waits-in}
 use Rattle.run_after_phase.specs.Views.{laid, LandsEntries, played, LandsPackets}
 use Rattle.run_open.specs.Opening.{Opens}
-use Rattle.run_loop.specs.Views.{TurnOf, EntriesTurn, PacketsTurn, RanFor}
+use Rattle.packet_apply.specs.declared.apply.Held.{Held}
+use Rattle.run_loop.specs.Views.{HeldIn, TurnOf, EntriesTurn, PacketsTurn, RanFor}
 use Rattle.run_loop.specs.Phases.{entries-go, entries-step, packets-go, packets-step}
 
 -- a device in some work is the bare one with that work
@@ -63,16 +64,24 @@ entries-land s m e e′ left n t x pre ran = (pre .0, ran .room)
 
 pub ruleset turning-entries = (entries-turned, entries-land, needs)
 
+-- ---- held_in
+
+pub held-is : (s : List ℕ) (live made target : ℕ) (copied : Bool) → (live ≡ countIn (getD s 26 0)) × (live ≤ most) → (made ≡ countIn (getD s 27 0)) × (made ≤ most)
+    → copied ≡ setIn (getD s 29 0) → target ≡ smallIn (getD s 31 0) → HeldIn s (record { live = live; made = made; copied = copied; target = target })
+held-is s live made target copied a b c d = record { held = λ r h l. rw (a .0, b .0, c, d); live = a .1; made = b .1 }
+
+pub ruleset finding-held = (held-is, needs)
+
 -- ---- packets_turn
 
-module _ (s s′ m e r h c m′ h′ c′ : List ℕ) (left n at live made : ℕ) (copied : Bool) (t : Stream) (x : PacketsRun) (pre : (tagIn s ≡ 2) × (0 < left)) where
+module _ (s s′ m e r h c m′ h′ c′ : List ℕ) (left n at : ℕ) (k : Held) (t : Stream) (x : PacketsRun) (pre : (tagIn s ≡ 2) × (0 < left)) where
   abbrev from : PacketsPlace
-  from = record { at = at; live = live; made = made; copied = copied; ending = 0; why = 0 }
+  from = record { at = at; held = k; ending = 0; why = 0 }
 
-  pub packets-turned : t ≡ streamIn s → (n ≡ countIn (getD s 24 0)) × (n ≤ most) → at ≡ getD s 23 0 → (live ≡ countIn (getD s 26 0)) × (live ≤ most) → (made ≡ countIn (getD s 27 0)) × (made ≤ most)
-      → copied ≡ setIn (getD s 29 0) → PacketsRan (stream-bytes m t) (t .size) n (tables e r h c) (record { at = at; live = live; made = made; copied = copied; ending = 0; why = 0 }) left x (tables e r h′ c′)
+  pub packets-turned : t ≡ streamIn s → (n ≡ countIn (getD s 24 0)) × (n ≤ most) → at ≡ getD s 23 0 → HeldIn s k
+      → PacketsRan (stream-bytes m t) (t .size) n (tables e r h c) (record { at = at; held = k; ending = 0; why = 0 }) left x (tables e r h′ c′)
       → LandsPackets s (x .place) m s′ m′ → PacketsTurn s left m (tables e r h c) (x .units) s′ m′ (tables e r h′ c′)
-  packets-turned is-t is-n is-at is-live is-made is-copied ran lands =
+  packets-turned is-t is-n is-at is-held ran lands =
       record {
         turn = λ on.
             record {
@@ -80,17 +89,17 @@ module _ (s s′ m e r h c m′ h′ c′ : List ℕ) (left n at live made : ℕ
                   turned-phase go step playing-goes (play-step (keptIn s e) (stream-bytes m (streamIn s)) (streamIn s .size)) (played (bareIn s r m) (jobIn s) (streamIn s) (keptIn s e))
                   (packets-go (bareIn s r m) on (jobIn s) (streamIn s) (keptIn s e)) (packets-step (bareIn s r m) on (jobIn s) (streamIn s) (keptIn s e)) left
                   (worldIn s e r h c m) (worldIn s′ e r h′ c′ m′) (playingOf from r h c) (packetsOut x r h′ c′)
-                  (pre .1) (goes 0 0 refl) (works-packets s e r h c m (pre .0) ∙ rw (← is-at, ← is-live .0, ← is-made .0, ← is-copied, is-going 0 0 refl)) (rw (is-t, is-n .0) at (ran .run)) (lands .world e r h′ c′);
+                  (pre .1) (goes 0 0 refl) (works-packets s e r h c m (pre .0) ∙ rw (← is-at, ← is-held .held r h c, is-going 0 0 refl)) (rw (is-t, is-n .0) at (ran .run)) (lands .world e r h′ c′);
               side = lands .side;
             };
       }
 
 pub packets-land : (s m e r h c h′ c′ : List ℕ) (left n : ℕ) (t : Stream) (p : PacketsPlace) (x : PacketsRun) → (tagIn s ≡ 2) × (0 < left)
-    → PacketsRan (stream-bytes m t) (t .size) n (tables e r h c) p left x (tables e r h′ c′) → (tagIn s ≡ 2) × (x .place .live ≤ most) × (x .place .made ≤ most)
+    → PacketsRan (stream-bytes m t) (t .size) n (tables e r h c) p left x (tables e r h′ c′) → (tagIn s ≡ 2) × (x .place .held .live ≤ most) × (x .place .held .made ≤ most)
 packets-land s m e r h c h′ c′ left n t p x pre ran = (pre .0, ran .room .live, ran .room .made)
 
-pub packets-room : (x y z n live made : ℕ) → (n ≡ countIn x) × (n ≤ most) → (live ≡ countIn y) × (live ≤ most) → (made ≡ countIn z) × (made ≤ most) → RowsExist n live made
-packets-room x y z n live made a b c = record { entries = a .1; live = b .1; made = c .1 }
+pub packets-room : (s : List ℕ) (n y : ℕ) (k : Held) → (n ≡ countIn y) × (n ≤ most) → HeldIn s k → RowsExist n (k .live) (k .made)
+packets-room s n y k a b = record { entries = a .1; live = b .live; made = b .made }
 
 pub ruleset turning-packets = (packets-turned, packets-land, packets-room, needs)
 

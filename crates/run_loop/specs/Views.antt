@@ -2,18 +2,27 @@
 -- stays the device's.
 use mathlib.Core.Path.{_≡_}
 use mathlib.Core.List.{List}
-use Prim.Native.Nat.{ℕ}
+use Prim.Native.Nat.{ℕ, _≤_}
 use lib.ListN.{getD}
 use Rattle.machine.specs.Within.{Turned}
+use Rattle.rules.specs.Numbers.{most}
 use Rattle.rules.specs.State.{World}
 use Rattle.rules.specs.Steps.{go, step, run-for}
 use Rattle.kept_resources.specs.Views.{Tables, tables}
-use Rattle.run_state.specs.Views.{registersIn, worldIn}
+use Rattle.run_state.specs.Views.{registersIn, heldIn, worldIn}
+use Rattle.packet_apply.specs.Apply.{heldOf}
+use Rattle.packet_apply.specs.declared.apply.Held.{Held}
 use mathlib.Core.Bool.{true}
 
 -- the device in the words and the tables, and the memory beside it
 abbrev pub worldWith : List ℕ → Tables → List ℕ → World
 worldWith s t m = worldIn s (t .entries) (t .resources) (t .own) (t .records) m
+
+-- what the submission in work holds, read from the words, whatever the rows are; its rows are there
+pub record HeldIn (s : List ℕ) (k : Held) : Type 0 where
+  pub held : (r h c : List ℕ) → heldOf k r h c ≡ heldIn s r h c
+  pub live : k .live ≤ most
+  pub made : k .made ≤ most
 
 -- words, tables and memory; the units; and what then stands
 pub record TurnOf (left : ℕ) (s : List ℕ) (t : Tables) (m : List ℕ) (units : ℕ) (s′ : List ℕ) (t′ : Tables) (m′ : List ℕ) : Type 0 where

@@ -3,6 +3,7 @@
 use kept_entries::Entries;
 use kept_records::Records;
 use kept_resources::resources::Resources;
+use packet_apply::apply::Held;
 use rules::Stream;
 use run_after_phase::land_entries;
 use run_after_phase::land_packets;
@@ -23,6 +24,7 @@ use run_state::NOTHING;
 use run_state::PACKETS;
 use run_state::PLACE;
 use run_state::TAG;
+use run_state::TARGET;
 use run_state::Words;
 use run_state::is_set;
 use run_state::rows_in;
@@ -30,13 +32,14 @@ use run_state::stream_in;
 use run_state::table_in;
 use widths::u32_to_usize;
 use widths::word_to_usize;
+use words::low32;
 ghost use mathlib.Core.Path.{_≡_};
 ghost use Prim.Native.Nat.{_<_};
 ghost use Rattle.rules.specs.Stream.{stream-bytes};
 ghost use Rattle.packet_ranges.specs.Views.{RowsExist};
 ghost use Rattle.run_packets.specs.Playing.{PacketsRan};
 ghost use Rattle.run_state.specs.Views.{tagIn};
-ghost use Rattle.run_loop.specs.Views.{EntriesTurn, PacketsTurn, TurnOf, RanFor};
+ghost use Rattle.run_loop.specs.Views.{HeldIn, EntriesTurn, PacketsTurn, TurnOf, RanFor};
 
 // The stream's own part of the memory lent now.
 fn stream_part(mem: &[u8], s: Stream) -> &[u8]
@@ -67,7 +70,7 @@ fn play(
     from: PacketsPlace,
     left: u16,
 ) -> PacketsRun
-    requires { ⌜ RowsExist kept (from .live) (from .made) × (from .ending ≡ 0) ⌝ }
+    requires { ⌜ RowsExist kept (from .held .live) (from .held .made) × (from .ending ≡ 0) ⌝ }
     ensures { λ r. ⌜ PacketsRan (stream-bytes (now (mem .entry)) stream) (stream .size) kept
         (record { entries = now (entries .entry); resources = now (resources .entry); own = now (own .entry); records = now (records .entry) })
         from left r
@@ -102,6 +105,18 @@ fn entries_turn(words: &mut Words, mem: &mut [u8], entries: &mut Entries, left: 
     run.units
 }
 
+// What the submission holds, by the device's words.
+fn held_in(words: &Words) -> Held
+    ensures { λ r. ⌜ HeldIn (now (words .entry)) r ⌝ }
+{
+    Held {
+        live: rows_in(words[HELD]),
+        made: rows_in(words[MADE]),
+        copied: is_set(words[COPIED]),
+        target: low32(words[TARGET]),
+    }
+}
+
 // A turn of the phase of packets: the units it spent.
 fn packets_turn(
     words: &mut Words,
@@ -122,9 +137,7 @@ fn packets_turn(
     let kept = rows_in(words[KEPT]);
     let from = PacketsPlace {
         at: word_to_usize(words[PLACE]),
-        live: rows_in(words[HELD]),
-        made: rows_in(words[MADE]),
-        copied: is_set(words[COPIED]),
+        held: held_in(words),
         ending: GOING,
         why: 0,
     };

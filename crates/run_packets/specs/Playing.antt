@@ -13,7 +13,7 @@ use mir.Val.{Fits}
 use Rattle.machine.specs.Machine.{pick, Out, spent, runFor, loop-start, loop-out}
 use Rattle.rules.specs.Numbers.{most}
 use Rattle.rules.specs.Stream.{frame-of}
-use Rattle.rules.specs.Packets.{Holdings, Outcome, apply, take-packet}
+use Rattle.rules.specs.Packets.{Progress, Passed, apply, target-after, pass, take-packet}
 use Rattle.rules.specs.Steps.{next-place}
 use Rattle.rules.specs.declared.Entry.{Entry}
 use Rattle.rules.specs.declared.Packet.{Packet}
@@ -22,12 +22,12 @@ use Rattle.rules.specs.declared.Refusal.{Refusal}
 use Rattle.rules.specs.declared.Verdict.{Verdict}
 use Rattle.rules.specs.declared.Verdict.the-variants.{Fine, Broken as BrokenRule}
 use Rattle.kept_entries.specs.Views.{entriesOf}
-use Rattle.kept_resources.specs.Views.{holdingsOf, Tables, tables}
-use Rattle.stream_packets.specs.Framing.{FrameFits, frame-sound, packetAt, WasWhole, was-whole, was-misframed, Passed}
+use Rattle.kept_resources.specs.Views.{Tables, tables}
+use Rattle.stream_packets.specs.Framing.{FrameFits, frame-sound, packetAt, WasWhole, was-whole, was-misframed, Passed as PassedOver}
 use Rattle.stream_packets.specs.declared.framing.PacketRead.{PacketRead}
 use Rattle.stream_packets.specs.declared.framing.PacketRead.the-variants.{Whole as WholePacket, Misframed as NoPacket}
 use Rattle.packet_ranges.specs.Views.{RowsExist}
-use Rattle.packet_apply.specs.Apply.{Changes, unknown-applied}
+use Rattle.packet_apply.specs.Apply.{heldOf, Changes, unknown-applied}
 use Rattle.packet_apply.specs.declared.apply.Changed.{Changed}
 use Rattle.run_entries.specs.Ending.{Ending, onward, ending-at, endingOf, is-going, is-done, is-broken, goes, ends, phase-on, phase-left}
 use Rattle.run_entries.specs.Ending.Ending.{Going, Done, Broken}
@@ -37,13 +37,13 @@ use Rattle.run_packets.specs.declared.Skipped.{Skipped}
 
 pub record Playing : Type 0 where
   pub at : ℕ
-  pub held : Holdings
+  pub held : Progress
   pub ending : Ending
 
 abbrev pub playing-goes : Playing → Bool
 playing-goes s = onward (s .ending)
 
-abbrev pub play-on : ℕ → ℕ → ℕ → Holdings → Verdict → Playing
+abbrev pub play-on : ℕ → ℕ → ℕ → Progress → Verdict → Playing
 play-on at next end h Fine = record { at = next; held = h; ending = ending-at next end }
 play-on at next end h (BrokenRule r) = record { at = at; held = h; ending = Broken r }
 
@@ -56,7 +56,7 @@ play-step es b end s =
 
 -- the place, the device's rows, the submission's own rows, its records
 abbrev pub playingOf : PacketsPlace → List ℕ → List ℕ → List ℕ → Playing
-playingOf p r l c = record { at = p .at; held = holdingsOf (p .live) (pick (p .copied) l r) (p .made) c; ending = endingOf (p .ending) (p .why) }
+playingOf p r l c = record { at = p .at; held = heldOf (p .held) r l c; ending = endingOf (p .ending) (p .why) }
 
 -- the same of tables by name
 abbrev pub playing : PacketsPlace → Tables → Playing
@@ -68,33 +68,33 @@ outOf x r l c = record { state = playingOf (x .place) r l c; units = x .units }
 -- the stream's bytes and its end, the entries kept, the tables and the place before; the place and the tables after
 pub record PacketStepped (b : List ℕ) (end n : ℕ) (t : Tables) (p q : PacketsPlace) (t′ : Tables) : Type 0 where
   pub step : playing q t′ ≡ play-step (entriesOf n (t .entries)) b end (playing p t)
-  pub room : RowsExist n (q .live) (q .made)
+  pub room : RowsExist n (q .held .live) (q .held .made)
 
 pub record PacketsRan (b : List ℕ) (end n : ℕ) (t : Tables) (p : PacketsPlace) (allowance : ℕ) (x : PacketsRun) (t′ : Tables) : Type 0 where
   pub run : record { state = playing (x .place) t′; units = x .units }
       ≡ runFor playing-goes (play-step (entriesOf n (t .entries)) b end) allowance (playing p t)
-  pub room : RowsExist n (x .place .live) (x .place .made)
+  pub room : RowsExist n (x .place .held .live) (x .place .held .made)
 
 -- ---- place_after
 
 abbrev pub after-by : ℕ → ℕ → ℕ → Changed → Verdict → PacketsPlace
-after-by at next end x Fine = record { at = next; live = x .live; made = x .made; copied = x .copied; ending = pick (ltb next end) 0 1; why = 0 }
-after-by at next end x (BrokenRule r) = record { at = at; live = x .live; made = x .made; copied = x .copied; ending = 2; why = r .code }
+after-by at next end x Fine = record { at = next; held = x .held; ending = pick (ltb next end) 0 1; why = 0 }
+after-by at next end x (BrokenRule r) = record { at = at; held = x .held; ending = 2; why = r .code }
 
 unfoldable pub placeAfter : ℕ → ℕ → ℕ → Changed → PacketsPlace
 placeAfter at next end x = after-by at next end x (x .verdict)
 
 module _ (at next end : ℕ) (x : Changed) where
   pub after-broken : (r : Refusal) → x .verdict ≡ BrokenRule r
-      → record { at = at; live = x .live; made = x .made; copied = x .copied; ending = 2; why = r .code } ≡ placeAfter at next end x
+      → record { at = at; held = x .held; ending = 2; why = r .code } ≡ placeAfter at next end x
   unfolding placeAfter
   after-broken r e = rw e
 
-  pub after-going : x .verdict ≡ Fine → next < end → record { at = next; live = x .live; made = x .made; copied = x .copied; ending = 0; why = 0 } ≡ placeAfter at next end x
+  pub after-going : x .verdict ≡ Fine → next < end → record { at = next; held = x .held; ending = 0; why = 0 } ≡ placeAfter at next end x
   unfolding placeAfter
   after-going e h = rw (e, lt-ltb _ _ h)
 
-  pub after-done : x .verdict ≡ Fine → end ≤ next → record { at = next; live = x .live; made = x .made; copied = x .copied; ending = 1; why = 0 } ≡ placeAfter at next end x
+  pub after-done : x .verdict ≡ Fine → end ≤ next → record { at = next; held = x .held; ending = 1; why = 0 } ≡ placeAfter at next end x
   unfolding placeAfter
   after-done e h = rw (e, le-ltb _ _ h)
 
@@ -111,8 +111,8 @@ by-end true = is-going 0 0 refl
 by-end false = is-done 1 0 refl
 
 module _ (b : List ℕ) (end n : ℕ) (e : List ℕ) (p : PacketsPlace) (r l c : List ℕ) (f : PacketRead) (read : f ≡ packetAt (drop (p .at) b)) where
-  pub step-misframed : (why : Refusal) → RowsExist n (p .live) (p .made) → f ≡ NoPacket why
-      → PacketStepped b end n (tables e r l c) p (record { at = p .at; live = p .live; made = p .made; copied = p .copied; ending = 2; why = why .code }) (tables e r l c)
+  pub step-misframed : (why : Refusal) → RowsExist n (p .held .live) (p .held .made) → f ≡ NoPacket why
+      → PacketStepped b end n (tables e r l c) p (record { at = p .at; held = p .held; ending = 2; why = why .code }) (tables e r l c)
   unfolding play-step take-packet
   step-misframed why room q =
       let framed : frame-of (drop (p .at) b) ≡ Misframed why = was-misframed (drop (p .at) b) f read why q in
@@ -122,7 +122,7 @@ module _ (b : List ℕ) (end n : ℕ) (e : List ℕ) (p : PacketsPlace) (r l c :
     whole : WasWhole (drop (p .at) b) size k
     whole = was-whole (drop (p .at) b) f read size k q
 
-    taken : (es : List Entry) (h : Holdings) → take-packet es h (drop (p .at) b) ≡ apply es h k
+    taken : (es : List Entry) (h : Progress) → take-packet es h (drop (p .at) b) ≡ pass es h k
     unfolding take-packet
     taken es h = rw (whole .frame, ← whole .says)
 
@@ -132,24 +132,24 @@ module _ (b : List ℕ) (end n : ℕ) (e : List ℕ) (p : PacketsPlace) (r l c :
         record { fits = omega (arith, s .inside, s .header, length-drop (p .at) b) }
 
     module _ (x : Changed) (l′ c′ : List ℕ) where
-      after-verdict : (o : Outcome) (next : ℕ) (v : Verdict) → record { verdict = x .verdict; held = holdingsOf (x .live) (pick (x .copied) l′ r) (x .made) c′ } ≡ o
+      after-verdict : (o : Passed) (next : ℕ) (v : Verdict) → record { verdict = x .verdict; held = heldOf (x .held) r l′ c′ } ≡ o
           → playingOf (after-by (p .at) next end x v) r l′ c′ ≡ play-on (p .at) next end (o .held) v
-      after-verdict o next Fine h = rw (by-end (ltb next end)) (ap (λ (y : Outcome). record { at = next; held = y .held; ending = ending-at next end }) h)
+      after-verdict o next Fine h = rw (by-end (ltb next end)) (ap (λ (y : Passed). record { at = next; held = y .held; ending = ending-at next end }) h)
       after-verdict o next (BrokenRule why) h =
-          rw (is-broken 2 (why .code) (omega arith) (omega arith)) (ap (λ (y : Outcome). record { at = p .at; held = y .held; ending = Broken why }) h)
+          rw (is-broken 2 (why .code) (omega arith) (omega arith)) (ap (λ (y : Passed). record { at = p .at; held = y .held; ending = Broken why }) h)
 
-      after-room : (next : ℕ) (v : Verdict) → n ≤ most → x .live ≤ most → x .made ≤ most → RowsExist n (after-by (p .at) next end x v .live) (after-by (p .at) next end x v .made)
+      after-room : (next : ℕ) (v : Verdict) → n ≤ most → x .held .live ≤ most → x .held .made ≤ most → RowsExist n (after-by (p .at) next end x v .held .live) (after-by (p .at) next end x v .held .made)
       after-room next Fine h i j = record { entries = h; live = i; made = j }
       after-room next (BrokenRule why) h i j = record { entries = h; live = i; made = j }
 
-      pub step-taken : (i : ℕ) (y : PacketsPlace) → RowsExist n (p .live) (p .made) → i ≡ size
-          → Changes (apply (entriesOf n e) (holdingsOf (p .live) (pick (p .copied) l r) (p .made) c) k) r x l′ c′ → y ≡ placeAfter (p .at) (p .at + i) end x → PacketStepped b end n (tables e r l c) p y (tables e r l′ c′)
+      pub step-taken : (i : ℕ) (y : PacketsPlace) → RowsExist n (p .held .live) (p .held .made) → i ≡ size
+          → Changes (pass (entriesOf n e) (heldOf (p .held) r l c) k) r x l′ c′ → y ≡ placeAfter (p .at) (p .at + i) end x → PacketStepped b end n (tables e r l c) p y (tables e r l′ c′)
       unfolding play-step placeAfter
       step-taken i y room same change is =
-          let o : Outcome = apply (entriesOf n e) (holdingsOf (p .live) (pick (p .copied) l r) (p .made) c) k in
-          let verdict : x .verdict ≡ o .verdict = ap (λ (z : Outcome). z .verdict) (change .outcome) in
+          let o : Passed = pass (entriesOf n e) (heldOf (p .held) r l c) k in
+          let verdict : x .verdict ≡ o .verdict = ap (λ (z : Passed). z .verdict) (change .outcome) in
           record {
-            step = ap (λ (z : PacketsPlace). playingOf z r l′ c′) is ∙ (after-verdict o (p .at + i) (x .verdict) (change .outcome) ∙ rw (taken (entriesOf n e) (holdingsOf (p .live) (pick (p .copied) l r) (p .made) c), whole .frame, ← verdict, same));
+            step = ap (λ (z : PacketsPlace). playingOf z r l′ c′) is ∙ (after-verdict o (p .at + i) (x .verdict) (change .outcome) ∙ rw (taken (entriesOf n e) (heldOf (p .held) r l c), whole .frame, ← verdict, same));
             room = rw is (after-room (p .at + i) (x .verdict) (room .entries) (change .live) (change .made));
           }
 
@@ -157,14 +157,14 @@ pub ruleset stepping-packet = (step-misframed, next-fits, step-taken, needs)
 
 -- ---- skip_unknown
 
-abbrev pub playing-at : ℕ → Holdings → Playing
+abbrev pub playing-at : ℕ → Progress → Playing
 playing-at at h = record { at = at; held = h; ending = Going }
 
 -- what was true of a run at the place and the units before is true of it at those after, whatever is held
 pub record Skips (b : List ℕ) (bound at u a : ℕ) (x : Skipped) : Type 0 where
   pub least : u ≤ x .units
   pub room : x .units ≤ a
-  pub run : (es : List Entry) (end : ℕ) (h : Holdings) (o : Out Playing) → bound ≤ end
+  pub run : (es : List Entry) (end : ℕ) (h : Progress) (o : Out Playing) → bound ≤ end
       → o ≡ spent u (runFor playing-goes (play-step es b end) (a - u) (playing-at at h))
       → o ≡ spent (x .units) (runFor playing-goes (play-step es b end) (a - x .units) (playing-at (x .at) h))
 
@@ -172,10 +172,10 @@ module _ (b : List ℕ) (bound at u a : ℕ) where
   pub skips-none : u ≤ a → Skips b bound at u a (record { at = at; units = u })
   skips-none h = record { least = omega arith; room = h; run = λ es end h o le e. e }
 
-  module _ (here room size v : ℕ) (before : Skips b bound at u a (record { at = here; units = v })) (upto : here + room ≡ bound) (passed : Passed b here room size)
+  module _ (here room size v : ℕ) (before : Skips b bound at u a (record { at = here; units = v })) (upto : here + room ≡ bound) (passed : PassedOver b here room size)
       (some : size ≡ 0 → ⊥) where
-    skip-step : (es : List Entry) (end : ℕ) (h : Holdings) → bound ≤ end → playing-at (here + size) h ≡ play-step es b end (playing-at here h)
-    unfolding play-step take-packet apply
+    skip-step : (es : List Entry) (end : ℕ) (h : Progress) → bound ≤ end → playing-at (here + size) h ≡ play-step es b end (playing-at here h)
+    unfolding play-step take-packet pass apply target-after
     skip-step es end h le =
         let below : size < room = passed .within some in
         rw (passed .whole some, ← (passed .nothing some), lt-ltb (here + size) end (omega arith))
@@ -210,7 +210,7 @@ module _ (b : List ℕ) (end n : ℕ) (e : List ℕ) (p₀ : PacketsPlace) (r l�
 
   module _ (u : ℕ) (p : PacketsPlace) (l c : List ℕ)
       (inv : runFor playing-goes (play-step (entriesOf n e) b end) a (playingOf p₀ r l₀ c₀) ≡ spent u (runFor playing-goes (play-step (entriesOf n e) b end) (a - u) (playingOf p r l c))) where
-    pub plays-no-more : a ≤ u → RowsExist n (p .live) (p .made) → PacketsRan b end n (tables e r l₀ c₀) p₀ a (record { place = p; units = u }) (tables e r l c)
+    pub plays-no-more : a ≤ u → RowsExist n (p .held .live) (p .held .made) → PacketsRan b end n (tables e r l₀ c₀) p₀ a (record { place = p; units = u }) (tables e r l c)
     plays-no-more h room = record { run = loop-out playing-goes (play-step (entriesOf n e) b end) a u (playingOf p r l c) _ inv h; room = room }
 
     module _ (more : u < a) (here : p .ending ≡ 0) (q : PacketsPlace) (l′ c′ : List ℕ) (s : PacketStepped b end n (tables e r l c) p q (tables e r l′ c′)) where
@@ -227,11 +227,11 @@ module _ (b : List ℕ) (end n : ℕ) (e : List ℕ) (p₀ : PacketsPlace) (r l�
       -- and over unknown packets after it
       module _ (going : q .ending ≡ 0) (bound : ℕ) (inner : bound ≤ end) (x : Skipped) (skips : Skips b bound (q .at) (u + 1) a x) where
         abbrev moved : PacketsPlace
-        moved = record { at = x .at; live = q .live; made = q .made; copied = q .copied; ending = q .ending; why = q .why }
+        moved = record { at = x .at; held = q .held; ending = q .ending; why = q .why }
 
         pub plays-skipped : runFor playing-goes (play-step (entriesOf n e) b end) a (playingOf p₀ r l₀ c₀) ≡ spent (x .units) (runFor playing-goes (play-step (entriesOf n e) b end) (a - x .units) (playingOf moved r l′ c′))
         plays-skipped =
-            let held : Holdings = holdingsOf (q .live) (pick (q .copied) l′ r) (q .made) c′ in
+            let held : Progress = heldOf (q .held) r l′ c′ in
             let from : _≡_ {A = Playing} (playingOf q r l′ c′) (playing-at (q .at) held) = rw (is-going (q .ending) (q .why) going) in
             let to : _≡_ {A = Playing} (playingOf moved r l′ c′) (playing-at (x .at) held) = rw (is-going (q .ending) (q .why) going) in
             skips .run (entriesOf n e) end held _ inner (plays-on ∙ rw from) ∙ rw to

@@ -3,6 +3,7 @@ use kept_entries::Entries;
 use kept_records::Records;
 use kept_resources::resources::Resources;
 use packet_apply::apply::Changed;
+use packet_apply::apply::Held;
 use packet_apply::apply::apply_packet;
 use rules::Packet;
 use rules::Verdict;
@@ -16,21 +17,17 @@ use widths::u32_to_usize;
 ghost use mathlib.Core.Path.{_≡_};
 ghost use Prim.Native.Nat.{_+_, _-_, _≤_, _^_, _<_};
 ghost use lib.ListN.{length};
-ghost use Rattle.machine.specs.Machine.{pick};
-ghost use Rattle.rules.specs.Packets.{apply};
+ghost use Rattle.rules.specs.Packets.{pass};
 ghost use Rattle.kept_entries.specs.Views.{entriesOf};
-ghost use Rattle.kept_resources.specs.Views.{holdingsOf};
 ghost use Rattle.packet_ranges.specs.Views.{RowsExist};
-ghost use Rattle.packet_apply.specs.Apply.{Changes};
+ghost use Rattle.packet_apply.specs.Apply.{heldOf, Changes};
 ghost use Rattle.run_packets.specs.Playing.{placeAfter, PacketStepped, Skips, PacketsRan};
 
-// Where the packets stand: the place in the stream, how many resources and records are held, whether the resources are in the
-// submission's own table, how the phase stands, and the number of a rule that is broken, 0 otherwise.
+// Where the packets stand: the place in the stream, what is held, how the phase stands, and the number of a rule that is broken, 0
+// otherwise.
 pub struct PacketsPlace {
     pub at: usize,
-    pub live: usize,
-    pub made: usize,
-    pub copied: bool,
+    pub held: Held,
     pub ending: u32,
     pub why: u32,
 }
@@ -46,12 +43,11 @@ fn place_after(at: usize, next: usize, end: usize, x: Changed) -> PacketsPlace
     ensures { λ r. ⌜ r ≡ placeAfter at next end x ⌝ }
 {
     let verdict = x.verdict;
+    let held = x.held;
     match verdict {
         Verdict::Broken(why) => PacketsPlace {
             at,
-            live: x.live,
-            made: x.made,
-            copied: x.copied,
+            held,
             ending: BROKEN,
             why: why.code,
         },
@@ -59,18 +55,14 @@ fn place_after(at: usize, next: usize, end: usize, x: Changed) -> PacketsPlace
             if next < end {
                 return PacketsPlace {
                     at: next,
-                    live: x.live,
-                    made: x.made,
-                    copied: x.copied,
+                    held,
                     ending: GOING,
                     why: 0,
                 };
             }
             PacketsPlace {
                 at: next,
-                live: x.live,
-                made: x.made,
-                copied: x.copied,
+                held,
                 ending: DONE,
                 why: 0,
             }
@@ -92,39 +84,24 @@ fn take_packet(
     resources: &Resources,
     own: &mut Resources,
     records: &mut Records,
-    p: PacketsPlace,
+    h: Held,
     packet: Packet,
 ) -> Taken
-    requires { ⌜ RowsExist kept (p .live) (p .made) ⌝ }
-    ensures { λ x. ⌜ Changes (apply (entriesOf kept (now (entries .entry)))
-        (holdingsOf (p .live) (pick (p .copied) (now (own .entry)) (now (resources .entry))) (p .made) (now (records .entry))) packet)
+    requires { ⌜ RowsExist kept (h .live) (h .made) ⌝ }
+    ensures { λ x. ⌜ Changes (pass (entriesOf kept (now (entries .entry)))
+        (heldOf h (now (resources .entry)) (now (own .entry)) (now (records .entry))) packet)
         (now (resources .entry)) (x .changed) (now (own .exit)) (now (records .exit)) ⌝ }
 {
-    let copied = p.copied;
-    let live = p.live;
-    let made = p.made;
     match packet {
         Packet::Unknown => Taken {
             changed: Changed {
                 verdict: Verdict::Fine,
-                live,
-                made,
-                copied,
+                held: h,
             },
             unknown: true,
         },
         _ => Taken {
-            changed: apply_packet(
-                entries,
-                kept,
-                resources,
-                own,
-                copied,
-                live,
-                records,
-                made,
-                packet,
-            ),
+            changed: apply_packet(entries, kept, resources, own, records, h, packet),
             unknown: false,
         },
     }
@@ -147,27 +124,26 @@ fn step_packet(
     records: &mut Records,
     p: PacketsPlace,
 ) -> Stepped
-    requires { ⌜ RowsExist kept (p .live) (p .made) ⌝ }
+    requires { ⌜ RowsExist kept (p .held .live) (p .held .made) ⌝ }
     ensures { λ r. ⌜ PacketStepped (now (stream .entry)) end kept
         (record { entries = now (entries .entry); resources = now (resources .entry); own = now (own .entry); records = now (records .entry) })
         p (r .place)
         (record { entries = now (entries .entry); resources = now (resources .entry); own = now (own .exit); records = now (records .exit) }) ⌝ }
 {
     let at = p.at;
+    let held = p.held;
     match packet_at(stream, at) {
         PacketRead::Misframed(why) => Stepped {
             place: PacketsPlace {
                 at,
-                live: p.live,
-                made: p.made,
-                copied: p.copied,
+                held,
                 ending: BROKEN,
                 why: why.code,
             },
             unknown: false,
         },
         PacketRead::Whole(size, packet) => {
-            let t = take_packet(entries, kept, resources, own, records, p, packet);
+            let t = take_packet(entries, kept, resources, own, records, held, packet);
             Stepped {
                 place: place_after(at, at + u32_to_usize(size), end, t.changed),
                 unknown: t.unknown,
@@ -234,7 +210,7 @@ pub fn read_packets(
     from: PacketsPlace,
     allowance: u16,
 ) -> PacketsRun
-    requires { ⌜ RowsExist kept (from .live) (from .made) × (from .ending ≡ 0) ⌝ }
+    requires { ⌜ RowsExist kept (from .held .live) (from .held .made) × (from .ending ≡ 0) ⌝ }
     ensures { λ r. ⌜ PacketsRan (now (stream .entry)) end kept
         (record { entries = now (entries .entry); resources = now (resources .entry); own = now (own .entry); records = now (records .entry) })
         from allowance r

@@ -40,5 +40,5 @@ turnedIf side own = pick own (not side) side
 -- settled as good, whatever the rows of both tables are: those that the submission held are the device's, and no word is left of the work
 pub record Accepts (s m s′ m′ : List ℕ) : Type 0 where
   pub world : (e a b c : List ℕ) → deskIn s′ e a b c m′
-      ≡ settled (jobIn s) fine (heldIn s (pick (sideIn s) b a) (pick (sideIn s) a b) c .resources) (bareIn s (pick (sideIn s) b a) m)
+      ≡ settled (jobIn s) fine (heldIn s (pick (sideIn s) b a) (pick (sideIn s) a b) c .holdings .resources) (bareIn s (pick (sideIn s) b a) m)
   pub rests : Rests s′

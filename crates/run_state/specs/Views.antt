@@ -1,7 +1,7 @@
 -- A device's words and tables as the rules' state: word 0 the memory's length, 1 to 12 the registers in the order of `Registers`, 13 the
 -- tag of what is in work, 14 to 23 its numbers, 24 to 27 how many rows of each table are live, 28 which table of resources is the device's,
--- 29 whether the submission has the other for its own, 30 the last error's detail; 31 says nothing. Any words mean some state; those of
--- work are 0 where nothing is in work (`rested`).
+-- 29 whether the submission has the other for its own, 30 the last error's detail, 31 the submission's target. Any words mean some state; those
+-- of work are 0 where nothing is in work (`rested`).
 use mathlib.Core.Path.{_≡_}
 use mathlib.Core.Bool.{Bool, true, false}
 use mathlib.Core.List.{List, [], _∷_}
@@ -10,7 +10,7 @@ use lib.Dec.{eqb, ltb}
 use lib.ListN.{getD, set}
 use Rattle.machine.specs.Machine.{pick}
 use Rattle.rules.specs.Numbers.{most, done}
-use Rattle.rules.specs.Packets.{Holdings}
+use Rattle.rules.specs.Packets.{Progress}
 use Rattle.rules.specs.State.{Work, State, World, registers-of}
 use Rattle.rules.specs.State.Work.{resting, entries, packets, waiting}
 use Rattle.rules.specs.declared.Registers.{Registers}
@@ -21,7 +21,7 @@ use Rattle.rules.specs.declared.Table.{Table}
 use Rattle.rules.specs.declared.Stream.{Stream}
 use Rattle.rules.specs.declared.Opened.{Opened}
 use Rattle.kept_entries.specs.Views.{entriesOf}
-use Rattle.kept_resources.specs.Views.{resourcesOf, holdingsOf}
+use Rattle.kept_resources.specs.Views.{resourcesOf, progressOf}
 
 -- ---- one word
 
@@ -72,9 +72,10 @@ keptIn s e = entriesOf (countIn (getD s 24 0)) e
 abbrev pub resourcesIn : List ℕ → List ℕ → List Resource
 resourcesIn s r = resourcesOf (countIn (getD s 25 0)) r
 
--- what the submission holds: its resources are rows of the device's table until it has its own
-abbrev pub heldIn : List ℕ → List ℕ → List ℕ → List ℕ → Holdings
-heldIn s r h c = holdingsOf (countIn (getD s 26 0)) (pick (setIn (getD s 29 0)) h r) (countIn (getD s 27 0)) c
+-- what the submission holds, and its target: its resources are rows of the device's table until it has its own
+abbrev pub heldIn : List ℕ → List ℕ → List ℕ → List ℕ → Progress
+heldIn s r h c =
+    progressOf (smallIn (getD s 31 0)) (countIn (getD s 26 0)) (pick (setIn (getD s 29 0)) h r) (countIn (getD s 27 0)) c
 
 -- what is in work, by its tag: none 0, entries 1, packets 2; any other waits for the host
 abbrev pub workIn : List ℕ → List ℕ → List ℕ → List ℕ → List ℕ → Work
@@ -104,7 +105,7 @@ bareIn s r m =
 
 -- the words that speak of work
 abbrev pub work-words : List ℕ
-work-words = 13 ∷ 14 ∷ 15 ∷ 16 ∷ 17 ∷ 18 ∷ 19 ∷ 20 ∷ 21 ∷ 22 ∷ 23 ∷ 24 ∷ 26 ∷ 27 ∷ 29 ∷ []
+work-words = 13 ∷ 14 ∷ 15 ∷ 16 ∷ 17 ∷ 18 ∷ 19 ∷ 20 ∷ 21 ∷ 22 ∷ 23 ∷ 24 ∷ 26 ∷ 27 ∷ 29 ∷ 31 ∷ []
 
 abbrev pub zeroed : List ℕ → List ℕ → List ℕ
 zeroed [] s = s

@@ -91,6 +91,9 @@ pub const COPIED: usize = 29;
 // Where the last error broke: it goes with the three words of the error above.
 pub const ERROR_DETAIL: usize = 30;
 
+// The handle of the target that the submission in work has set, 0 while it has none.
+pub const TARGET: usize = 31;
+
 // A flag as a word says it: any word but 0 is set.
 pub fn is_set(word: u64) -> bool
     ensures { λ r. ⌜ r ≡ setIn word ⌝ }
@@ -167,4 +170,5 @@ pub fn rest(words: &mut Words)
     words[HELD] = 0;
     words[MADE] = 0;
     words[COPIED] = 0;
+    words[TARGET] = 0;
 }

@@ -1,20 +1,21 @@
 -- A packet of the stream: what the reader asks for, and what a whole packet is known by. Assumes nothing.
-use mathlib.Core.Path.{_≡_, refl, sym, _∙_}
+use mathlib.Core.Path.{_≡_, refl, sym, ap, _∙_}
 use mathlib.Core.Bool.{Bool, true, false, not, _||_}
 use mathlib.Core.List.{List}
 use Prim.Native.Nat.{ℕ, _+_, _-_, _/_, _%_, _≤_, _<_}
 use native.Mathlib.Omega.{arith}
 use borrow.Author.Needs.{needs}
-use borrow.Author.Tests.{eq-eqb, lt-ltb, le-ltb, ltb-false, eqb-true, not-false}
+use borrow.Author.Tests.{eq-eqb, ne-eqb, lt-ltb, le-ltb, ltb-false, eqb-true, not-false}
 use lib.Dec.{ltb, eqb}
 use lib.ListN.{length, take, drop, length-drop}
 use lib.Seq.{drop-drop, length-take-le}
-use Rattle.stream_packets.specs.Fields.{reading, known-none, says-nothing, part-short, part-says}
+use Rattle.stream_fields.specs.Fields.{reading, none-known, known-none, says-nothing, part-short, part-says}
 use Rattle.rules.specs.Numbers.{bad-packet}
 use Rattle.rule_laws.specs.Fine.{all-kept}
 use Rattle.rules.specs.Judging.{refusal, rule, _▹_}
 use Rattle.rules.specs.Layouts.{word, packet-header-size}
-use Rattle.rules.specs.Stream.{least-size, frame-rules, framed, frame-of, packet-of}
+use Rattle.rules.specs.Lists.Found.{none}
+use Rattle.rules.specs.Stream.{known, least-size, frame-rules, framed, frame-of, packet-of}
 use Rattle.rules.specs.declared.Refusal.{Refusal}
 use Rattle.rules.specs.declared.Verdict.{Verdict}
 use Rattle.rules.specs.declared.Verdict.the-variants.{Fine, Broken}
@@ -22,8 +23,8 @@ use Rattle.rules.specs.declared.Packet.{Packet}
 use Rattle.rules.specs.declared.Packet.the-variants.{Unknown}
 use Rattle.rules.specs.declared.Frame.{Frame}
 use Rattle.rules.specs.declared.Frame.the-variants.{Whole, Misframed}
-use Rattle.stream_packets.specs.declared.fields.Reading.{Reading}
-use Rattle.stream_packets.specs.declared.fields.Reading.the-variants.{TooShort, Says}
+use Rattle.stream_fields.specs.declared.fields.Reading.{Reading}
+use Rattle.stream_fields.specs.declared.fields.Reading.the-variants.{TooShort, Says}
 use Rattle.stream_packets.specs.declared.framing.PacketRead.{PacketRead}
 use Rattle.stream_packets.specs.declared.framing.PacketRead.the-variants.{Whole as WholePacket, Misframed as NoPacket}
 
@@ -229,6 +230,35 @@ module _ (b : List ℕ) where
   unfolding packetAt
   was-misframed x is r e = by-bad (frame-of b) r (sym is ∙ e)
 
+-- ---- may_be_known
+
+-- one of the three blocks of eight that have all opcodes that we know
+unfoldable pub in-blocks : ℕ → Bool
+in-blocks op = eqb (op / 8) 32 || (eqb (op / 8) 128 || eqb (op / 8) 192)
+
+module _ (op : ℕ) where
+  pub before-all : op < 256 → false ≡ in-blocks op
+  unfolding in-blocks
+  before-all h = rw (ne-eqb (op / 8) 32 (λ e. omega arith), ne-eqb (op / 8) 128 (λ e. omega arith), ne-eqb (op / 8) 192 (λ e. omega arith))
+
+  pub behind-all : 1544 ≤ op → false ≡ in-blocks op
+  unfolding in-blocks
+  behind-all h = rw (ne-eqb (op / 8) 32 (λ e. omega arith), ne-eqb (op / 8) 128 (λ e. omega arith), ne-eqb (op / 8) 192 (λ e. omega arith))
+
+  pub in-first : op / 8 ≡ 32 → true ≡ in-blocks op
+  unfolding in-blocks
+  in-first e = rw (eq-eqb (op / 8) 32 e)
+
+  pub in-second : (op / 8 ≡ 32 → ⊥) → op / 8 ≡ 128 → true ≡ in-blocks op
+  unfolding in-blocks
+  in-second n e = rw (ne-eqb (op / 8) 32 n, eq-eqb (op / 8) 128 e)
+
+  pub in-third : (op / 8 ≡ 32 → ⊥) → (op / 8 ≡ 128 → ⊥) → eqb (op / 8) 192 ≡ in-blocks op
+  unfolding in-blocks
+  in-third n k = rw (ne-eqb (op / 8) 32 n, ne-eqb (op / 8) 128 k)
+
+pub ruleset finding-block = (before-all, behind-all, in-first, in-second, in-third, needs)
+
 -- ---- unknown_size
 
 -- a size that is not 0 is of a whole packet of an unknown opcode, smaller than the room
@@ -241,20 +271,27 @@ module _ (b : List ℕ) (at room : ℕ) where
   pub passes-none : Passed b at room 0
   passes-none = record { whole = λ n. absurd (n refl); nothing = λ n. absurd (n refl); within = λ n. absurd (n refl) }
 
-  module _ (some : 0 < room) (inside : at + room ≤ length b - 7) (op size long : ℕ) (po : op ≡ word b at) (other : op / 8 ≡ 32 → ⊥) (ps : size ≡ word b (at + 4))
+  module _ (some : 0 < room) (inside : at + room ≤ length b - 7) (op size long : ℕ) (po : op ≡ word b at) (may : Bool) (tells : may ≡ in-blocks op) (other : may ≡ false) (ps : size ≡ word b (at + 4))
       (same : long ≡ size) (below : long < room) (head : packet-header-size ≤ long) (fours : size % 4 ≡ 0) where
-    not-that : (k : ℕ) → k / 8 ≡ 32 → op ≡ k → ⊥
-    not-that k h e = other (rw e h)
+    not-that : (k : ℕ) → in-blocks k ≡ true → op ≡ k → ⊥
+    not-that k h e =
+        let z : _≡_ {A = Bool} true false = sym h ∙ (ap in-blocks (sym e) ∙ (sym tells ∙ other)) in
+        let y : _≡_ {A = ℕ} 0 1 = cc in omega arith
+
+    none-of : (f : (k : ℕ) → in-blocks k ≡ true → op ≡ k → ⊥) → known op ≡ none
+    unfolding in-blocks
+    none-of f = none-known op (f _ refl) (f _ refl) (f _ refl) (f _ refl) (f _ refl) (f _ refl) (f _ refl) (f _ refl) (f _ refl)
 
     pub passes : Passed b at room long
     unfolding misframed
     passes =
-        let none : 0 ≡ least-size op = known-none op (not-that _ refl) (not-that _ refl) (not-that _ refl) (not-that _ refl) (not-that _ refl) in
+        let unknown : known op ≡ none = none-of not-that in
+        let no-least : 0 ≡ least-size op = known-none op unknown in
         let fits : misframed (length b - at) size ≡ false = rw (le-ltb (length b - at) size (omega arith), le-ltb size packet-header-size (omega arith), eq-eqb (size % 4) 0 fours) in
         let is : frame-of (drop at b) ≡ framed (rule bad-packet (ltb size (least-size op))) op size = frame-read b at op size (omega arith) po ps ∙ frame-rest (length b - at) op size fits in
         record {
-          whole = λ _. is ∙ rw (← none, le-ltb size 0 (omega arith), po, same);
-          nothing = λ _. rw (← po) (says-nothing op (not-that _ refl) (not-that _ refl) (not-that _ refl) (not-that _ refl) (not-that _ refl) (take long (drop at b)));
+          whole = λ _. is ∙ rw (← no-least, le-ltb size 0 (omega arith), po, same);
+          nothing = λ _. rw (← po) (says-nothing op unknown (take long (drop at b)));
           within = λ _. below;
         }
 

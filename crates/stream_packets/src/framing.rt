@@ -3,19 +3,21 @@
 ghost use mathlib.Core.Path.{_≡_};
 ghost use Prim.Native.Nat.{_+_, _-_, _≤_, _<_};
 ghost use lib.ListN.{length, take, drop};
-ghost use Rattle.stream_packets.specs.Framing.{misframed, packetAt, Passed};
-use crate::fields::Reading;
-use crate::fields::read_part;
+ghost use Rattle.stream_packets.specs.Framing.{misframed, in-blocks, packetAt, Passed};
 use rules::Packet;
 use rules::Refusal;
 use rules::numbers::BAD_PACKET;
+use rules::numbers::CLEAR;
 use rules::numbers::CREATE_BUFFER;
+use rules::numbers::SET_TARGET;
+use stream_fields::fields::Reading;
+use stream_fields::fields::read_part;
 use widths::u32_to_usize;
 use words::u32_at;
 
 const PACKET_HEADER_SIZE: usize = rules::numbers::PACKET_HEADER_SIZE as usize;
 
-// All opcodes that we know stand in one block of so many.
+// The opcodes that we know stand in blocks of so many: resources', state's and the clear's.
 const OPCODES_BLOCK: u32 = 8;
 
 // A packet of the stream: its size and what it says; or that no packet stands there.
@@ -38,15 +40,35 @@ fn misframed(left: usize, size: u32) -> bool
     size % 4 != 0 // sizes are multiples of 4
 }
 
+// Whether an opcode stands in one of the blocks that have all that we know. Most that we do not know lie before or behind all of them.
+fn may_be_known(op: u32) -> bool
+    ensures { λ r. ⌜ r ≡ in-blocks op ⌝ }
+{
+    if op < CREATE_BUFFER {
+        return false;
+    }
+    if op >= CLEAR + OPCODES_BLOCK {
+        return false;
+    }
+    let block = op / OPCODES_BLOCK;
+    if block == CREATE_BUFFER / OPCODES_BLOCK {
+        return true;
+    }
+    if block == SET_TARGET / OPCODES_BLOCK {
+        return true;
+    }
+    block == CLEAR / OPCODES_BLOCK
+}
+
 // The size of a packet that is framed, is none that we know and is smaller than the room; 0 of any other, and of those whose opcode
-// is among the eight that have all that we know. For a loop that goes over such packets: the header is known to be there, and one
+// is in a block with some that we know. For a loop that goes over such packets: the header is known to be there, and one
 // test of the size is enough for this packet and for the header of the next.
 pub fn unknown_size(stream: &[u8], at: usize, room: usize) -> usize
     requires { ⌜ (0 < room) × (at + room ≤ length (now stream) - 7) ⌝ }
     ensures { λ r. ⌜ Passed (now (stream .entry)) at room r ⌝ }
 {
     let op = u32_at(stream, at);
-    if op / OPCODES_BLOCK == CREATE_BUFFER / OPCODES_BLOCK {
+    if may_be_known(op) {
         return 0;
     }
     let size = u32_at(stream, at + 4);

@@ -1,3 +1,2 @@
 // The command stream, one packet at a time: where each ends, and the reading of it.
-pub mod fields;
 pub mod framing;

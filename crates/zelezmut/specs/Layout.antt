@@ -5,7 +5,7 @@ use borrow.Author.Needs.{needs}
 
 -- moves with every landing that gives a word or a row another meaning, or another number to one of the four below
 abbrev pub layout-version : ℕ
-layout-version = 1
+layout-version = 2
 
 -- words of a device's numbers
 abbrev pub number-words : ℕ
@@ -25,7 +25,7 @@ record-words = 320
 unfoldable pub layout-number : ℕ
 layout-number = layout-version * 2 ^ 48 + number-words * 2 ^ 36 + entry-words * 2 ^ 24 + resource-words * 2 ^ 12 + record-words
 
-pub layout-is : 283678297817408 ≡ layout-number
+pub layout-is : 565153274528064 ≡ layout-number
 unfolding layout-number
 layout-is = refl
 

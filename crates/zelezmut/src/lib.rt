@@ -7,8 +7,8 @@ ghost use Rattle.rules.specs.Shapes.{packed-size};
 ghost use Rattle.rules.specs.Table.{table-error, table-place};
 ghost use Rattle.zelezmut.specs.Layout.{layout-number};
 
-// The layout: version 1, of 32 words of numbers, 256 of entries, 704 of each table of resources and 320 of records.
-const LAYOUT: u64 = 283678297817408;
+// The layout: version 2, of 32 words of numbers, 256 of entries, 704 of each table of resources and 320 of records.
+const LAYOUT: u64 = 565153274528064;
 
 // For a host, before its first call: what the words and rows that it lends mean and how many there are, in one number. From the lowest digit
 // up, each of 4,096: words of records, of one table of resources, of entries, of numbers; above these the version, which moves with what they mean.

@@ -2,8 +2,8 @@
 
 use crate::draft::Resource;
 use crate::event::Event;
+use crate::expected::Expected;
 use crate::random::Random;
-use crate::target::Target;
 use crate::world::World;
 use zelezmut::registers::{
     CONTROL, CONTROL_ENABLE, CONTROL_RESET, DOORBELL, FENCE_GPA_HI, FENCE_GPA_LO, RING_GPA_HI,
@@ -31,7 +31,7 @@ pub(crate) struct Author {
     /// How often, of a hundred times, something happens between two slices.
     pub(crate) restless: u64,
     pub(crate) operations: Vec<Operation>,
-    pub(crate) targets: Vec<Target>,
+    pub(crate) expected: Vec<Expected>,
     pub(crate) events: Vec<Event>,
 }
 
@@ -49,7 +49,7 @@ impl Author {
             sure: true,
             restless,
             operations: Vec::new(),
-            targets: Vec::new(),
+            expected: Vec::new(),
             events: Vec::new(),
             random,
         }

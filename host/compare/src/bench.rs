@@ -187,12 +187,15 @@ impl<F: Host> Bench<F> {
 #[cfg(test)]
 mod tests {
     use super::Bench;
-    use crate::cases::PUBLISHED;
+    use crate::cases::{Case, PUBLISHED};
 
     #[test]
     fn the_inputs_are_as_long_as_they_are_said_to_be() {
         let units = PUBLISHED.map(|published| Bench::<plain::Desk>::new(published.case).units);
-        let said = [7_677, 1_919 + 1, 2 * 1_096, 1_279 + 1, 64].map(|steps| steps + 1);
+        let said = [7_677, 3_838, 1_919 + 1, 2 * 1_096, 1_279 + 1, 64].map(|steps| steps + 1);
         assert_eq!(units, said);
+        let state = [Case::Viewport, Case::Clear, Case::Scissor];
+        let units = state.map(|case| Bench::<plain::Desk>::new(case).units);
+        assert_eq!(units, [1_919, 1_706, 65].map(|steps| steps + 1));
     }
 }

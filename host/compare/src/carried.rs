@@ -60,7 +60,7 @@ pub fn seen(operation: &Operation, said: &Said, before: Errors, after: Errors) -
             [Some(ended(ran)), units(answer, ran)]
                 .into_iter()
                 .flatten()
-                .chain(in_the_run.then(|| Carried::ErrorInTheRun))
+                .chain(in_the_run.then_some(Carried::ErrorInTheRun))
                 .collect()
         }
         (_, 0) => Vec::new(),

@@ -2,7 +2,7 @@
 
 use crate::image::Entry;
 use crate::numbers::{MOST_ENTRIES, MOST_LAYERS, MOST_RECORDS, MOST_RESOURCES, WRITEBACK};
-use crate::packet::{self, Backing, Copying};
+use crate::packet::{self, Backing, Clear, Copying, Scissor, Viewport};
 use crate::random::Random;
 use crate::shape::Shape;
 
@@ -34,6 +34,26 @@ pub fn texture(mips: u32, layers: u32) -> Shape {
     }
 }
 
+/// The smallest viewport and clear that pass every rule at its edge: -0 is as good as 0, and a denormal side is above it.
+const VIEWPORT: Viewport = [0, 0, 1, 1, 0x8000_0000, 0x3f80_0000];
+const CLEAR: Clear = Clear {
+    flags: 7,
+    colour: [0x3f80_0000; 4],
+    depth: 0x3f80_0000,
+    stencil: 0,
+};
+
+/// What it leaves is cut at two edges of the target.
+const SCISSOR: Scissor = Scissor {
+    x: -8,
+    y: 0,
+    width: 24,
+    height: 100,
+};
+
+const SCISSORS: &str =
+    "a target, host-backed, and 64 scissors that are cut at two of its edges (as many records as there may be); no table";
+
 /// The units of a slice.
 pub const SLICE: u16 = 16;
 
@@ -42,7 +62,9 @@ pub enum Case {
     /// Packets of an unknown opcode, as many as fit.
     Unknown,
     /// One packet of an unknown opcode, beside host-backed buffers.
-    OneUnknown { live: usize },
+    OneUnknown {
+        live: usize,
+    },
     /// Dirty ranges of size 0 of the backed buffer in this row; the entry behind it is the table's last.
     Dirty {
         live: usize,
@@ -50,15 +72,37 @@ pub enum Case {
         entries: usize,
     },
     /// Dirty ranges of size 0 of a backed texture that lives alone.
-    DirtyTexture { mips: u32 },
+    DirtyTexture {
+        mips: u32,
+    },
     /// A host-backed buffer is created and destroyed again, beside others.
-    Create { live: usize },
+    Create {
+        live: usize,
+    },
     /// A backed texture of 15 mips is created and destroyed again, as often as there may be records.
-    CreateTexture { layers: u32 },
+    CreateTexture {
+        layers: u32,
+    },
     /// Copies with writeback between the backed buffers in two rows.
-    Copy { live: usize, from: usize, to: usize },
+    Copy {
+        live: usize,
+        from: usize,
+        to: usize,
+    },
+    /// The texture in this row becomes the target, again and again, beside others.
+    Target {
+        live: usize,
+        row: usize,
+    },
+    /// Viewports, and clears, that pass.
+    Viewport,
+    Clear,
+    /// A target and scissors, as many as there may be records.
+    Scissor,
     /// A table and no stream.
-    Table { entries: usize },
+    Table {
+        entries: usize,
+    },
 }
 
 /// A published case: what command lines and what readers call it.
@@ -69,11 +113,16 @@ pub struct Published {
     pub case: Case,
 }
 
-pub const PUBLISHED: [Published; 5] = [
+pub const PUBLISHED: [Published; 6] = [
     Published {
         key: "unknown",
         title: "unknown packets of 8 bytes",
         case: Case::Unknown,
+    },
+    Published {
+        key: "target",
+        title: "targets of 16 bytes, 1 live",
+        case: Case::Target { live: 1, row: 0 },
     },
     Published {
         key: "dirty",
@@ -142,6 +191,13 @@ impl Case {
                  there may be), the rest of size 0; a table of one entry",
                 from, to, live
             ),
+            Case::Target { live, row } => format!(
+                "3,838 target packets, 16 bytes each, all of the texture in row {} of {} host-backed ones; no table",
+                row, live
+            ),
+            Case::Viewport => "1,919 viewports that pass; no table".to_string(),
+            Case::Clear => "1,706 clears that pass; no table".to_string(),
+            Case::Scissor => SCISSORS.to_string(),
             Case::Table { entries } => format!("a table of {}, no stream", counted(entries, "entry", "entries")),
         }
     }
@@ -164,11 +220,13 @@ impl Case {
     pub fn live(self) -> usize {
         match self {
             Case::Unknown | Case::Table { .. } | Case::CreateTexture { .. } => 0,
-            Case::DirtyTexture { .. } => 1,
+            Case::Viewport | Case::Clear => 0,
+            Case::DirtyTexture { .. } | Case::Scissor => 1,
             Case::OneUnknown { live }
             | Case::Dirty { live, .. }
             | Case::Create { live }
-            | Case::Copy { live, .. } => live,
+            | Case::Copy { live, .. }
+            | Case::Target { live, .. } => live,
         }
     }
 
@@ -182,6 +240,9 @@ impl Case {
             Case::CreateTexture { layers } => {
                 packet::create_texture(random, handle, texture(LONGEST_CHAIN, layers), backing)
             }
+            Case::Target { .. } | Case::Scissor => {
+                packet::create_texture(random, handle, texture(1, 1), backing)
+            }
             _ => packet::create_buffer(random, handle, BUFFER, backing),
         }
     }
@@ -189,6 +250,7 @@ impl Case {
     fn backing(self) -> Backing {
         let id = match self {
             Case::OneUnknown { .. } | Case::Create { .. } => 0,
+            Case::Target { .. } | Case::Scissor => 0,
             Case::Dirty { entries, .. } => entry_id(entries - 1),
             _ => entry_id(0),
         };
@@ -198,6 +260,7 @@ impl Case {
     pub fn entries(self) -> Vec<Entry> {
         let count = match self {
             Case::Unknown | Case::OneUnknown { .. } | Case::Create { .. } => 0,
+            Case::Target { .. } | Case::Viewport | Case::Clear | Case::Scissor => 0,
             Case::Copy { .. } | Case::DirtyTexture { .. } | Case::CreateTexture { .. } => 1,
             Case::Dirty { entries, .. } | Case::Table { entries } => entries,
         };
@@ -232,18 +295,13 @@ impl Case {
             Case::CreateTexture { .. } if i >= 2 * MOST_RECORDS => None,
             Case::CreateTexture { .. } if i % 2 == 0 => Some(self.created(random, 0)),
             Case::CreateTexture { .. } => Some(packet::destroy(random, handle_of_row(0))),
-            Case::Copy { from, to, .. } => {
-                let size = if i < MOST_RECORDS { 16 } else { 0 };
-                let copying = Copying {
-                    to: handle_of_row(to),
-                    from: handle_of_row(from),
-                    to_offset: 0,
-                    from_offset: 0,
-                    size,
-                    flags: WRITEBACK,
-                };
-                Some(packet::copy(random, copying))
-            }
+            Case::Copy { from, to, .. } => Some(copy(random, i, from, to)),
+            Case::Target { row, .. } => Some(packet::target(random, handle_of_row(row))),
+            Case::Viewport => Some(packet::viewport(random, VIEWPORT)),
+            Case::Clear => Some(packet::clear(random, CLEAR)),
+            Case::Scissor if i == 0 => Some(packet::target(random, handle_of_row(0))),
+            Case::Scissor if i > MOST_RECORDS => None,
+            Case::Scissor => Some(packet::scissor(random, SCISSOR)),
             Case::Table { .. } => None,
         }
     }
@@ -255,6 +313,19 @@ impl Case {
             _ => 1,
         }
     }
+}
+
+/// The first copies make a record each, as many as there may be.
+fn copy(random: &mut Random, i: usize, from: usize, to: usize) -> Vec<u8> {
+    let copying = Copying {
+        to: handle_of_row(to),
+        from: handle_of_row(from),
+        to_offset: 0,
+        from_offset: 0,
+        size: if i < MOST_RECORDS { 16 } else { 0 },
+        flags: WRITEBACK,
+    };
+    packet::copy(random, copying)
 }
 
 fn counted(count: usize, one: &str, more: &str) -> String {

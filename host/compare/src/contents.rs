@@ -22,15 +22,15 @@ impl Twisted {
     pub fn random(random: &mut Random) -> Twisted {
         let mut twisted = Twisted::default();
         let times = match random.within(0..=99) {
-            0..=44 => 0,
-            45..=87 => 1,
+            0..=39 => 0,
+            40..=86 => 1,
             _ => 2,
         };
         for _ in 0..times {
-            match random.within(0..=19) {
+            match random.within(0..=21) {
                 0..=2 => twisted.entries = true,
-                3..=13 => twisted.packets = true,
-                14..=17 => twisted.frame += 1,
+                3..=15 => twisted.packets = true,
+                16..=19 => twisted.frame += 1,
                 _ => twisted.muddle = true,
             }
         }
@@ -120,16 +120,19 @@ fn add_unknown(draft: &mut Draft, count: u64) {
 fn packet_twist(draft: &mut Draft, scale: Scale) -> Option<Aim> {
     (0..8).find_map(|_| {
         let first = draft.packets.is_empty();
-        let twists: &[PacketTwist] = match draft.random.within(0..=22) {
+        let twists: &[PacketTwist] = match draft.random.within(0..=37) {
             0..=7 if scale == Scale::Full => limits::TWISTS,
             0..=3 => twists::framing::TWISTS,
             4..=7 => twists::create::TWISTS,
             8..=10 => twists::shapes::TWISTS,
             11..=13 if first => twists::dirty::FIRST_TWISTS,
             11..=14 => twists::dirty::TWISTS,
-            15..=17 if first => twists::copy::FIRST_TWISTS,
+            15..=18 if first => twists::copy::FIRST_TWISTS,
             15..=19 => twists::copy::TWISTS,
-            _ => twists::grown::TWISTS,
+            20..=24 => twists::grown::TWISTS,
+            25..=31 => twists::floats::TWISTS,
+            32..=34 => twists::scissor::TWISTS,
+            _ => twists::target::TWISTS,
         };
         let twist = draft.random.pick(twists);
         if draft.has_room(6 * 56) {

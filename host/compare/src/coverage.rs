@@ -3,11 +3,12 @@
 use crate::carried::{self, Carried, CARRIED};
 use crate::detail::{self, Detail, Errors, DETAILS};
 use crate::event::{Event, EVENTS};
-use crate::front::{Ended, Front, Ran};
+use crate::expected::Expected;
+use crate::floats::{Edge, EDGES};
+use crate::front::{Ended, Front, Ran, Record};
 use crate::generator::Drawn;
-use crate::numbers::error::{HOST_FAILED, RING};
+use crate::numbers::error::{HOST_FAILED, RING, STATE};
 use crate::player::{Said, Seat};
-use crate::target::Target;
 use crate::twists::{Aim, Outcome};
 use std::collections::{BTreeMap, BTreeSet};
 use std::fmt;
@@ -29,10 +30,38 @@ pub enum Met {
     Carried(Carried),
     /// A record of this kind, of a submission that came to wait.
     Record(u32),
+    /// What a scissor left of its target, in such a record.
+    Clip(Clip),
+    /// A float of a viewport or clear that came to what was aimed at.
+    Float(&'static str),
     /// The IRQ status after an operation.
     Status(u32),
     Event(Event),
 }
+
+/// What is left of a scissor.
+#[derive(Clone, Copy, Debug, PartialEq, Eq, PartialOrd, Ord)]
+pub enum Clip {
+    Empty,
+    /// It begins in the target's first column and row, or in a later one.
+    FromTheCorner,
+    FromWithin,
+}
+
+impl Clip {
+    fn of(record: &Record) -> Clip {
+        match (record.handle, record.id, record.gpa, record.length) {
+            (0, 0, 0, 0) => Clip::Empty,
+            (0, 0, _, _) => Clip::FromTheCorner,
+            _ => Clip::FromWithin,
+        }
+    }
+}
+
+const CLIPS: [Clip; 3] = [Clip::Empty, Clip::FromTheCorner, Clip::FromWithin];
+
+/// The kind of a clipped scissor's record.
+const CLIPPED: u32 = 4;
 
 /// The call answers that there are.
 const ANSWERS: [(&str, u32); 11] = [
@@ -56,14 +85,16 @@ const PAUSED: &str = "paused";
 impl Met {
     /// All that there is to meet.
     fn all() -> impl Iterator<Item = Met> {
-        let errors = (RING..=HOST_FAILED).map(Met::Error);
+        let errors = (RING..=HOST_FAILED).chain([STATE]).map(Met::Error);
         let details = DETAILS.iter().copied().map(Met::Detail);
         let answers = ANSWERS
             .iter()
             .map(|&(call, answer)| Met::Answer(call, answer));
         let endings = [IDLE, WAITING, PAUSED].map(Met::Ended);
         let carried = CARRIED.iter().copied().map(Met::Carried);
-        let records = (1..=3).map(Met::Record);
+        let records = (1..=CLIPPED).map(Met::Record);
+        let clips = CLIPS.iter().copied().map(Met::Clip);
+        let floats = EDGES.iter().map(|Edge { name, .. }| Met::Float(name));
         let statuses = (0..=3).map(Met::Status);
         let events = EVENTS.iter().copied().map(Met::Event);
         errors
@@ -72,6 +103,8 @@ impl Met {
             .chain(endings)
             .chain(carried)
             .chain(records)
+            .chain(clips)
+            .chain(floats)
             .chain(statuses)
             .chain(events)
     }
@@ -84,6 +117,8 @@ impl Met {
             Met::Ended(_) => "ending",
             Met::Carried(_) => "carried",
             Met::Record(_) => "record",
+            Met::Clip(_) => "clip",
+            Met::Float(_) => "float",
             Met::Status(_) => "status",
             Met::Event(_) => "event",
         }
@@ -96,6 +131,8 @@ impl Met {
             Met::Answer(call, answer) => format!("{} {}", call, answer),
             Met::Ended(ended) => ended.to_string(),
             Met::Carried(carried) => format!("{:?}", carried),
+            Met::Clip(clip) => format!("{:?}", clip),
+            Met::Float(name) => name.to_string(),
             Met::Event(event) => format!("{:?}", event),
         }
     }
@@ -202,6 +239,9 @@ impl Coverage {
         let mut records = 0;
         while let (0, record) = seat.front.record(records) {
             self.count(Met::Record(record.kind));
+            if record.kind == CLIPPED {
+                self.count(Met::Clip(Clip::of(&record)));
+            }
             records += 1;
         }
         self.most_records = self.most_records.max(records);
@@ -226,13 +266,24 @@ impl Coverage {
         for event in &drawn.events {
             self.count(Met::Event(*event));
         }
-        for Target { aim, head } in &drawn.targets {
-            let aimed = self.aims.entry(*aim).or_default();
-            aimed.times += 1;
-            aimed.met += u64::from(match aim.outcome {
+        for Expected { aim, head } in &drawn.expected {
+            let met = match aim.outcome {
                 Outcome::Kept => watch.waited.contains(head),
                 Outcome::Broken(error) => watch.errors.contains(&error),
-            });
+            };
+            // One count for the rule, whatever the float, and one for the float, whatever the rule.
+            let aimed = self
+                .aims
+                .entry(Aim {
+                    float: None,
+                    ..*aim
+                })
+                .or_default();
+            aimed.times += 1;
+            aimed.met += u64::from(met);
+            if let Some(name) = aim.float.filter(|_| met) {
+                self.count(Met::Float(name));
+            }
         }
     }
 

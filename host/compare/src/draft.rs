@@ -1,9 +1,9 @@
-//! A submission being written: its table's entries, its packets, and what the guest believes of its resources meanwhile.
+//! A submission being written: its table's entries, its packets, and what the guest believes of its resources and target meanwhile.
 //! Packets put in here are believed to pass; one that is to be refused is put in last, and the belief thrown away.
 
 use crate::image::{blank, put32, Entry};
 use crate::numbers::{READ_ONLY, WRITEBACK};
-use crate::packet::{self, Backing, Copying};
+use crate::packet::{self, Backing, Clear, Copying, Scissor, Viewport};
 use crate::random::Random;
 use crate::shape::Shape;
 
@@ -14,6 +14,9 @@ const GROWN: u64 = 12;
 pub struct Resource {
     pub handle: u32,
     pub texture: bool,
+    /// A texture's sides, in pixels of its first mip.
+    pub width: u32,
+    pub height: u32,
     /// Of a backed one; a host-backed texture's are never asked for and stand as 0.
     pub bytes: u64,
     pub backing: Backing,
@@ -33,6 +36,7 @@ pub struct Draft<'a> {
     pub room: usize,
     pub live: Vec<Resource>,
     pub entries: Vec<Entry>,
+    pub target: Option<Resource>,
     pub records: usize,
     pub packets: Vec<Vec<u8>>,
     /// The packets' bytes.
@@ -160,6 +164,8 @@ impl Draft<'_> {
         self.created(Resource {
             handle,
             texture: false,
+            width: 0,
+            height: 0,
             bytes: size,
             backing,
         });
@@ -172,6 +178,8 @@ impl Draft<'_> {
         self.created(Resource {
             handle,
             texture: true,
+            width: shape.width,
+            height: shape.height,
             bytes,
             backing,
         });
@@ -190,6 +198,7 @@ impl Draft<'_> {
         let packet = packet::destroy(self.random, handle);
         self.push_known(packet);
         self.live.retain(|resource| resource.handle != handle);
+        self.target = self.target.filter(|target| target.handle != handle);
     }
 
     pub fn dirty(&mut self, handle: u32, offset: u64, size: u64) {
@@ -202,6 +211,30 @@ impl Draft<'_> {
         let packet = packet::copy(self.random, copying);
         self.push_known(packet);
         self.records += usize::from(copying.flags & WRITEBACK != 0 && copying.size > 0);
+    }
+
+    /// Any handle at all; only a live texture's becomes the target.
+    pub fn set_target(&mut self, handle: u32) {
+        let packet = packet::target(self.random, handle);
+        self.push_known(packet);
+        let named = self.live.iter().find(|live| live.handle == handle);
+        self.target = named.copied().filter(|named| named.texture);
+    }
+
+    pub fn viewport(&mut self, viewport: Viewport) {
+        let packet = packet::viewport(self.random, viewport);
+        self.push_known(packet);
+    }
+
+    pub fn scissor(&mut self, scissor: Scissor) {
+        let packet = packet::scissor(self.random, scissor);
+        self.push_known(packet);
+        self.records += 1;
+    }
+
+    pub fn clear(&mut self, clear: Clear) {
+        let packet = packet::clear(self.random, clear);
+        self.push_known(packet);
     }
 
     pub fn writable(&self, resource: &Resource) -> bool {

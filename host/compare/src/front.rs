@@ -174,11 +174,12 @@ fn ended(ended: zelezmut::Ended) -> Ended {
 }
 
 fn record_in_numbers(record: zelezmut::Record) -> Record {
+    let [kind, handle, id, gpa, length] = record.numbers();
     Record {
-        kind: record.kind.number(),
-        handle: record.handle,
-        id: record.id,
-        gpa: record.gpa,
-        length: record.length,
+        kind: kind as u32,
+        handle: handle as u32,
+        id: id as u32,
+        gpa,
+        length,
     }
 }

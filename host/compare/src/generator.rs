@@ -3,9 +3,9 @@
 
 use crate::author::{Author, PLENTY};
 use crate::event::Event;
+use crate::expected::Expected;
 use crate::numbers::RING_HEAD;
 use crate::submission::{some_submission, Belief, Submission};
-use crate::target::Target;
 use crate::twists;
 use crate::twists::ring::Ring;
 use crate::world::Scale;
@@ -18,7 +18,7 @@ pub struct Drawn {
     pub seed: u64,
     pub memory: u32,
     pub operations: Vec<Operation>,
-    pub targets: Vec<Target>,
+    pub expected: Vec<Expected>,
     /// Where the ring's head lies in memory.
     pub head_at: u64,
     /// What else happens in it, in order.
@@ -35,7 +35,7 @@ pub fn draw(seed: u64) -> Drawn {
     let Author {
         world,
         operations,
-        targets,
+        expected,
         events,
         ..
     } = author;
@@ -44,7 +44,7 @@ pub fn draw(seed: u64) -> Drawn {
         seed,
         memory: world.memory as u32,
         operations,
-        targets,
+        expected,
         head_at,
         events,
     }
@@ -144,8 +144,8 @@ impl Author {
                 self.live = submission.live.clone();
             }
             let head = self.head.wrapping_add(i);
-            self.targets
-                .extend(submission.aim.map(|aim| Target { aim, head }));
+            self.expected
+                .extend(submission.aim.map(|aim| Expected { aim, head }));
             self.events.extend(submission.event);
             if submission.goes_on_after_a_grown_packet() {
                 self.events.push(Event::GrownPacket);
@@ -205,7 +205,7 @@ impl Author {
         let mut twisted = ring.clone();
         let twist = self.random.pick(twists::ring::TWISTS);
         let aim = twist(&mut self.random, &mut twisted, self.world.memory);
-        self.targets.extend(aim.map(|aim| Target {
+        self.expected.extend(aim.map(|aim| Expected {
             aim,
             head: self.head,
         }));

@@ -2,19 +2,21 @@
 
 use crate::draft::{Draft, Resource};
 use crate::image::Entry;
-use crate::numbers::{MOST_RECORDS, MOST_RESOURCES, WRITEBACK};
+use crate::numbers::{KNOWN_PACKETS, MOST_RECORDS, MOST_RESOURCES, UNKNOWN_OPCODES, WRITEBACK};
 use crate::packet::{self, Backing, Copying};
+use crate::random::Random;
 use crate::shape::Shape;
 
 impl Draft<'_> {
     /// A packet that is believed to pass, of a random kind.
     pub fn any_packet(&mut self) {
         let done = match self.random.within(0..=99) {
-            0..=24 => self.any_buffer(),
-            25..=44 => self.any_texture(),
-            45..=54 => self.any_destroy(),
-            55..=76 => self.any_dirty(),
-            77..=92 => self.any_copy(),
+            0..=21 => self.any_buffer().map(drop),
+            22..=39 => self.any_texture().map(drop),
+            40..=48 => self.any_destroy().map(drop),
+            49..=67 => self.any_dirty().map(drop),
+            68..=80 => self.any_copy().map(drop),
+            81..=95 => self.any_state_packet(),
             _ => None,
         };
         if done.is_none() {
@@ -24,11 +26,9 @@ impl Draft<'_> {
 
     pub fn any_unknown(&mut self) {
         let opcode = match self.random.within(0..=3) {
-            0 => self.random.pick(&[0, 255, 260, 262, u32::MAX]),
-            1 => self
-                .random
-                .pick(&[1024, 1025, 1026, 1536, 1808, 1809, 1810]),
-            _ => 300 + self.random.within(0..=5000) as u32,
+            0 => self.random.pick(&UNKNOWN_OPCODES),
+            1 => self.random.pick(&[1808, 1809, 1810]),
+            _ => some_unknown_opcode(self.random),
         };
         let size = 8 + 4 * self.random.pick(&[0, 0, 1, 2, 6, 10]);
         let packet = packet::any(self.random, opcode, size);
@@ -178,6 +178,16 @@ impl Draft<'_> {
                 self.destroy(resource.handle);
                 Some(resource.handle)
             }
+        }
+    }
+}
+
+/// Whatever lies between the opcodes that there are, too.
+fn some_unknown_opcode(random: &mut Random) -> u32 {
+    loop {
+        let opcode = 300 + random.within(0..=5000) as u32;
+        if KNOWN_PACKETS.iter().all(|&(known, _)| known != opcode) {
+            return opcode;
         }
     }
 }

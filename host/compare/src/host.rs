@@ -13,7 +13,7 @@ pub trait Host: Front {
     fn wrote(&mut self, offset: u32, value: u32) -> bool;
     /// The register's value.
     fn value(&self, offset: u32) -> u32;
-    /// The record's length.
+    /// The last of the record's numbers: its length.
     fn length(&self, i: u32) -> u64;
     /// The units that a run with the largest allowance spent.
     fn spent(&mut self, memory: &mut [u8]) -> u16;
@@ -72,7 +72,7 @@ impl Host for zelezmut::Desk {
 
     #[inline]
     fn length(&self, i: u32) -> u64 {
-        self.record(i).map_or(0, |record| record.length)
+        self.record(i).map_or(0, |record| record.numbers()[4])
     }
 
     #[inline]

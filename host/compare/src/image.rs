@@ -12,7 +12,7 @@ pub fn put32(bytes: &mut [u8], at: usize, value: u32) {
 }
 
 /// Words from the first byte on, one behind the other.
-fn put_words(bytes: &mut [u8], words: &[u32]) {
+pub fn put_words(bytes: &mut [u8], words: &[u32]) {
     for (i, &value) in words.iter().enumerate() {
         put32(bytes, 4 * i, value);
     }

@@ -48,6 +48,7 @@ pub fn measures() -> Vec<Measure> {
         (0.75, published()),
         (1.05, growing()),
         (1.05, textures()),
+        (1.05, state_packets()),
         (1.25, vec![one_packet(0)]),
         (0.75, vec![one_packet(MOST_RESOURCES)]),
         (1.25, night(0)),
@@ -99,7 +100,11 @@ fn growing() -> Vec<(String, Task)> {
             Case::Dirty { live, row, entries },
         )
     });
-    [dirty, copy, create, table, last]
+    let target = COUNTS.map(|live| {
+        let row = live - 1;
+        (format!("target-{}-live", live), Case::Target { live, row })
+    });
+    [dirty, copy, create, table, last, target]
         .into_iter()
         .flatten()
         .map(|(key, case)| (key, Task::Submission(case)))
@@ -112,6 +117,16 @@ fn textures() -> Vec<(String, Task)> {
         (format!("dirty-{}-mips", mips), task)
     };
     [1, 6, 15].map(texture).into()
+}
+
+fn state_packets() -> Vec<(String, Task)> {
+    [
+        ("viewport", Case::Viewport),
+        ("clear", Case::Clear),
+        ("scissor", Case::Scissor),
+    ]
+    .map(|(key, case)| (key.to_string(), Task::Submission(case)))
+    .into()
 }
 
 fn one_packet(live: usize) -> (String, Task) {

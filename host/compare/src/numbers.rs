@@ -1,4 +1,4 @@
-//! The numbers of document 01 that a guest must know to write its structures, named once. Registers are `zelezmut::registers`.
+//! The numbers of documents 01 and 02 that a guest must know to write its structures, named once. Registers are `zelezmut::registers`.
 
 pub const RING_MAGIC: u32 = u32::from_le_bytes(*b"ARNG");
 pub const TABLE_MAGIC: u32 = u32::from_le_bytes(*b"ALOC");
@@ -18,6 +18,7 @@ pub const RING_HEAD: u32 = 24;
 pub const NO_IRQ: u32 = 1;
 pub const READ_ONLY: u32 = 1;
 pub const WRITEBACK: u32 = 1;
+pub const MOST_CLEAR_FLAGS: u32 = 7;
 
 pub const MOST_SLOTS: u32 = 1024;
 pub const MOST_ENTRIES: usize = 64;
@@ -31,18 +32,28 @@ pub const CREATE_TEXTURE: u32 = 257;
 pub const DESTROY: u32 = 258;
 pub const DIRTY_RANGE: u32 = 259;
 pub const COPY_BUFFER: u32 = 261;
+pub const TARGET: u32 = 1024;
+pub const VIEWPORT: u32 = 1025;
+pub const SCISSOR: u32 = 1026;
+pub const CLEAR: u32 = 1536;
 /// The least size of a packet of a known opcode.
-pub const KNOWN_PACKETS: [(u32, u32); 5] = [
+pub const KNOWN_PACKETS: [(u32, u32); 9] = [
     (CREATE_BUFFER, 40),
     (CREATE_TEXTURE, 56),
     (DESTROY, 16),
     (DIRTY_RANGE, 32),
     (COPY_BUFFER, 48),
+    (TARGET, 16),
+    (VIEWPORT, 32),
+    (SCISSOR, 24),
+    (CLEAR, 36),
 ];
+/// Opcodes that nobody knows, those beside the known ones among them.
+pub const UNKNOWN_OPCODES: [u32; 9] = [0, 255, 260, 262, 1023, 1027, 1535, 1537, u32::MAX];
 
 pub const FORMATS: [u32; 6] = [1, 2, 3, 64, 65, 66];
 
-/// The error numbers of document 01.
+/// The error numbers of documents 01 and 02.
 pub mod error {
     pub const RING: u32 = 10;
     pub const DESCRIPTOR: u32 = 11;
@@ -62,4 +73,5 @@ pub mod error {
     pub const HOST_BACKED: u32 = 25;
     pub const COPY: u32 = 26;
     pub const HOST_FAILED: u32 = 27;
+    pub const STATE: u32 = 30;
 }

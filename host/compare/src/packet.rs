@@ -1,8 +1,9 @@
-//! The packets of document 01 as bytes.
+//! The packets of documents 01 and 02 as bytes.
 
-use crate::image::{blank, put32, put64};
+use crate::image::{blank, put32, put64, put_words};
 use crate::numbers::{
-    COPY_BUFFER, CREATE_BUFFER, CREATE_TEXTURE, DESTROY, DIRTY_RANGE, KNOWN_PACKETS,
+    CLEAR, COPY_BUFFER, CREATE_BUFFER, CREATE_TEXTURE, DESTROY, DIRTY_RANGE, KNOWN_PACKETS,
+    SCISSOR, TARGET, VIEWPORT,
 };
 use crate::random::Random;
 use crate::shape::Shape;
@@ -22,6 +23,26 @@ pub struct Copying {
     pub from_offset: u64,
     pub size: u64,
     pub flags: u32,
+}
+
+/// A viewport's six floats by their bits: x, y, width, height, near, far.
+pub type Viewport = [u32; 6];
+
+#[derive(Clone, Copy, Debug)]
+pub struct Scissor {
+    pub x: i32,
+    pub y: i32,
+    pub width: i32,
+    pub height: i32,
+}
+
+/// Its floats are their bits: those of the colour, and the depth's.
+#[derive(Clone, Copy, Debug)]
+pub struct Clear {
+    pub flags: u32,
+    pub colour: [u32; 4],
+    pub depth: u32,
+    pub stencil: u32,
 }
 
 /// A packet of this opcode and size with no field put in; a size below 8 still has its header.
@@ -89,5 +110,41 @@ pub fn copy(random: &mut Random, copying: Copying) -> Vec<u8> {
     put64(&mut bytes, 24, copying.from_offset);
     put64(&mut bytes, 32, copying.size);
     put32(&mut bytes, 40, copying.flags);
+    bytes
+}
+
+pub fn target(random: &mut Random, handle: u32) -> Vec<u8> {
+    let mut bytes = any(random, TARGET, 16);
+    put32(&mut bytes, 8, handle);
+    bytes
+}
+
+pub fn viewport(random: &mut Random, viewport: Viewport) -> Vec<u8> {
+    let mut bytes = any(random, VIEWPORT, 32);
+    put_words(&mut bytes[8..], &viewport);
+    bytes
+}
+
+pub fn scissor(random: &mut Random, scissor: Scissor) -> Vec<u8> {
+    let mut bytes = any(random, SCISSOR, 24);
+    let Scissor {
+        x,
+        y,
+        width,
+        height,
+    } = scissor;
+    put_words(
+        &mut bytes[8..],
+        &[x, y, width, height].map(|field| field as u32),
+    );
+    bytes
+}
+
+pub fn clear(random: &mut Random, clear: Clear) -> Vec<u8> {
+    let mut bytes = any(random, CLEAR, 36);
+    put32(&mut bytes, 8, clear.flags);
+    put_words(&mut bytes[12..], &clear.colour);
+    put32(&mut bytes, 28, clear.depth);
+    put32(&mut bytes, 32, clear.stencil);
     bytes
 }

@@ -108,6 +108,7 @@ pub fn some_submission(
         room: world.scale.stream_room(),
         live: before.clone(),
         entries,
+        target: None,
         records: 0,
         packets: Vec::new(),
         used: 0,

@@ -1,17 +1,20 @@
-//! Twists: each takes a rule of document 01 and puts one number on either side of it, in a world that breaks no other rule.
+//! Twists: each takes a rule of documents 01 and 02 and puts one number on either side of it, in a world that breaks no other rule.
 //! What the twist is after is told as an aim, so that it can be counted whether the rule was met.
 
 pub mod copy;
 pub mod create;
 pub mod dirty;
 pub mod entries;
+pub mod floats;
 pub mod frame;
 pub mod framing;
 pub mod grown;
 pub mod limits;
 pub mod muddle;
 pub mod ring;
+pub mod scissor;
 pub mod shapes;
+pub mod target;
 mod touch;
 
 use crate::draft::Draft;
@@ -30,6 +33,8 @@ pub enum Outcome {
 pub struct Aim {
     pub rule: &'static str,
     pub outcome: Outcome,
+    /// The float that is to meet the rule, if it is about one.
+    pub float: Option<&'static str>,
 }
 
 impl Aim {
@@ -51,6 +56,7 @@ pub fn kept(rule: &'static str) -> Option<Aim> {
     Some(Aim {
         rule,
         outcome: Outcome::Kept,
+        float: None,
     })
 }
 
@@ -58,6 +64,7 @@ pub fn broken(rule: &'static str, error: u32) -> Option<Aim> {
     Some(Aim {
         rule,
         outcome: Outcome::Broken(error),
+        float: None,
     })
 }
 

@@ -26,6 +26,11 @@ const ANSWERS_AND_STOPS: u8 = 12;
 const RUNS_BEFORE_IT_ANSWERS: u8 = 13;
 const SETTLES_FOR_A_UNIT: u8 = 14;
 const SAYS_IDLE: u8 = 15;
+const TAKES_MINUS_ZERO_FOR_A_SIDE: u8 = 16;
+const TAKES_WHAT_IS_NOT_A_NUMBER: u8 = 17;
+const CLIPS_IN_U32: u8 = 18;
+const LETS_TARGETS_OUTLIVE_HANDLES: u8 = 19;
+const FORGETS_EMPTY_CLIPS: u8 = 20;
 
 /// An entry that is bad by itself.
 const BAD_ENTRY: u32 = 14;
@@ -76,6 +81,9 @@ impl<const FAULT: u8> Wrong<FAULT> {
         }
         if FAULT == READS_ALL_AT_OPENING {
             return self.run_reading_ahead(memory, allowance);
+        }
+        if let Some(misread) = misreading(FAULT) {
+            return self.run_misreading(memory, allowance, misread);
         }
         let mut ran = self.desk.run(memory, allowance);
         let waits = ran.units > 0 && ran.ended == Ended::Waiting;
@@ -148,12 +156,29 @@ impl<const FAULT: u8> Wrong<FAULT> {
         let mut after = found.clone();
         let ran = self.desk.run(&mut after, 1);
         // A refused entry settles its submission: what that writes is written here.
-        for (byte, (before, after)) in memory.iter_mut().zip(found.iter().zip(after)) {
-            if *before != after {
-                *byte = after;
-            }
-        }
+        take_over(memory, found, &after);
         ran
+    }
+
+    /// A run over what a front with this fault takes the memory's packets for.
+    fn run_misreading(&mut self, memory: &mut [u8], allowance: u16, misread: Misreading) -> Ran {
+        let mut misread_memory = memory.to_vec();
+        for at in 0..memory.len() {
+            misread(&mut misread_memory[at..]);
+        }
+        let mut after = misread_memory.clone();
+        let ran = self.desk.run(&mut after, allowance);
+        take_over(memory, &misread_memory, &after);
+        ran
+    }
+
+    /// The record of this index, where scissors without a pixel have none.
+    fn record_that_is_not_empty(&self, i: u32) -> (u32, Record) {
+        let made =
+            (0..).map_while(|i| Some(self.desk.record(i)).filter(|(answer, _)| *answer == 0));
+        let mut left = made.filter(|(_, record)| (record.kind, record.gpa) != (4, 0));
+        let none = (4, Record::default());
+        left.nth(i as usize).unwrap_or(none)
     }
 
     /// What the next unit would be refused with over memory that is all zero, which tells an entry from an opening and from a packet.
@@ -161,6 +186,91 @@ impl<const FAULT: u8> Wrong<FAULT> {
         let mut other = self.desk.clone();
         let ran = other.run(&mut vec![0; memory], 1);
         (ran.units == 1).then(|| other.read(ERROR_CODE).1)
+    }
+}
+
+/// Writes what a run has changed elsewhere.
+fn take_over(memory: &mut [u8], before: &[u8], after: &[u8]) {
+    for (byte, (before, after)) in memory.iter_mut().zip(before.iter().zip(after)) {
+        if before != after {
+            *byte = *after;
+        }
+    }
+}
+
+/// Changes the packet that bytes begin with, if it is one of those that are taken for something else.
+type Misreading = fn(&mut [u8]);
+
+fn misreading(fault: u8) -> Option<Misreading> {
+    match fault {
+        TAKES_MINUS_ZERO_FOR_A_SIDE => Some(minus_zero_for_a_side),
+        TAKES_WHAT_IS_NOT_A_NUMBER => Some(not_a_number_for_0),
+        CLIPS_IN_U32 => Some(negative_for_large),
+        LETS_TARGETS_OUTLIVE_HANDLES => Some(scissor_before_destroy),
+        _ => None,
+    }
+}
+
+const DESTROY: u32 = 258;
+const TARGET: u32 = 1024;
+const VIEWPORT: u32 = 1025;
+const SCISSOR: u32 = 1026;
+const CLEAR: u32 = 1536;
+
+/// The word at a place; behind the end stands 0.
+fn word(bytes: &[u8], at: usize) -> u32 {
+    let word = bytes.get(at..).and_then(|rest| rest.get(..4));
+    word.map_or(0, |word| u32::from_le_bytes(word.try_into().unwrap()))
+}
+
+fn put(bytes: &mut [u8], at: usize, value: u32) {
+    if let Some(place) = bytes.get_mut(at..).and_then(|rest| rest.get_mut(..4)) {
+        place.copy_from_slice(&value.to_le_bytes());
+    }
+}
+
+/// Width and height of a viewport.
+fn minus_zero_for_a_side(bytes: &mut [u8]) {
+    for at in [16, 20] {
+        if word(bytes, 0) == VIEWPORT && word(bytes, at) == (-0.0f32).to_bits() {
+            put(bytes, at, 1.0f32.to_bits());
+        }
+    }
+}
+
+/// A clear's colour: what is no number compares with nothing, so no rule seems to be broken.
+fn not_a_number_for_0(bytes: &mut [u8]) {
+    for at in [12, 16, 20, 24] {
+        if word(bytes, 0) == CLEAR && f32::from_bits(word(bytes, at)).is_nan() {
+            put(bytes, at, 0);
+        }
+    }
+}
+
+/// A scissor's corner: taken for a u32, a negative one lies behind every target.
+fn negative_for_large(bytes: &mut [u8]) {
+    for at in [8, 12] {
+        if word(bytes, 0) == SCISSOR && (word(bytes, at) as i32) < 0 {
+            put(bytes, at, i32::MAX as u32);
+        }
+    }
+}
+
+/// A target that is destroyed at once, and a good scissor behind that: the two change places, and the target is there still.
+fn scissor_before_destroy(bytes: &mut [u8]) {
+    let destroy = word(bytes, 4) as usize;
+    if word(bytes, 0) != TARGET || word(bytes, destroy) != DESTROY {
+        return;
+    }
+    let size = word(bytes, destroy + 4) as usize;
+    let scissor = destroy + size;
+    let end = scissor + word(bytes, scissor + 4) as usize;
+    let good = [16, 20].map(|side| word(bytes, scissor + side) as i32 >= 0);
+    let same = word(bytes, 8) == word(bytes, destroy + 8);
+    if word(bytes, scissor) == SCISSOR && same && good == [true; 2] {
+        if let Some(both) = bytes.get_mut(destroy..end) {
+            both.rotate_left(size);
+        }
     }
 }
 
@@ -196,6 +306,7 @@ impl<const FAULT: u8> Front for Wrong<FAULT> {
     fn record(&self, i: u32) -> (u32, Record) {
         match self.desk.record(i) {
             (0, record) if FAULT == FORGETS_WRITES && record.kind == 3 => (4, Record::default()),
+            _ if FAULT == FORGETS_EMPTY_CLIPS => self.record_that_is_not_empty(i),
             told => told,
         }
     }
@@ -358,4 +469,41 @@ fn a_front_that_spends_a_unit_on_settling_is_told_apart() {
 #[test]
 fn a_front_that_says_idle_beside_every_answer_is_told_apart() {
     is_told_by_an_answer::<SAYS_IDLE>();
+}
+
+/// A record is what the fronts part at.
+fn is_told_by_a_record<const FAULT: u8>() {
+    let told = is_told_apart::<FAULT>();
+    assert!(told.contains("\n  record "), "{}", told);
+}
+
+/// The wrong front goes on where the other refuses, with 30.
+fn is_told_by_a_refusal<const FAULT: u8>() {
+    let told = is_told_apart::<FAULT>();
+    assert!(!told.contains("\n  record "), "{}", told);
+}
+
+#[test]
+fn a_front_that_takes_minus_0_for_a_side_is_told_apart() {
+    is_told_by_a_refusal::<TAKES_MINUS_ZERO_FOR_A_SIDE>();
+}
+
+#[test]
+fn a_front_that_takes_a_colour_that_is_not_a_number_is_told_apart() {
+    is_told_by_a_refusal::<TAKES_WHAT_IS_NOT_A_NUMBER>();
+}
+
+#[test]
+fn a_front_that_clips_in_u32_is_told_apart() {
+    is_told_by_a_record::<CLIPS_IN_U32>();
+}
+
+#[test]
+fn a_front_whose_target_outlives_its_handle_is_told_apart() {
+    is_told_by_a_refusal::<LETS_TARGETS_OUTLIVE_HANDLES>();
+}
+
+#[test]
+fn a_front_without_records_of_empty_clips_is_told_apart() {
+    is_told_by_a_record::<FORGETS_EMPTY_CLIPS>();
 }

@@ -40,6 +40,8 @@ pub(crate) enum Error {
     Copy = 26,
     /// The host answered "failed".
     Host = 27,
+    /// Bad viewport, clear or scissor, or a scissor without a target.
+    State = 30,
 }
 
 impl Error {

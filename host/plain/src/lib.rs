@@ -16,6 +16,7 @@ mod registers;
 mod resources;
 mod ring;
 mod shapes;
+mod state;
 mod stream;
 mod submission;
 mod table;

@@ -4,6 +4,7 @@ use crate::bytes::{fits, u32_at, u64_at};
 use crate::errors::Error;
 use crate::resources::{Resource, Resources};
 use crate::shapes::{Shape, Texture};
+use crate::state::{Clear, Scissor, Target, Viewport};
 use crate::table::{self, Entry, MAX_ENTRIES};
 
 /// The size of a packet's header.
@@ -14,6 +15,10 @@ const CREATE_TEXTURE: u32 = 257;
 const DESTROY: u32 = 258;
 const DIRTY: u32 = 259;
 const COPY: u32 = 261;
+const TARGET: u32 = 1024;
+const VIEWPORT: u32 = 1025;
+const SCISSOR: u32 = 1026;
+const CLEAR: u32 = 1536;
 
 const COPY_WRITEBACK: u32 = 1;
 
@@ -23,18 +28,19 @@ const KIND_CREATE: u32 = 1;
 const KIND_READ: u32 = 2;
 const KIND_WRITE: u32 = 3;
 
-/// A resolved range for the host.
+/// A resolved range, or a clipped scissor, for the host.
 #[derive(Clone, Copy, Debug, Default, PartialEq, Eq)]
 pub struct Record {
-    /// 1: created backing; 2: read (dirty); 3: write (copy with writeback).
+    /// 1: created backing; 2: read (dirty); 3: write (copy with writeback);
+    /// 4: scissor, whose other fields are all 0 if it is empty.
     pub kind: u32,
-    /// The resource's handle.
+    /// The resource's handle; of a scissor, the left side.
     pub handle: u32,
-    /// The id of the table entry behind it.
+    /// The id of the table entry behind it; of a scissor, the top.
     pub id: u32,
-    /// Where the range starts in guest memory.
+    /// Where the range starts in guest memory; of a scissor, the width.
     pub gpa: u64,
-    /// How many bytes it has.
+    /// How many bytes it has; of a scissor, the height.
     pub length: u64,
 }
 
@@ -48,6 +54,10 @@ pub(crate) fn least_size(opcode: u32) -> u32 {
         DESTROY => 16,
         DIRTY => 32,
         COPY => 48,
+        TARGET => 16,
+        VIEWPORT => 32,
+        SCISSOR => 24,
+        CLEAR => 36,
         _ => PACKET_HEADER,
     }
 }
@@ -132,13 +142,14 @@ impl CopyBuffer {
     }
 }
 
-/// What a submission has made so far: its checked entries, the resources as
-/// its packets left them, and its records.
+/// What a submission has made so far: its checked entries, the resources and
+/// the target as its packets left them, and its records.
 #[derive(Clone, Debug, PartialEq)]
 pub(crate) struct Kept {
     pub(crate) entries: Vec<Entry>,
     pub(crate) resources: Resources,
     pub(crate) records: Vec<Record>,
+    target: Option<Target>,
 }
 
 impl Kept {
@@ -148,6 +159,7 @@ impl Kept {
             entries: Vec::with_capacity(MAX_ENTRIES),
             resources: Resources::new(),
             records: Vec::with_capacity(MAX_RECORDS),
+            target: None,
         }
     }
 
@@ -155,6 +167,7 @@ impl Kept {
         self.entries.clear();
         self.resources.clear();
         self.records.clear();
+        self.target = None;
     }
 
     /// Judges one packet, as the packet reader handed it back, and does what
@@ -167,6 +180,10 @@ impl Kept {
             DESTROY => self.destroy(u32_at(packet, 8)),
             DIRTY => self.dirty(&DirtyRange::read(packet)),
             COPY => self.copy(&CopyBuffer::read(packet)),
+            TARGET => self.set_target(u32_at(packet, 8)),
+            VIEWPORT => Viewport::read(packet).check(),
+            SCISSOR => self.scissor(&Scissor::read(packet)),
+            CLEAR => Clear::read(packet).check(),
             _ => Ok(()),
         }
     }
@@ -215,12 +232,13 @@ impl Kept {
         Ok(())
     }
 
+    /// Destroys a resource; if its handle is the target's, that ends too.
     fn destroy(&mut self, handle: u32) -> Result<(), Error> {
-        if self.resources.remove(handle) {
-            Ok(())
-        } else {
-            Err(Error::Handle)
+        if !self.resources.remove(handle) {
+            return Err(Error::Handle);
         }
+        self.target = self.target.filter(|target| target.handle != handle);
+        Ok(())
     }
 
     fn dirty(&mut self, dirty: &DirtyRange) -> Result<(), Error> {
@@ -230,7 +248,7 @@ impl Kept {
         }
         check_resource_range(resource, dirty.offset, dirty.size)?;
         let (_, record) = self.resolve(KIND_READ, resource, dirty.offset, dirty.size)?;
-        self.add_record(record)
+        self.add_range(record)
     }
 
     fn copy(&mut self, copy: &CopyBuffer) -> Result<(), Error> {
@@ -251,7 +269,19 @@ impl Kept {
         if entry.read_only {
             return Err(Error::ReadOnly);
         }
-        self.add_record(record)
+        self.add_range(record)
+    }
+
+    fn set_target(&mut self, handle: u32) -> Result<(), Error> {
+        let resource = self.resources.find(handle).ok_or(Error::Handle)?;
+        self.target = Some(Target::of(resource).ok_or(Error::Handle)?);
+        Ok(())
+    }
+
+    fn scissor(&mut self, scissor: &Scissor) -> Result<(), Error> {
+        let target = self.target.ok_or(Error::State)?;
+        scissor.check()?;
+        self.add_record(scissor.clip(&target))
     }
 
     fn live_buffer(&self, handle: u32) -> Result<&Resource, Error> {
@@ -287,11 +317,17 @@ impl Kept {
         Ok((entry, record))
     }
 
-    /// Adds a record if there is room; an empty range makes none.
-    fn add_record(&mut self, record: Record) -> Result<(), Error> {
+    /// Adds the record of a range if there is room; an empty one makes none.
+    fn add_range(&mut self, record: Record) -> Result<(), Error> {
         if record.length == 0 {
-            return Ok(());
+            Ok(())
+        } else {
+            self.add_record(record)
         }
+    }
+
+    /// Adds a record if there is room.
+    fn add_record(&mut self, record: Record) -> Result<(), Error> {
         if self.records.len() >= MAX_RECORDS {
             return Err(Error::Full);
         }

@@ -1,7 +1,7 @@
 //! The exports called over random words, bytes and lengths, with canaries beside all that they are lent.
 use super::tests::entries;
 use super::*;
-use crate::guest::{self, Backing, Descriptor, Packet, Part};
+use crate::guest::{self, Backing, Clear, Descriptor, Packet, Part, Scissor, Shape, Viewport};
 use crate::numbers::Numbers;
 use crate::registers;
 use crate::state::{word, ENTRY_WORDS, MOST, RECORD_WORDS, RESOURCE_WORDS};
@@ -106,8 +106,47 @@ impl Lent {
     }
 }
 
-/// A submission of two entries and four packets, and the ring that holds it, in the first 2048 bytes.
-fn submission(memory: &mut [u8]) {
+const SHAPE: Shape = Shape {
+    format: 1,
+    width: 5,
+    height: 3,
+    mips: 1,
+    layers: 1,
+    pitch: 0,
+};
+
+/// A target, and what is drawn on it.
+const DRAWING: [Packet; 5] = [
+    Packet::CreateTexture {
+        handle: 3,
+        shape: SHAPE,
+        backing: None,
+    },
+    Packet::Target { handle: 3 },
+    Packet::Viewport(Viewport {
+        x: 0.0,
+        y: 0.0,
+        width: 5.0,
+        height: 3.0,
+        near: 0.0,
+        far: 1.0,
+    }),
+    Packet::Scissor(Scissor {
+        x: -1,
+        y: 1,
+        width: 3,
+        height: 9,
+    }),
+    Packet::Clear(Clear {
+        flags: 7,
+        colour: [1.0; 4],
+        depth: 0.5,
+        stencil: 9,
+    }),
+];
+
+/// A submission of two entries and nine packets, and the ring that holds it, in the first 2048 bytes.
+pub(super) fn submission(memory: &mut [u8]) {
     let create = |handle| Packet::CreateBuffer {
         handle,
         size: 32,
@@ -127,7 +166,9 @@ fn submission(memory: &mut [u8]) {
         writeback: true,
     };
     let table = guest::table(&entries(2));
-    let stream = guest::stream(&[create(1), create(2), dirty, copy]);
+    let mut packets = vec![create(1), create(2), dirty, copy];
+    packets.extend(DRAWING);
+    let stream = guest::stream(&packets);
     let slot = Descriptor {
         commands: Part::of(1024, &stream),
         table: Part::of(512, &table),

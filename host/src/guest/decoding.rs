@@ -1,9 +1,10 @@
 //! A stream's packets, read back from its bytes by a host that carries the submission out.
 use super::fields::Fields;
 use super::packet::{
-    Backing, Packet, Row, Shape, COPY_BUFFER, CREATE_BUFFER, CREATE_TEXTURE, DESTROY, DIRTY_RANGE,
-    PACKET_HEADER, WRITEBACK,
+    Backing, Packet, Row, Shape, CLEAR, COPY_BUFFER, CREATE_BUFFER, CREATE_TEXTURE, DESTROY,
+    DIRTY_RANGE, PACKET_HEADER, SCISSOR, TARGET, VIEWPORT, WRITEBACK,
 };
+use super::state_packets::{Clear, Scissor, Viewport};
 use super::{MAJOR, STREAM_HEADER, STREAM_MAGIC};
 use crate::place::{write_error_at, Place};
 use crate::DeviceError;
@@ -20,7 +21,8 @@ use std::iter::FusedIterator;
 /// fit what it knows. `examples/emulator.rs` does so.
 ///
 /// Bytes behind the stream's own size are not looked at, nor those behind a known packet's last field: a driver of a higher minor
-/// version appends fields. Whether a handle is live or a shape good is not asked.
+/// version appends fields. Whether a handle is live, a shape good or a viewport one that can be, is not asked: floats come as their bits
+/// have them, a NaN too, which [`Packet::has_nan`] tells.
 ///
 /// ```
 /// use zelezmut::guest::{self, Packet};
@@ -66,7 +68,7 @@ pub struct Packets<'a> {
 }
 
 /// A packet that was read from a stream.
-#[derive(Clone, Copy, Debug, PartialEq, Eq)]
+#[derive(Clone, Copy, Debug, PartialEq)]
 pub struct Decoded<'a> {
     /// Where it starts: bytes from where the stream starts. The first packet stands at 24, behind the stream's header.
     pub offset: u32,
@@ -136,6 +138,15 @@ impl PacketFields<'_> {
         self.0.long(at).ok_or(DeviceError::BadPacket)
     }
 
+    /// Any bits are some float's.
+    fn float(self, at: usize) -> Result<f32, DeviceError> {
+        self.word(at).map(f32::from_bits)
+    }
+
+    fn signed(self, at: usize) -> Result<i32, DeviceError> {
+        self.word(at).map(|word| word as i32)
+    }
+
     /// Of a resource that lives with the host the offset says nothing.
     fn backing(self, at: usize) -> Result<Option<Backing>, DeviceError> {
         let (id, offset) = (self.word(at)?, self.word(at + 4)?);
@@ -146,13 +157,17 @@ impl PacketFields<'_> {
 /// How a packet's fields are read.
 type Reader = fn(PacketFields<'_>) -> Result<Packet, DeviceError>;
 
-/// Every packet that the front knows: its row of document 01's table, and its reader. A new packet is a row here and a reader below.
-const KNOWN: [(Row, Reader); 5] = [
+/// Every packet that the front knows: its row of the documents' tables, and its reader. A new packet is a row here and a reader below.
+const KNOWN: [(Row, Reader); 9] = [
     (CREATE_BUFFER, create_buffer),
     (CREATE_TEXTURE, create_texture),
     (DESTROY, destroy),
     (DIRTY_RANGE, dirty_range),
     (COPY_BUFFER, copy_buffer),
+    (TARGET, target),
+    (VIEWPORT, viewport),
+    (SCISSOR, scissor),
+    (CLEAR, clear),
 ];
 
 fn create_buffer(fields: PacketFields<'_>) -> Result<Packet, DeviceError> {
@@ -208,6 +223,47 @@ fn copy_buffer(fields: PacketFields<'_>) -> Result<Packet, DeviceError> {
     })
 }
 
+fn target(fields: PacketFields<'_>) -> Result<Packet, DeviceError> {
+    Ok(Packet::Target {
+        handle: fields.word(8)?,
+    })
+}
+
+fn viewport(fields: PacketFields<'_>) -> Result<Packet, DeviceError> {
+    Ok(Packet::Viewport(Viewport {
+        x: fields.float(8)?,
+        y: fields.float(12)?,
+        width: fields.float(16)?,
+        height: fields.float(20)?,
+        near: fields.float(24)?,
+        far: fields.float(28)?,
+    }))
+}
+
+fn scissor(fields: PacketFields<'_>) -> Result<Packet, DeviceError> {
+    Ok(Packet::Scissor(Scissor {
+        x: fields.signed(8)?,
+        y: fields.signed(12)?,
+        width: fields.signed(16)?,
+        height: fields.signed(20)?,
+    }))
+}
+
+/// Its flags are told as they stand, those that nobody knows too.
+fn clear(fields: PacketFields<'_>) -> Result<Packet, DeviceError> {
+    Ok(Packet::Clear(Clear {
+        flags: fields.word(8)?,
+        colour: [
+            fields.float(12)?,
+            fields.float(16)?,
+            fields.float(20)?,
+            fields.float(24)?,
+        ],
+        depth: fields.float(28)?,
+        stencil: fields.word(32)?,
+    }))
+}
+
 /// What is wrong with a stream that [`decode`] reads.
 ///
 /// Displayed it is a line for a log: `error 17 at byte 40 of the stream: ..`, with the error's own words behind.
@@ -246,17 +302,18 @@ mod tests {
         }
     }
 
+    const SHAPE: Shape = Shape {
+        format: 1,
+        width: 2,
+        height: 3,
+        mips: 4,
+        layers: 5,
+        pitch: 6,
+    };
+
     /// One of each kind, every field with another number.
     fn every_packet() -> Vec<Packet> {
         let backing = Some(Backing { id: 11, offset: 12 });
-        let shape = Shape {
-            format: 1,
-            width: 2,
-            height: 3,
-            mips: 4,
-            layers: 5,
-            pitch: 6,
-        };
         let create = |backing| Packet::CreateBuffer {
             handle: 7,
             size: u64::MAX - 1,
@@ -264,7 +321,7 @@ mod tests {
         };
         let texture = |backing| Packet::CreateTexture {
             handle: 8,
-            shape,
+            shape: SHAPE,
             backing,
         };
         let dirty = Packet::DirtyRange {
@@ -280,8 +337,40 @@ mod tests {
         [create(None), create(backing), texture(None)]
             .into_iter()
             .chain([texture(backing), destroy, dirty])
-            .chain([copy(false), copy(true), unknown])
+            .chain([copy(false), copy(true)])
+            .chain(every_state_packet())
+            .chain([unknown])
             .collect()
+    }
+
+    fn every_state_packet() -> [Packet; 4] {
+        let target = Packet::Target { handle: 15 };
+        let viewport = Viewport {
+            x: -1.5,
+            y: f32::MAX,
+            width: 0.5,
+            height: f32::MIN_POSITIVE,
+            near: -0.0,
+            far: 1.0,
+        };
+        let scissor = Scissor {
+            x: i32::MIN,
+            y: -1,
+            width: i32::MAX,
+            height: 0,
+        };
+        let clear = Clear {
+            flags: 16,
+            colour: [0.25, 0.5, f32::NEG_INFINITY, 2.0],
+            depth: 0.75,
+            stencil: u32::MAX,
+        };
+        [
+            target,
+            Packet::Viewport(viewport),
+            Packet::Scissor(scissor),
+            Packet::Clear(clear),
+        ]
     }
 
     fn packets(stream: &[u8]) -> Result<Vec<Packet>, StreamError> {
@@ -300,12 +389,12 @@ mod tests {
         assert_eq!(packets(&bytes), Ok(written.clone()));
         let grown: Vec<Vec<u8>> = written.iter().map(|p| p.grown(&[1, u32::MAX])).collect();
         let read = packets(&stream_of(&grown)).unwrap();
-        assert_eq!(read[..8], written[..8]);
+        assert_eq!(read[..12], written[..12]);
         let longer = Packet::Unknown {
             opcode: 260,
             size: 28,
         };
-        assert_eq!(read[8..], [longer]);
+        assert_eq!(read[12..], [longer]);
         // What stands behind the stream's own size is nobody's.
         bytes.extend([0xEE; 5]);
         assert_eq!(packets(&bytes), Ok(written));
@@ -397,6 +486,26 @@ mod tests {
             other[40..44].copy_from_slice(&flags.to_le_bytes());
             let refused = Err(bad(DeviceError::BadCopy, 24));
             assert_eq!(packets(&stream_of(&[other])), refused);
+        }
+    }
+
+    /// Infinities, NaNs of every sort, and whatever else: each comes back as the bits that it was.
+    #[test]
+    fn floats_are_read_bit_for_bit() {
+        let [_, viewport, _, clear] = every_state_packet().map(|packet| packet.to_bytes());
+        for (bytes, floats) in [(viewport, 8..32), (clear, 12..32)] {
+            for at in floats.step_by(4) {
+                for bits in (0..=u32::MAX)
+                    .step_by(0x00ff_fff1)
+                    .chain([0x7f80_0001, 0xffc0_0000])
+                {
+                    let mut other = bytes.clone();
+                    other[at..at + 4].copy_from_slice(&bits.to_le_bytes());
+                    let packet = packets(&stream_of(&[other.clone()])).unwrap()[0];
+                    assert_eq!(packet.to_bytes(), other);
+                    assert_eq!(packet.has_nan(), f32::from_bits(bits).is_nan());
+                }
+            }
         }
     }
 

@@ -1,5 +1,6 @@
 //! Packets as bytes, and streams of them: what a guest's driver writes.
 use super::fields::{put_long, put_word};
+use super::state_packets::{put_words, Clear, Scissor, Viewport};
 use super::{header, size_of, STREAM_HEADER, STREAM_MAGIC};
 
 /// Where a resource lives in guest memory.
@@ -29,8 +30,8 @@ pub struct Shape {
 }
 
 /// A packet of a command stream. A driver's packets become bytes by [`to_bytes`](Packet::to_bytes), and [`decode`](super::decode)
-/// reads them back.
-#[derive(Clone, Copy, Debug, PartialEq, Eq)]
+/// reads them back, floats bit for bit. Packets compare as their fields do, so one with a NaN is equal to none.
+#[derive(Clone, Copy, Debug, PartialEq)]
 pub enum Packet {
     /// Makes a buffer; without backing it lives with the host.
     CreateBuffer {
@@ -79,6 +80,17 @@ pub enum Packet {
         /// The result goes back to guest memory.
         writeback: bool,
     },
+    /// Makes a live texture the target, until it is destroyed or the submission ends.
+    Target {
+        /// The texture's handle.
+        handle: u32,
+    },
+    /// Sets the viewport.
+    Viewport(Viewport),
+    /// Clips what is drawn to a part of the target, of which there must be one.
+    Scissor(Scissor),
+    /// Clears to a colour, a depth and a stencil.
+    Clear(Clear),
     /// A packet that the front does not know and skips. Written, it has zeros after its header.
     Unknown {
         /// None of those above.
@@ -89,7 +101,7 @@ pub enum Packet {
     },
 }
 
-/// A row of document 01's table of packets: the opcode, and the bytes that such a packet has at least.
+/// A row of the documents' tables of packets: the opcode, and the bytes that such a packet has at least.
 pub(super) type Row = (u32, u32);
 
 pub(super) const CREATE_BUFFER: Row = (256, 40);
@@ -97,6 +109,10 @@ pub(super) const CREATE_TEXTURE: Row = (257, 56);
 pub(super) const DESTROY: Row = (258, 16);
 pub(super) const DIRTY_RANGE: Row = (259, 32);
 pub(super) const COPY_BUFFER: Row = (261, 48);
+pub(super) const TARGET: Row = (1024, 16);
+pub(super) const VIEWPORT: Row = (1025, 32);
+pub(super) const SCISSOR: Row = (1026, 24);
+pub(super) const CLEAR: Row = (1536, 36);
 
 /// Opcode and size, of every packet.
 pub(super) const PACKET_HEADER: u32 = 8;
@@ -113,6 +129,10 @@ impl Packet {
             Packet::Destroy { .. } => DESTROY,
             Packet::DirtyRange { .. } => DIRTY_RANGE,
             Packet::CopyBuffer { .. } => COPY_BUFFER,
+            Packet::Target { .. } => TARGET,
+            Packet::Viewport(_) => VIEWPORT,
+            Packet::Scissor(_) => SCISSOR,
+            Packet::Clear(_) => CLEAR,
             Packet::Unknown { opcode, size } => (opcode, size),
         }
     }
@@ -160,6 +180,23 @@ impl Packet {
         bytes
     }
 
+    /// Whether a float of it is no number at all. In a stream that the front has checked none is, unless the guest has changed it since.
+    ///
+    /// ```
+    /// use zelezmut::guest::{Clear, Packet};
+    ///
+    /// let clear = |depth| Packet::Clear(Clear { flags: 2, colour: [0.0; 4], depth, stencil: 0 });
+    /// assert!(!clear(-0.0).has_nan() && !clear(f32::INFINITY).has_nan());
+    /// assert!(clear(f32::NAN).has_nan());
+    /// ```
+    pub fn has_nan(&self) -> bool {
+        match self {
+            Packet::Viewport(viewport) => viewport.has_nan(),
+            Packet::Clear(clear) => clear.has_nan(),
+            _ => false,
+        }
+    }
+
     fn put_fields(&self, bytes: &mut [u8]) {
         match *self {
             Packet::CreateBuffer {
@@ -180,7 +217,7 @@ impl Packet {
                 put_shape(bytes, 16, shape);
                 put_backing(bytes, 40, backing);
             }
-            Packet::Destroy { handle } => put_word(bytes, 8, handle),
+            Packet::Destroy { handle } | Packet::Target { handle } => put_word(bytes, 8, handle),
             Packet::DirtyRange {
                 handle,
                 offset,
@@ -191,6 +228,9 @@ impl Packet {
                 put_long(bytes, 24, size);
             }
             Packet::CopyBuffer { .. } => self.put_copy(bytes),
+            Packet::Viewport(viewport) => viewport.put(bytes, 8),
+            Packet::Scissor(scissor) => scissor.put(bytes, 8),
+            Packet::Clear(clear) => clear.put(bytes, 8),
             Packet::Unknown { .. } => (),
         }
     }
@@ -225,10 +265,7 @@ fn put_shape(bytes: &mut [u8], at: usize, shape: Shape) {
         layers,
         pitch,
     } = shape;
-    let fields = [format, width, height, mips, layers, pitch];
-    for (field, value) in bytes[at..].chunks_exact_mut(4).zip(fields) {
-        put_word(field, 0, value);
-    }
+    put_words(bytes, at, [format, width, height, mips, layers, pitch]);
 }
 
 /// Zeros say that the resource lives with the host.

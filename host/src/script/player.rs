@@ -120,14 +120,10 @@ fn ran(call: &str, ran: Result<Ran, Refused>) -> String {
 
 fn record(desk: &Desk, index: u32) -> String {
     match desk.record(index) {
-        Ok(r) => format!(
-            "record 0 {} {} {} {} {}",
-            r.kind.number(),
-            r.handle,
-            r.id,
-            r.gpa,
-            r.length
-        ),
+        Ok(record) => {
+            let [kind, handle, id, gpa, length] = record.numbers();
+            format!("record 0 {} {} {} {} {}", kind, handle, id, gpa, length)
+        }
         Err(refused) => format!("record {} 0 0 0 0 0", refusal(refused)),
     }
 }

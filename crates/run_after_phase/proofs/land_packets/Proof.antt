@@ -16,6 +16,9 @@ usize-to-word-requires-3 c κs = search needs
 flag-requires : tie.Need-flag-requires
 flag-requires c κs = search needs
 
+u32-to-word-requires : tie.Need-u32-to-word-requires
+u32-to-word-requires c κs = search needs
+
 element-write-words : tie.Need-element-write-words
 element-write-words c = search needs
 
@@ -28,11 +31,11 @@ element-write-words-3 c = search needs
 element-write-words-4 : tie.Need-element-write-words-4
 element-write-words-4 c = search needs
 
-returns : tie.Need-returns
-returns c = search landing-packets
-
 element-write-words-5 : tie.Need-element-write-words-5
 element-write-words-5 c = search needs
+
+returns : tie.Need-returns
+returns c = search landing-packets
 
 element-write-words-6 : tie.Need-element-write-words-6
 element-write-words-6 c = search needs
@@ -51,6 +54,12 @@ element-write-words-10 c = search needs
 
 element-write-words-11 : tie.Need-element-write-words-11
 element-write-words-11 c = search needs
+
+element-write-words-12 : tie.Need-element-write-words-12
+element-write-words-12 c = search needs
+
+element-write-words-13 : tie.Need-element-write-words-13
+element-write-words-13 c = search needs
 
 returns-2 : tie.Need-returns-2
 returns-2 c = search landing-packets
@@ -75,18 +84,21 @@ land-packets-spec =
     usize-to-word-requires-2
     usize-to-word-requires-3
     flag-requires
+    u32-to-word-requires
     element-write-words
     element-write-words-2
     element-write-words-3
     element-write-words-4
-    returns
     element-write-words-5
+    returns
     element-write-words-6
     element-write-words-7
     element-write-words-8
     element-write-words-9
     element-write-words-10
     element-write-words-11
+    element-write-words-12
+    element-write-words-13
     returns-2
     fault-requires
     settle-refused-requires

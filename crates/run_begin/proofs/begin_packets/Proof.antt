@@ -1,5 +1,5 @@
 -- `begin_packets` meets its contract. Assumes nothing.
-use Rattle.run_begin.specs.Beginning.{beginning}
+use Rattle.run_begin.specs.Beginning.{begins-none, beginning}
 use borrow.Author.Needs.{needs}
 use Rattle.run_begin.proofs.begin_packets.Statement.{statement}
 use Rattle.run_begin.proofs.begin_packets.Tie as tie
@@ -37,20 +37,20 @@ element-write-words-6 c = search needs
 element-write-words-7 : tie.Need-element-write-words-7
 element-write-words-7 c = search needs
 
-cast-words : tie.Need-cast-words
-cast-words c = search needs
-
 element-write-words-8 : tie.Need-element-write-words-8
 element-write-words-8 c = search needs
+
+cast-words : tie.Need-cast-words
+cast-words c = search needs
 
 element-write-words-9 : tie.Need-element-write-words-9
 element-write-words-9 c = search needs
 
-returns : tie.Need-returns
-returns c = search beginning
-
 element-write-words-10 : tie.Need-element-write-words-10
 element-write-words-10 c = search needs
+
+returns : tie.Need-returns
+returns c = search beginning
 
 element-write-words-11 : tie.Need-element-write-words-11
 element-write-words-11 c = search needs
@@ -61,8 +61,20 @@ element-write-words-12 c = search needs
 element-write-words-13 : tie.Need-element-write-words-13
 element-write-words-13 c = search needs
 
+element-write-words-14 : tie.Need-element-write-words-14
+element-write-words-14 c = search needs
+
 returns-2 : tie.Need-returns-2
-returns-2 c = search beginning
+returns-2 c =
+    search (
+      begins-none,
+      c .if1 .left,
+      c .before .all2 .given,
+      c .before .before .all .given,
+      c .before .before .before .usize-to-word .ensures,
+      c .before .before .before .before .low32 .ensures,
+      c .before .before .before .before .before .before .before .pre,
+    )
 
 pub begin-packets-spec : {M : Type 1} → statement M
 begin-packets-spec =
@@ -79,12 +91,13 @@ begin-packets-spec =
     element-write-words-5
     element-write-words-6
     element-write-words-7
-    cast-words
     element-write-words-8
+    cast-words
     element-write-words-9
-    returns
     element-write-words-10
+    returns
     element-write-words-11
     element-write-words-12
     element-write-words-13
+    element-write-words-14
     returns-2)

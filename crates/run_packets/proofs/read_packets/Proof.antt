@@ -14,7 +14,7 @@ abbrev Inv-loop : tie.InvT-loop
 Inv-loop stream end entries n resources own₀ records₀ allowance bound p₀ units₀ own records p units =
     (units ≤ allowance)
     × (p .ending ≡ 0)
-    × RowsExist n (p .live) (p .made)
+    × RowsExist n (p .held .live) (p .held .made)
     × (runFor playing-goes (play-step (entriesOf n entries) stream end) allowance (playingOf p₀ resources own₀ records₀)
     ≡ spent units (runFor playing-goes (play-step (entriesOf n entries) stream end) (allowance - units) (playingOf p resources own records)))
 

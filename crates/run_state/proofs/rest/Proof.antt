@@ -49,6 +49,9 @@ element-write-words-14 c = search needs
 element-write-words-15 : tie.Need-element-write-words-15
 element-write-words-15 c = search needs
 
+element-write-words-16 : tie.Need-element-write-words-16
+element-write-words-16 c = search needs
+
 returns : tie.Need-returns
 returns c = search resting-words
 
@@ -71,4 +74,5 @@ rest-spec =
     element-write-words-13
     element-write-words-14
     element-write-words-15
+    element-write-words-16
     returns)

@@ -19,9 +19,10 @@ pub const TWISTS: &[PacketTwist] = &[
 ];
 
 /// Those that change the table, of which the draft must not have used an entry yet: the first packets of a submission. The smaller
-/// entry is rarely found and comes to one of three ends, so it is tried twice as often.
+/// entry is rarely found and comes to one of three ends, so it is tried three times as often.
 pub const FIRST_TWISTS: &[PacketTwist] = &[
     writeback_without_entry,
+    writeback_smaller_entry,
     writeback_smaller_entry,
     writeback_smaller_entry,
     writeback_read_only,

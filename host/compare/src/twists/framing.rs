@@ -4,7 +4,7 @@ use super::{broken, judged, kept, Aim, PacketTwist};
 use crate::draft::Draft;
 use crate::image::put32;
 use crate::numbers::error::PACKET;
-use crate::numbers::{KNOWN_PACKETS, PACKET_HEADER};
+use crate::numbers::{KNOWN_PACKETS, PACKET_HEADER, UNKNOWN_OPCODES};
 use crate::packet;
 
 pub const TWISTS: &[PacketTwist] = &[
@@ -16,13 +16,11 @@ pub const TWISTS: &[PacketTwist] = &[
     smallest_unknown,
 ];
 
-const UNKNOWN: [u32; 4] = [0, 255, 260, 262];
-
 fn some_opcode(draft: &mut Draft) -> u32 {
     if draft.random.coin() {
         draft.random.pick(&KNOWN_PACKETS).0
     } else {
-        draft.random.pick(&UNKNOWN)
+        draft.random.pick(&UNKNOWN_OPCODES)
     }
 }
 
@@ -45,7 +43,7 @@ fn size_below_header(draft: &mut Draft) -> Option<Aim> {
 
 fn size_not_of_fours(draft: &mut Draft) -> Option<Aim> {
     let size = 8 + draft.random.pick(&[1, 2, 3, 5, 33]);
-    let opcode = draft.random.pick(&UNKNOWN);
+    let opcode = draft.random.pick(&UNKNOWN_OPCODES);
     let bytes = packet::any(draft.random, opcode, size);
     draft.push(bytes);
     broken("packet: size not a multiple of 4", PACKET)
@@ -58,7 +56,7 @@ fn past_the_end(draft: &mut Draft) -> Option<Aim> {
         whole[..whole.len() - 4].to_vec()
     } else {
         let size = 8 + 4 * draft.random.within(0..=3) as u32;
-        let opcode = draft.random.pick(&UNKNOWN);
+        let opcode = draft.random.pick(&UNKNOWN_OPCODES);
         packet::any(draft.random, opcode, size)
     };
     let size = bytes.len() as u32 + 4;
@@ -78,7 +76,7 @@ fn far_past_the_end(draft: &mut Draft) -> Option<Aim> {
 }
 
 fn smallest_unknown(draft: &mut Draft) -> Option<Aim> {
-    let opcode = draft.random.pick(&UNKNOWN);
+    let opcode = draft.random.pick(&UNKNOWN_OPCODES);
     let size = draft.random.pick(&[PACKET_HEADER, PACKET_HEADER + 4]);
     let bytes = packet::any(draft.random, opcode, size);
     draft.push(bytes);

@@ -1,9 +1,12 @@
 //! Twists of a known packet's size: it is good from the table size upward (wish 2), inside the stream and in fours; else 17.
 
+use super::target::some_target;
 use super::{broken, judged, Aim, PacketTwist};
-use crate::draft::Draft;
+use crate::draft::{Draft, Resource};
+use crate::floats::NOT_A_NUMBER;
+use crate::good_state::some_viewport;
 use crate::image::put32;
-use crate::numbers::error::{HANDLE, PACKET};
+use crate::numbers::error::{HANDLE, PACKET, STATE};
 use crate::numbers::KNOWN_PACKETS;
 
 pub const TWISTS: &[PacketTwist] = &[
@@ -11,6 +14,7 @@ pub const TWISTS: &[PacketTwist] = &[
     grown_to_the_end,
     grown_not_by_fours,
     grown_and_dead,
+    grown_and_not_a_number,
 ];
 
 /// A packet is grown by at most so many words.
@@ -25,6 +29,10 @@ const LEAST_SIZE: Names = [
     "destroy: table size",
     "dirty: table size",
     "copy: table size",
+    "target: table size",
+    "viewport: table size",
+    "scissor: table size",
+    "clear: table size",
 ];
 
 const TO_THE_END: Names = [
@@ -33,6 +41,10 @@ const TO_THE_END: Names = [
     "destroy: grown to the end of the stream",
     "dirty: grown to the end of the stream",
     "copy: grown to the end of the stream",
+    "target: grown to the end of the stream",
+    "viewport: grown to the end of the stream",
+    "scissor: grown to the end of the stream",
+    "clear: grown to the end of the stream",
 ];
 
 /// Puts in a known packet that is believed to pass, and says which of them it is.
@@ -43,13 +55,25 @@ fn known_packet(draft: &mut Draft) -> Option<usize> {
     }
     let which = draft.random.index(KNOWN_PACKETS.len());
     match which {
-        0 => draft.any_buffer(),
-        1 => draft.any_texture(),
-        2 => draft.any_destroy(),
-        3 => draft.any_dirty(),
-        _ => draft.any_copy(),
+        0 => draft.any_buffer().map(drop),
+        1 => draft.any_texture().map(drop),
+        2 => draft.any_destroy().map(drop),
+        3 => some_dirty(draft).map(drop),
+        4 => draft.any_copy().map(drop),
+        5 => some_target(draft).map(drop),
+        6 => draft.any_viewport(),
+        7 => some_target(draft).and_then(|_| draft.any_scissor()),
+        _ => draft.any_clear(),
     }?;
     Some(which)
+}
+
+/// A dirty range, of a buffer made for it if nothing else is covered.
+fn some_dirty(draft: &mut Draft) -> Option<Resource> {
+    draft.any_dirty().or_else(|| {
+        draft.backed_buffer()?;
+        draft.any_dirty()
+    })
 }
 
 /// 4 to 64.
@@ -68,7 +92,7 @@ fn claim(draft: &mut Draft, more: u32) -> Option<()> {
 /// Grown, and the packet behind it stands at its end; or shorter by a word.
 fn least_size(draft: &mut Draft) -> Option<Aim> {
     let which = known_packet(draft)?;
-    let good = draft.random.percent(60);
+    let good = draft.random.coin();
     if good {
         let bytes = some_bytes(draft);
         draft.grow_last(bytes);
@@ -102,9 +126,10 @@ fn grown_not_by_fours(draft: &mut Draft) -> Option<Aim> {
 /// A grown packet is still held to its own rules; those of its size come first.
 fn grown_and_dead(draft: &mut Draft) -> Option<Aim> {
     let handle = draft.dead_handle()?;
-    match draft.random.within(0..=2) {
+    match draft.random.within(0..=3) {
         0 => draft.destroy(handle),
         1 => draft.dirty(handle, 0, 0),
+        2 => draft.set_target(handle),
         _ => draft.create_buffer(0, 1, Default::default()),
     }
     let bytes = some_bytes(draft);
@@ -115,4 +140,20 @@ fn grown_and_dead(draft: &mut Draft) -> Option<Aim> {
         return broken("packet: 17 of a grown one before 18", PACKET);
     }
     broken("packet: 18 of a grown one", HANDLE)
+}
+
+/// The same of 30.
+fn grown_and_not_a_number(draft: &mut Draft) -> Option<Aim> {
+    let mut viewport = some_viewport(draft.random);
+    let field = draft.random.index(viewport.len());
+    viewport[field] = NOT_A_NUMBER;
+    draft.viewport(viewport);
+    let bytes = some_bytes(draft);
+    draft.grow_last(bytes);
+    if draft.random.coin() {
+        draft.closed = true;
+        claim(draft, 4)?;
+        return broken("packet: 17 of a grown one before 30", PACKET);
+    }
+    broken("packet: 30 of a grown one", STATE)
 }

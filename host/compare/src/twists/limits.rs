@@ -2,9 +2,12 @@
 
 use super::{broken, judged, kept, Aim, PacketTwist};
 use crate::draft::{Draft, Resource};
-use crate::numbers::error::{BACKING, HANDLE, LIMIT, NO_ENTRY, READ_ONLY, RESOURCE_RANGE, SHAPE};
+use crate::good_state::some_scissor;
+use crate::numbers::error::{
+    BACKING, HANDLE, LIMIT, NO_ENTRY, READ_ONLY, RESOURCE_RANGE, SHAPE, STATE,
+};
 use crate::numbers::{MOST_RECORDS, MOST_RESOURCES, WRITEBACK};
-use crate::packet::{Backing, Copying};
+use crate::packet::{Backing, Copying, Scissor};
 
 pub const TWISTS: &[PacketTwist] = &[
     resources,
@@ -14,6 +17,9 @@ pub const TWISTS: &[PacketTwist] = &[
     dirty_records,
     dirty_past_the_end_and_records,
     copy_records,
+    scissor_records,
+    scissor_records,
+    scissor_faults_and_records,
     records_without_records,
 ];
 
@@ -143,6 +149,47 @@ fn copy_records(draft: &mut Draft) -> Option<Aim> {
     judged("copy: 64 records", fits, LIMIT)
 }
 
+/// A target, and so many records: all of them scissors, or ranges and a scissor or two. Empty clips count as well.
+fn fill_with_scissors(draft: &mut Draft, most: usize) -> Option<Resource> {
+    if draft.random.coin() {
+        fill_records(draft, most.checked_sub(2)?)?;
+    }
+    let missing = most.checked_sub(draft.records + 1)?;
+    if !draft.has_room(missing * 24 + 5 * 56) {
+        return None;
+    }
+    let texture = draft.any_texture()?;
+    draft.set_target(texture.handle);
+    while draft.records < most {
+        draft.any_scissor()?;
+    }
+    Some(texture)
+}
+
+fn scissor_records(draft: &mut Draft) -> Option<Aim> {
+    let (records, fits) = about(draft, MOST_RECORDS);
+    let texture = fill_with_scissors(draft, records)?;
+    let scissor = some_scissor(draft.random, texture);
+    draft.scissor(scissor);
+    judged("scissor: 64 records", fits, LIMIT)
+}
+
+/// 30 comes before the limit, for both of a scissor's rules.
+fn scissor_faults_and_records(draft: &mut Draft) -> Option<Aim> {
+    let texture = fill_with_scissors(draft, MOST_RECORDS)?;
+    let scissor = some_scissor(draft.random, texture);
+    if draft.random.coin() {
+        draft.scissor(Scissor {
+            height: -1,
+            ..scissor
+        });
+        return broken("scissor: its sides before the 64 records", STATE);
+    }
+    draft.destroy(texture.handle);
+    draft.scissor(scissor);
+    broken("scissor: no target before the 64 records", STATE)
+}
+
 /// What makes no record is not held to their limit.
 fn records_without_records(draft: &mut Draft) -> Option<Aim> {
     let from = draft.host_buffer()?;
@@ -155,13 +202,15 @@ fn records_without_records(draft: &mut Draft) -> Option<Aim> {
         size: 0,
         flags: 0,
     };
-    match draft.random.within(0..=3) {
+    match draft.random.within(0..=5) {
         0 => draft.dirty(to.handle, 1, 0),
         1 if draft.writable(&to) => draft.copy(Copying {
             flags: WRITEBACK,
             ..copying
         }),
         2 => draft.copy(Copying { size: 1, ..copying }),
+        3 => draft.any_viewport()?,
+        4 => draft.any_clear()?,
         _ => {
             draft.host_buffer()?;
         }

@@ -2,10 +2,20 @@
 
 use crate::draft::Draft;
 use crate::exports::some_shape;
-use crate::packet::{Backing, Copying};
+use crate::floats;
+use crate::good_state::{some_clear, some_viewport};
+use crate::packet::{Backing, Clear, Copying, Scissor};
 
 /// Puts in a packet whose fields are good or bad each by itself.
 pub fn muddled(draft: &mut Draft) {
+    if draft.random.percent(30) {
+        muddled_state(draft);
+    } else {
+        muddled_resource(draft);
+    }
+}
+
+fn muddled_resource(draft: &mut Draft) {
     match draft.random.within(0..=4) {
         0 => {
             let (handle, backing) = (some_new_handle(draft), some_backing(draft));
@@ -39,6 +49,55 @@ pub fn muddled(draft: &mut Draft) {
             };
             draft.copy(copying);
         }
+    }
+}
+
+fn muddled_state(draft: &mut Draft) {
+    match draft.random.within(0..=3) {
+        0 => {
+            let handle = some_old_handle(draft);
+            draft.set_target(handle);
+        }
+        1 => {
+            let viewport = some_viewport(draft.random).map(|good| some_float(draft, good));
+            draft.viewport(viewport);
+        }
+        2 => {
+            let [x, y, width, height] = [(); 4].map(|()| some_whole_number(draft));
+            draft.scissor(Scissor {
+                x,
+                y,
+                width,
+                height,
+            });
+        }
+        _ => {
+            let good = some_clear(draft.random);
+            let clear = Clear {
+                flags: draft.random.pick(&[0, 1, 7, 7, 8, u32::MAX]),
+                colour: good.colour.map(|part| some_float(draft, part)),
+                depth: some_float(draft, good.depth),
+                stencil: good.stencil,
+            };
+            draft.clear(clear);
+        }
+    }
+}
+
+/// The good one, or any.
+fn some_float(draft: &mut Draft, good: u32) -> u32 {
+    if draft.random.percent(80) {
+        good
+    } else {
+        floats::any(draft.random)
+    }
+}
+
+fn some_whole_number(draft: &mut Draft) -> i32 {
+    match draft.random.within(0..=3) {
+        0 => draft.random.word() as i32,
+        1 => draft.random.pick(&[i32::MIN, -1, i32::MAX]),
+        _ => draft.random.within(0..=30) as i32,
     }
 }
 

@@ -105,6 +105,12 @@ fn every_packet_error_gives_the_packets_offset() {
         (copy((1, 1), (2, 0), 256, 0), 24),
         (dirty(2, 0, 1), 25),
         (copy((1, 0), (1, 0), 1, 0), 26),
+        (sized(target(1), 12), 17),
+        (target(1), 18),
+        (target(9), 18),
+        (viewport([0; 6]), 30),
+        (scissor((0, 0), (1, 1)), 30),
+        (clear(8, [0; 4], 0, 0), 30),
     ] {
         let mut packets = before.to_vec();
         packets.push(bad);
@@ -177,6 +183,9 @@ fn the_19_of_a_packet_gives_its_offset() {
     let mut records = vec![create_buffer(1, 64, 5, 0)];
     records.extend((0..64).map(|i| dirty(1, i, 1)));
     assert_eq!(judged(&records), (19, 24 + 40 + 63 * 32));
+    let mut scissors = vec![create_texture(1, (1, 5, 3, 1, 1, 0), 0, 0), target(1)];
+    scissors.extend((0..65).map(|_| scissor((0, 0), (1, 1))));
+    assert_eq!(judged(&scissors), (19, 24 + 56 + 16 + 64 * 24));
 }
 
 /// A change to a scene, and the error it gives.

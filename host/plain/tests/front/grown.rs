@@ -7,6 +7,9 @@ const ENTRIES: [Entry; 2] = [(5, 0, 8192, 4096), (6, 1, 12_288, 4096)];
 /// The units before the first packet: the opening and the entries.
 const BEFORE: u16 = 1 + ENTRIES.len() as u16;
 
+/// The bits of 1.0.
+const ONE: u32 = 0x3F80_0000;
+
 /// Good packets, in this order, of every known opcode and of table size.
 fn night() -> Vec<Vec<u8>> {
     vec![
@@ -15,6 +18,10 @@ fn night() -> Vec<Vec<u8>> {
         create_texture(3, (1, 5, 3, 3, 2, 20), 6, 512),
         dirty(3, 16, 32),
         copy((1, 8), (2, 0), 64, 1),
+        target(3),
+        viewport([0, 0, ONE, ONE, 0, ONE]),
+        scissor((-1, 1), (4, 9)),
+        clear(7, [0, ONE, ONE, 0], ONE, 9),
         destroy(2),
     ]
 }
@@ -58,14 +65,15 @@ fn the_night_has_every_known_opcode_and_passes() {
     let mut opcodes: Vec<u32> = night().iter().map(|packet| get32(packet, 0)).collect();
     opcodes.sort_unstable();
     opcodes.dedup();
-    assert_eq!(opcodes, [256, 257, 258, 259, 261]);
+    assert_eq!(opcodes, [256, 257, 258, 259, 261, 1024, 1025, 1026, 1536]);
     let (verdict, records, _) = outcome(&night());
-    assert_eq!(verdict, ends_with(0, 5));
+    assert_eq!(verdict, ends_with(0, 9));
     let expected = [
         record(1, 1, 5, 8256, 256),
         record(1, 3, 6, 12_800, 144),
         record(2, 3, 6, 12_816, 32),
         record(3, 1, 5, 8264, 64),
+        record(4, 0, 1, 3, 2),
     ];
     assert_eq!(records, expected);
 }
@@ -182,22 +190,26 @@ fn sizes_are_multiples_of_4() {
 
 #[test]
 fn sizes_come_before_the_packets_own_rules() {
-    for bad in [
-        create_buffer(0, 0, 9, 0),
-        create_texture(0, (4, 0, 0, 0, 0, 0), 9, 0),
-        destroy(0),
-        dirty(0, 9, 9),
-        copy((0, 9), (0, 9), 9, 2),
+    for (bad, own) in [
+        (create_buffer(0, 0, 9, 0), 18),
+        (create_texture(0, (4, 0, 0, 0, 0, 0), 9, 0), 18),
+        (destroy(0), 18),
+        (dirty(0, 9, 9), 18),
+        (copy((0, 9), (0, 9), 9, 2), 18),
+        (target(0), 18),
+        (viewport([0; 6]), 30),
+        (scissor((0, 0), (-1, -1)), 30),
+        (clear(8, [0; 4], 0, 0), 30),
     ] {
         let least = size(&bad);
         let long = grown(bad, &[0xDD; 64]);
         for (size, error) in [
             (least - 4, 17),
-            (least, 18),
+            (least, own),
             (least + 1, 17),
-            (least + 4, 18),
+            (least + 4, own),
             (least + 63, 17),
-            (least + 64, 18),
+            (least + 64, own),
             (least + 68, 17),
         ] {
             assert_eq!(judged(&[sized(long.clone(), size)]), ends_with(error, 0));
@@ -205,9 +217,9 @@ fn sizes_come_before_the_packets_own_rules() {
     }
 }
 
-#[test]
-fn grown_packets_keep_their_own_refusals() {
-    let cases = [
+/// Packets that break rules of their own after the buffers 1, 2 and 4.
+fn refusals() -> Vec<(Vec<u8>, u32)> {
+    vec![
         (create_buffer(1, 16, 0, 0), 18),
         (create_texture(1, (1, 1, 1, 1, 1, 4), 0, 0), 18),
         (create_buffer(9, 0, 0, 0), 20),
@@ -226,8 +238,16 @@ fn grown_packets_keep_their_own_refusals() {
         (copy((1, 1), (2, 0), 256, 0), 24),
         (copy((2, 0), (1, 0), 1, 1), 25),
         (copy((4, 0), (1, 0), 1, 1), 23),
-    ];
-    for (packet, error) in cases {
+        (target(1), 18),
+        (viewport([0; 6]), 30),
+        (scissor((0, 0), (1, 1)), 30),
+        (clear(8, [0; 4], 0, 0), 30),
+    ]
+}
+
+#[test]
+fn grown_packets_keep_their_own_refusals() {
+    for (packet, error) in refusals() {
         let after = |packet| {
             vec![
                 create_buffer(1, 256, 5, 64),
@@ -322,7 +342,7 @@ fn growing_asks_no_version() {
         for place in [RING, TABLE, STREAM] {
             let mut scene = Scene::with(&ENTRIES, &packets);
             scene.put32(place + 4, 1 << 16 | minor);
-            assert_eq!(scene.verdict(), ends_with(0, 5));
+            assert_eq!(scene.verdict(), ends_with(0, 9));
             assert_eq!((scene.read(0x004), scene.read(0x008)), (65_539, 7));
         }
     }

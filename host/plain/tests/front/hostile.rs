@@ -1,7 +1,7 @@
 //! Random and hostile input: nothing panics, and slices do not matter.
 
 use crate::scene::*;
-use plain::{packed_size, table_error, table_place, Desk, Ended};
+use plain::{packed_size, table_error, table_place, Desk, Ended, Record};
 
 /// A small generator, good enough to move bytes about (SplitMix64).
 struct Random(u64);
@@ -53,7 +53,7 @@ impl Random {
     fn known_packet(&mut self) -> Vec<u8> {
         let handle = self.below(6) as u32;
         let id = self.below(5) as u32;
-        match self.below(11) {
+        match self.below(15) {
             0..=2 => create_buffer(handle, 1 + self.below(256), id, self.below(64) as u32),
             3 => create_buffer(handle, self.number(), id, self.number() as u32),
             4 => {
@@ -76,12 +76,50 @@ impl Random {
                 self.below(64),
                 self.below(2) as u32,
             ),
-            _ => copy(
+            10 => copy(
                 (handle, self.number()),
                 (self.below(6) as u32, self.number()),
                 self.number(),
                 self.below(3) as u32,
             ),
+            _ => self.state_packet(handle),
+        }
+    }
+
+    fn state_packet(&mut self, handle: u32) -> Vec<u8> {
+        match self.below(6) {
+            0 => viewport([0; 6].map(|_| self.float())),
+            1 => clear(
+                self.below(9) as u32,
+                [0; 4].map(|_| self.float()),
+                self.float(),
+                self.next() as u32,
+            ),
+            2 => scissor(
+                (self.number() as i32, self.number() as i32),
+                (self.number() as i32, self.number() as i32),
+            ),
+            3 => self.small_scissor(),
+            _ => target(handle),
+        }
+    }
+
+    fn small_scissor(&mut self) -> Vec<u8> {
+        scissor(
+            (self.below(9) as i32 - 4, self.below(9) as i32 - 4),
+            (self.below(9) as i32, self.below(9) as i32),
+        )
+    }
+
+    /// The bits of a float: mostly good as a depth, sometimes near an edge,
+    /// sometimes anything.
+    fn float(&mut self) -> u32 {
+        match self.below(12) {
+            0 => self.next() as u32,
+            1 => [0u32, 0x8000_0000, 0x3F80_0000, 0x7F80_0000][self.below(4) as usize]
+                .wrapping_add(self.below(3) as u32)
+                .wrapping_sub(1),
+            _ => [0x3F00_0000, 0x3F80_0000][self.below(2) as usize],
         }
     }
 
@@ -99,9 +137,21 @@ impl Random {
             .collect()
     }
 
+    /// No packets, or a texture that is made and is the target, and a scissor.
+    fn maybe_target(&mut self) -> Vec<Vec<u8>> {
+        if self.below(3) == 0 {
+            let handle = 6 + self.below(1000) as u32;
+            let texture = create_texture(handle, (1, 5, 3, 1, 1, 0), 0, 0);
+            vec![texture, target(handle), self.small_scissor()]
+        } else {
+            Vec::new()
+        }
+    }
+
     fn submission(&mut self, scene: &mut Scene) {
         let entries = self.entries();
-        let packets: Vec<Vec<u8>> = (0..self.below(8)).map(|_| self.packet()).collect();
+        let mut packets = self.maybe_target();
+        packets.extend((0..self.below(8)).map(|_| self.packet()));
         let fence = self.below(50);
         scene.submit(&entries, &packets, fence);
     }
@@ -137,7 +187,7 @@ fn disturb(random: &mut Random, scene: &mut Scene) {
 #[test]
 fn slices_do_not_matter() {
     let mut waits = 0;
-    let mut errors = [0; 28];
+    let mut errors = [0; 31];
     for seed in 0..60 {
         let mut random = Random(seed);
         let mut whole = Scene::new();
@@ -165,7 +215,7 @@ fn slices_do_not_matter() {
     }
     assert!(waits > 500, "waits {}", waits);
     let seen = errors.iter().filter(|count| **count > 0).count();
-    assert!(seen > 14, "errors {:?}", errors);
+    assert!(seen > 15 && errors[30] > 0, "errors {:?}", errors);
 }
 
 #[test]
@@ -228,16 +278,15 @@ fn without_place(scene: &Scene) -> Desk {
 #[test]
 fn grown_packets_do_what_those_of_table_size_do() {
     let mut waits = 0;
-    let mut errors = [0; 28];
+    let mut errors = [0; 31];
     for seed in 200..260 {
         let mut random = Random(seed);
         let mut short = Scene::new();
         let mut long = Scene::new();
         for fence in 1..=200 {
             let entries = random.entries();
-            let packets: Vec<Vec<u8>> = (0..random.below(8))
-                .map(|_| random.known_packet())
-                .collect();
+            let mut packets = random.maybe_target();
+            packets.extend((0..random.below(8)).map(|_| random.known_packet()));
             let longer: Vec<Vec<u8>> = packets
                 .iter()
                 .map(|packet| random.grow(packet.clone()))
@@ -263,11 +312,12 @@ fn grown_packets_do_what_those_of_table_size_do() {
     assert!(waits > 500, "waits {}", waits);
     assert_eq!(errors[17], 0);
     let seen = errors.iter().filter(|count| **count > 0).count();
-    assert!(seen > 9, "errors {:?}", errors);
+    assert!(seen > 10 && errors[30] > 0, "errors {:?}", errors);
 }
 
 #[test]
-fn records_stay_within_memory() {
+fn ranges_stay_within_memory_and_scissors_within_textures() {
+    let mut scissors = 0;
     for seed in 100..140 {
         let mut random = Random(seed);
         let mut scene = Scene::new();
@@ -275,6 +325,11 @@ fn records_stay_within_memory() {
             disturb(&mut random, &mut scene);
             scene.run(100);
             for record in scene.records() {
+                if record.kind == 4 {
+                    scissors += 1;
+                    assert_within_a_texture(&record);
+                    continue;
+                }
                 assert!(record.length > 0);
                 assert!(record.gpa + record.length <= MEMORY as u64);
                 assert!((1..=3).contains(&record.kind));
@@ -282,6 +337,16 @@ fn records_stay_within_memory() {
             }
         }
     }
+    assert!(scissors > 20, "scissors {}", scissors);
+}
+
+/// No texture of these tests has a side above 8.
+fn assert_within_a_texture(scissor: &Record) {
+    let right = u64::from(scissor.handle) + scissor.gpa;
+    let bottom = u64::from(scissor.id) + scissor.length;
+    let is_empty = scissor.gpa == 0 || scissor.length == 0;
+    assert!(right <= 8 && bottom <= 8);
+    assert!(!is_empty || *scissor == record(4, 0, 0, 0, 0));
 }
 
 #[test]

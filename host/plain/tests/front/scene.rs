@@ -143,6 +143,42 @@ pub fn copy(dst: (u32, u64), src: (u32, u64), size: u64, flags: u32) -> Vec<u8> 
     bytes
 }
 
+pub fn target(handle: u32) -> Vec<u8> {
+    let mut bytes = packet(1024, 16);
+    put32(&mut bytes, 8, handle);
+    bytes
+}
+
+/// X, y, width, height, near and far, each by its bits.
+pub fn viewport(floats: [u32; 6]) -> Vec<u8> {
+    let mut bytes = packet(1025, 32);
+    for (i, bits) in floats.iter().enumerate() {
+        put32(&mut bytes, 8 + 4 * i, *bits);
+    }
+    bytes
+}
+
+pub fn scissor(corner: (i32, i32), sides: (i32, i32)) -> Vec<u8> {
+    let mut bytes = packet(1026, 24);
+    put32(&mut bytes, 8, corner.0 as u32);
+    put32(&mut bytes, 12, corner.1 as u32);
+    put32(&mut bytes, 16, sides.0 as u32);
+    put32(&mut bytes, 20, sides.1 as u32);
+    bytes
+}
+
+/// The colour and the depth by their bits.
+pub fn clear(flags: u32, colour: [u32; 4], depth: u32, stencil: u32) -> Vec<u8> {
+    let mut bytes = packet(1536, 36);
+    put32(&mut bytes, 8, flags);
+    for (i, bits) in colour.iter().enumerate() {
+        put32(&mut bytes, 12 + 4 * i, *bits);
+    }
+    put32(&mut bytes, 28, depth);
+    put32(&mut bytes, 32, stencil);
+    bytes
+}
+
 pub fn record(kind: u32, handle: u32, id: u32, gpa: u64, length: u64) -> Record {
     Record {
         kind,

@@ -1,7 +1,8 @@
-//! The sample night: six submissions of one guest, written as a desk script and played like one, each line of the transcript
+//! The sample night: eight submissions of one guest, written as a desk script and played like one, each line of the transcript
 //! with what it means.
 use std::io::{self, Write};
-use zelezmut::guest::{self, Backing, Descriptor, Entry, Packet, Part, Shape};
+use zelezmut::guest::{self, Backing, Clear, Descriptor, Entry, Packet, Part};
+use zelezmut::guest::{Scissor, Shape, Viewport};
 use zelezmut::script::{self, Operation};
 use zelezmut::{registers, HostAnswer};
 
@@ -41,6 +42,31 @@ const WALLPAPER: Shape = Shape {
     mips: 1,
     layers: 1,
     pitch: 128,
+};
+
+/// As large as the wallpaper.
+const WHOLE: Viewport = Viewport {
+    x: 0.0,
+    y: 0.0,
+    width: 32.0,
+    height: 16.0,
+    near: 0.0,
+    far: 1.0,
+};
+
+/// Its corner lies eight columns left of the wallpaper, and it ends far below.
+const STRIP: Scissor = Scissor {
+    x: -8,
+    y: 4,
+    width: 24,
+    height: 100,
+};
+
+const BLUE: Clear = Clear {
+    flags: 1,
+    colour: [0.0, 0.0, 1.0, 1.0],
+    depth: 1.0,
+    stencil: 0,
 };
 
 /// An operation, and what its line means.
@@ -366,7 +392,7 @@ fn refused_at_an_entry() -> Scene {
     }
 }
 
-fn last() -> Scene {
+fn kept_alive() -> Scene {
     let mut steps = submit(
         6,
         &[Packet::DirtyRange {
@@ -392,6 +418,56 @@ fn last() -> Scene {
             registers::ERROR_DETAIL,
             "detail: the last error's, until there is another",
         ),
+    ]);
+    Scene {
+        heading: "Submission 6 shows that none of these endings undid the texture.",
+        steps,
+    }
+}
+
+fn drawing() -> Scene {
+    let mut steps = submit(
+        7,
+        &[
+            Packet::Target { handle: TEXTURE },
+            Packet::Viewport(WHOLE),
+            Packet::Scissor(STRIP),
+            Packet::Clear(BLUE),
+        ],
+        "a stream: target texture 1; a viewport; a scissor, 24 by 100 at -8, 4; a clear",
+    );
+    steps.extend([
+        run(100, "seven units: opening, two entries, four packets"),
+        record(
+            0,
+            "kind 4: of the scissor, 16 by 12 pixels at 0, 4 lie on the texture",
+        ),
+        record(1, "the other three make no record: answer 4"),
+        answer(HostAnswer::Good, 100, "good, and no more work"),
+    ]);
+    Scene {
+        heading: "Submission 7 draws on the texture: a scissor is clipped to it.",
+        steps,
+    }
+}
+
+fn without_a_target() -> Scene {
+    let mut steps = submit(
+        8,
+        &[Packet::Viewport(WHOLE), Packet::Scissor(STRIP)],
+        "a stream: the viewport and the scissor again, and no target",
+    );
+    steps.extend([
+        run(100, "five units to the refusal; a sixth finds no more work"),
+        read(
+            registers::ERROR_CODE,
+            "error 30: the target of submission 7 ended with it, and a scissor needs one",
+        ),
+        read(
+            registers::ERROR_DETAIL,
+            "detail: the packet 56 bytes into the stream; the viewport before it is good",
+        ),
+        read(registers::ERROR_COUNT, "the fourth error of the night"),
         answer(
             HostAnswer::Good,
             100,
@@ -403,7 +479,7 @@ fn last() -> Scene {
         ),
     ]);
     Scene {
-        heading: "Submission 6 shows that none of these endings undid the texture.",
+        heading: "Submission 8 is refused: its scissor has no target.",
         steps,
     }
 }
@@ -416,7 +492,9 @@ fn night() -> Vec<Scene> {
         refused_at_a_packet(),
         failed(),
         refused_at_an_entry(),
-        last(),
+        kept_alive(),
+        drawing(),
+        without_a_target(),
     ]
 }
 

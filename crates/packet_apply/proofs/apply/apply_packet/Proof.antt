@@ -1,5 +1,6 @@
-use Rattle.packet_apply.specs.Apply.{applying}
+-- `apply_packet` meets its contract. Assumes nothing.
 use borrow.Author.Needs.{needs}
+use Rattle.packet_apply.specs.Apply.{applying}
 use Rattle.packet_apply.proofs.apply.apply_packet.Statement.{statement}
 use Rattle.packet_apply.proofs.apply.apply_packet.Tie as tie
 
@@ -33,8 +34,47 @@ enum-known-p-5 c = search needs
 copy-requires : tie.Need-copy-requires
 copy-requires c κs = search needs
 
+enum-known-p-6 : tie.Need-enum-known-p-6
+enum-known-p-6 c = search needs
+
+aim-requires : tie.Need-aim-requires
+aim-requires c κs = search needs
+
+enum-known-p-7 : tie.Need-enum-known-p-7
+enum-known-p-7 c = search needs
+
+on-viewport-requires : tie.Need-on-viewport-requires
+on-viewport-requires c κs = search needs
+
+with-own-requires : tie.Need-with-own-requires
+with-own-requires c κs = search needs
+
+enum-known-p-8 : tie.Need-enum-known-p-8
+enum-known-p-8 c = search needs
+
+cut-requires : tie.Need-cut-requires
+cut-requires c κs = search needs
+
+enum-known-p-9 : tie.Need-enum-known-p-9
+enum-known-p-9 c = search needs
+
+on-clear-requires : tie.Need-on-clear-requires
+on-clear-requires c κs = search needs
+
+with-own-requires-2 : tie.Need-with-own-requires-2
+with-own-requires-2 c κs = search needs
+
 enum-told : tie.Need-enum-told
 enum-told c = search needs
+
+refuse-requires : tie.Need-refuse-requires
+refuse-requires c κs = search needs
+
+with-own-requires-3 : tie.Need-with-own-requires-3
+with-own-requires-3 c κs = search needs
+
+enum-told-2 : tie.Need-enum-told-2
+enum-told-2 c = search needs
 
 returns : tie.Need-returns
 returns c = search applying
@@ -54,6 +94,21 @@ returns-5 c = search applying
 returns-6 : tie.Need-returns-6
 returns-6 c = search applying
 
+returns-7 : tie.Need-returns-7
+returns-7 c = search applying
+
+returns-8 : tie.Need-returns-8
+returns-8 c = search applying
+
+returns-9 : tie.Need-returns-9
+returns-9 c = search applying
+
+returns-10 : tie.Need-returns-10
+returns-10 c = search applying
+
+returns-11 : tie.Need-returns-11
+returns-11 c = search applying
+
 pub apply-packet-spec : {M : Type 1} → statement M
 apply-packet-spec =
     tie.close
@@ -68,10 +123,28 @@ apply-packet-spec =
     dirty-requires
     enum-known-p-5
     copy-requires
+    enum-known-p-6
+    aim-requires
+    enum-known-p-7
+    on-viewport-requires
+    with-own-requires
+    enum-known-p-8
+    cut-requires
+    enum-known-p-9
+    on-clear-requires
+    with-own-requires-2
     enum-told
+    refuse-requires
+    with-own-requires-3
+    enum-told-2
     returns
     returns-2
     returns-3
     returns-4
     returns-5
-    returns-6)
+    returns-6
+    returns-7
+    returns-8
+    returns-9
+    returns-10
+    returns-11)

@@ -1,5 +1,6 @@
-use Rattle.packet_apply.specs.Apply.{reading-resources}
+-- `copy` meets its contract. Assumes nothing.
 use borrow.Author.Needs.{needs}
+use Rattle.packet_apply.specs.Apply.{reading-resources}
 use Rattle.packet_apply.proofs.apply.copy.Statement.{statement}
 use Rattle.packet_apply.proofs.apply.copy.Tie as tie
 

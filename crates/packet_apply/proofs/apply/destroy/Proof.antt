@@ -1,5 +1,6 @@
-use Rattle.packet_apply.specs.Apply.{changing}
+-- `destroy` meets its contract. Assumes nothing.
 use borrow.Author.Needs.{needs}
+use Rattle.packet_apply.specs.Apply.{changing}
 use Rattle.packet_apply.proofs.apply.destroy.Statement.{statement}
 use Rattle.packet_apply.proofs.apply.destroy.Tie as tie
 
@@ -9,6 +10,12 @@ take-own-requires c κs = search needs
 on-destroy-requires : tie.Need-on-destroy-requires
 on-destroy-requires c κs = search needs
 
+without-requires : tie.Need-without-requires
+without-requires c κs = search needs
+
+if-fine-requires : tie.Need-if-fine-requires
+if-fine-requires c κs = search needs
+
 with-own-requires : tie.Need-with-own-requires
 with-own-requires c κs = search needs
 
@@ -16,4 +23,12 @@ returns : tie.Need-returns
 returns c = search changing
 
 pub destroy-spec : {M : Type 1} → statement M
-destroy-spec = tie.close (tie.spec take-own-requires on-destroy-requires with-own-requires returns)
+destroy-spec =
+    tie.close
+    (tie.spec
+    take-own-requires
+    on-destroy-requires
+    without-requires
+    if-fine-requires
+    with-own-requires
+    returns)

@@ -1,5 +1,6 @@
-use Rattle.packet_apply.specs.Apply.{reading-resources}
+-- `dirty` meets its contract. Assumes nothing.
 use borrow.Author.Needs.{needs}
+use Rattle.packet_apply.specs.Apply.{reading-resources}
 use Rattle.packet_apply.proofs.apply.dirty.Statement.{statement}
 use Rattle.packet_apply.proofs.apply.dirty.Tie as tie
 

@@ -1,11 +1,14 @@
--- `unknown_size` meets its contract, a law for each answer. Assumes nothing.
-use Rattle.stream_packets.specs.Framing.{passing}
+-- `unknown_size` meets its contract. Assumes nothing.
 use borrow.Author.Needs.{needs}
+use Rattle.stream_packets.specs.Framing.{passing}
 use Rattle.stream_packets.proofs.framing.unknown_size.Statement.{statement}
 use Rattle.stream_packets.proofs.framing.unknown_size.Tie as tie
 
 u32-at-requires : tie.Need-u32-at-requires
 u32-at-requires c κs = search needs
+
+may-be-known-requires : tie.Need-may-be-known-requires
+may-be-known-requires c κs = search needs
 
 returns : tie.Need-returns
 returns c = search passing
@@ -36,6 +39,7 @@ unknown-size-spec =
     tie.close
     (tie.spec
     u32-at-requires
+    may-be-known-requires
     returns
     add-u32-at
     u32-at-requires-2

@@ -1,0 +1,47 @@
+-- `bad_values` meets its contract, a law for each end. Assumes nothing.
+use Rattle.packet_state.specs.Values.{judging}
+use borrow.Author.Needs.{needs}
+use Rattle.packet_state.proofs.values.bad_values.Statement.{statement}
+use Rattle.packet_state.proofs.values.bad_values.Tie as tie
+use Rattle.floats.proofs.not_finite.Reads as not-finite-reads
+
+either-not-finite-requires : tie.Need-either-not-finite-requires
+either-not-finite-requires c κs = search needs
+
+returns : tie.Need-returns
+returns c = search judging
+
+either-not-finite-requires-2 : tie.Need-either-not-finite-requires-2
+either-not-finite-requires-2 c κs = search needs
+
+returns-2 : tie.Need-returns-2
+returns-2 c = search judging
+
+not-finite-requires : tie.Need-not-finite-requires
+not-finite-requires c κs = search needs
+
+returns-3 : tie.Need-returns-3
+returns-3 c = search judging
+
+outside-requires : tie.Need-outside-requires
+outside-requires c κs = search needs
+
+returns-4 : tie.Need-returns-4
+returns-4 c = search judging
+
+returns-5 : tie.Need-returns-5
+returns-5 c = search judging
+
+pub bad-values-spec : {M : Type 1} → statement M
+bad-values-spec =
+    tie.close
+    (tie.spec
+    either-not-finite-requires
+    returns
+    either-not-finite-requires-2
+    returns-2
+    not-finite-requires
+    returns-3
+    outside-requires
+    returns-4
+    returns-5)

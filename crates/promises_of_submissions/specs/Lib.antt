@@ -1,0 +1,16 @@
+pub mod Whole
+pub mod LentBytes
+pub mod Submission
+pub mod Slices
+pub mod AnyRegisters
+pub mod Night
+pub mod LocalBytes
+pub mod LocalWrites
+pub mod LocalPackets
+pub mod LocalOpening
+pub mod Locality
+pub mod Appended
+pub mod AppendedUnits
+pub mod Clipping
+pub mod FloatBits
+pub mod FloatOrder

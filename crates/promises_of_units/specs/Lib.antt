@@ -1,0 +1,17 @@
+pub mod Sound
+pub mod Fences
+pub mod Writes
+pub mod Refused
+pub mod Memory
+pub mod InMemory
+pub mod Called
+pub mod Runs
+pub mod AnswerAndRun
+pub mod Acts
+pub mod Units
+pub mod Events
+pub mod Changes
+pub mod Kept
+pub mod Tables
+pub mod Ranges
+pub mod Bytes

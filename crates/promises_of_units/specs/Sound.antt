@@ -1,0 +1,182 @@
+-- What is true of every device that was made and called, whatever bytes stood in memory: its soundness. A new device has it and
+-- every step, run and answer keeps it; Refused.antt says it of every call. Assumes nothing.
+use mathlib.Core.Path.{_≡_, refl, sym, subst}
+use mathlib.Core.Bool.{Bool, true, false}
+use mathlib.Core.List.{List, []}
+use Prim.Native.Nat.{ℕ, zero, suc, _+_, _≤_, _<_}
+use native.Mathlib.Omega.{arith}
+use borrow.Author.Tests.{ltb-true}
+use lib.Dec.{ltb, eqb}
+use lib.ListN.{length, length-append}
+use Rattle.machine.specs.Machine.{pick, run-none, run-stop, run-go}
+use Rattle.rules.specs.Numbers.{most, bad-entry, twice-in-table}
+use Rattle.rules.specs.Lists.{Found}
+use Rattle.rules.specs.Lists.Found.{none, found}
+use Rattle.rules.specs.Judging.{refusal, rule, Finding, at-place, without-place}
+use Rattle.rules.specs.Judging.Finding.{fine, broken}
+use Rattle.rules.specs.Layouts.{entry}
+use Rattle.rules.specs.Table.{entry-id, matching, is-found, entry-place, entry-rules, keep, in-reach, take-entry}
+use Rattle.rules.specs.Ring.{opening-of}
+use Rattle.rules.specs.Stream.{left}
+use Rattle.rules.specs.Packets.{Progress, at-first, take-packet}
+use Rattle.rules.specs.State.{Work, State, World, made}
+use Rattle.rules.specs.State.Work.{resting, entries, packets, waiting}
+use Rattle.rules.specs.Settle.{settled}
+use Rattle.rules.specs.Steps.{packets-at, entries-at, after-opening, open-step, after-entry, entry-step, after-packet, next-place, packet-step, step-on, step, go, run-for, answer-on, answered}
+use Rattle.rules.specs.declared.Entry.{Entry}
+use Rattle.rules.specs.declared.Resource.{Resource}
+use Rattle.rules.specs.declared.Job.{Job}
+use Rattle.rules.specs.declared.Table.{Table}
+use Rattle.rules.specs.declared.Stream.{Stream}
+use Rattle.rules.specs.declared.Opened.{Opened}
+use Rattle.rules.specs.declared.Verdict.{Verdict}
+use Rattle.rules.specs.declared.Verdict.the-variants.{Fine, Broken}
+use Rattle.rules.specs.declared.Opening.{Opening}
+use Rattle.rules.specs.declared.Opening.the-variants.{BadRing, NoWork, Refused, Started}
+use Rattle.rows.specs.Keys.{Once, once-nil, once-pushed}
+use Rattle.packet_apply.specs.Effects.{KeepsBytes}
+use Rattle.packet_apply.specs.Held.{Every, Inside, OfAKind, SoundResources, none-sound, SoundProgress, first-sound, take-sound}
+use Rattle.rule_laws.specs.Fine.{fine-later, kept-rule, both-left}
+
+-- ---- the entries of a table: at most 64, each id once
+
+pub record SoundEntries (es : List Entry) : Type 0 where
+  pub few : length es ≤ most
+  pub once : Once entry-id es
+
+no-entries : SoundEntries []
+no-entries = record { few = omega arith; once = once-nil entry-id }
+
+unfound : (f : Found Entry) → is-found f ≡ false → f ≡ none
+unfound none e = refl
+unfound (found x) e = absurd (let z : _≡_ {A = ℕ} 0 1 = cc in omega arith)
+
+module _ (m : List ℕ) (t : Table) (kept : List Entry) (s : SoundEntries kept) where
+  -- an entry that is fine has an id that no earlier one has
+  new-id : (e : Entry) → entry-rules (length m) kept e ≡ Fine → matching (e .id) kept ≡ none
+  unfolding entry-rules
+  new-id e h =
+      unfound (matching (e .id) kept)
+      (kept-rule twice-in-table _
+      (fine-later (rule bad-entry (ltb (length m) (e .gpa + e .size))) _
+      (fine-later (rule bad-entry (eqb (e .size) 0)) _
+      (fine-later (rule bad-entry (eqb (e .id) 0)) _ h))))
+
+  keep-sound : (v : Verdict) (e : Entry) → length kept < most → entry-rules (length m) kept e ≡ v → SoundEntries (keep v kept e .kept)
+  keep-sound Fine e room h =
+      record { few = simp length-append (omega arith); once = once-pushed entry-id kept e (s .once) (new-id e h) }
+  keep-sound (Broken r) e room h = s
+
+  taken-by : (b : Bool) → in-reach m t (length kept) ≡ b
+      → SoundEntries (pick b (keep (entry-rules (length m) kept (entry m (entry-place t (length kept)))) kept (entry m (entry-place t (length kept)))) (record { verdict = Broken (refusal bad-entry); kept = kept }) .kept)
+  taken-by true e = keep-sound (entry-rules (length m) kept (entry m (entry-place t (length kept)))) (entry m (entry-place t (length kept))) (ltb-true (length kept) most (both-left (ltb (length kept) most) _ e)) refl
+  taken-by false e = s
+
+  pub take-entry-sound : SoundEntries (take-entry m t kept .kept)
+  unfolding take-entry
+  take-entry-sound = taken-by (in-reach m t (length kept)) refl
+
+-- ---- the state
+
+abbrev pub SoundWork : Work → Type 0
+SoundWork resting = 0 ≤ 0
+SoundWork (entries o kept) = SoundEntries kept
+SoundWork (packets j s at es h) = SoundEntries es × SoundProgress es h
+SoundWork (waiting j es h) = SoundEntries es × SoundProgress es h
+
+pub record SoundState (s : State) : Type 0 where
+  pub resources : SoundResources (s .resources)
+  pub work : SoundWork (s .work)
+
+-- a new device is sound
+pub made-sound : (memory : ℕ) → SoundState (made memory)
+made-sound memory = record { resources = none-sound; work = omega arith }
+
+-- ---- kept by a step
+
+packets-at-sound : (j : Job) (s : Stream) (at : ℕ) (es : List Entry) (h : Progress) → SoundEntries es → SoundProgress es h → SoundWork (packets-at j s at es h)
+packets-at-sound j s at es h e k = by-test (ltb at (s .size))
+  where
+    by-test : (b : Bool) → SoundWork (pick b (packets j s at es h) (waiting j es h))
+    by-test true = (e, k)
+    by-test false = (e, k)
+
+entries-at-sound : (o : Opened) (kept : List Entry) (rs : List Resource) → SoundEntries kept → SoundResources rs → SoundWork (entries-at o kept rs)
+entries-at-sound o kept rs e r = by-test (ltb (length kept) (o .table .count))
+  where
+    by-test : (b : Bool) → SoundWork (pick b (entries o kept) (packets-at (o .job) (o .stream) 24 kept (at-first rs)))
+    by-test true = e
+    by-test false = packets-at-sound (o .job) (o .stream) 24 kept (at-first rs) e (first-sound kept rs r)
+
+settled-sound : (j : Job) (v : Finding) (rs : List Resource) (w : World) → SoundResources rs → SoundState (settled j v rs w .state)
+unfolding settled
+settled-sound j v rs w r = record { resources = r; work = omega arith }
+
+module _ (w : World) (s : SoundResources (w .state .resources)) where
+  opening-sound : (v : Opening) → SoundWork (w .state .work) → SoundState (after-opening w v .state)
+  opening-sound BadRing k = record { resources = s; work = k }
+  opening-sound NoWork k = record { resources = s; work = k }
+  opening-sound (Refused j r) k = settled-sound j (broken (without-place r)) _ w s
+  opening-sound (Started o) k = record { resources = s; work = entries-at-sound o [] (w .state .resources) no-entries s }
+
+  after-entry-sound : (o : Opened) (kept : List Entry) (v : Finding) → SoundEntries kept → SoundState (after-entry w o kept v .state)
+  after-entry-sound o kept fine e = record { resources = s; work = entries-at-sound o kept (w .state .resources) e s }
+  after-entry-sound o kept (broken f) e = settled-sound (o .job) (broken f) _ w s
+
+  after-packet-sound : (j : Job) (t : Stream) (next : ℕ) (es : List Entry) (h : Progress) (v : Finding) → SoundEntries es → SoundProgress es h → SoundState (after-packet w j t next es h v .state)
+  after-packet-sound j t next es h fine e k = record { resources = s; work = packets-at-sound j t next es h e k }
+  after-packet-sound j t next es h (broken f) e k = settled-sound j (broken f) _ w s
+
+  step-on-sound : (k : Work) → w .state .work ≡ k → SoundWork k → SoundState (step-on w k .state)
+  unfolding open-step entry-step packet-step
+  step-on-sound resting e h =
+      opening-sound (opening-of (w .mem) (w .state .regs .ring) (w .state .regs .ringsize)) (subst SoundWork (sym e) h)
+  step-on-sound (entries o kept) e h =
+      after-entry-sound o (take-entry (w .mem) (o .table) kept .kept) (at-place (length kept) (take-entry (w .mem) (o .table) kept .verdict)) (take-entry-sound (w .mem) (o .table) kept h)
+  step-on-sound (packets j t at es held) e h =
+      after-packet-sound j t (next-place at (left (w .mem) t at)) es (take-packet es held (left (w .mem) t at) .held) (at-place at (take-packet es held (left (w .mem) t at) .verdict)) (h .0)
+      (take-sound es held (h .1) (left (w .mem) t at))
+  step-on-sound (waiting j es held) e h = record { resources = s; work = subst SoundWork (sym e) h }
+
+  answer-sound : (good : Bool) (k : Work) → w .state .work ≡ k → SoundWork k → SoundState (answer-on good w k .state)
+  answer-sound good resting e h = record { resources = s; work = subst SoundWork (sym e) h }
+  answer-sound good (entries o kept) e h = record { resources = s; work = subst SoundWork (sym e) h }
+  answer-sound good (packets j t at es held) e h = record { resources = s; work = subst SoundWork (sym e) h }
+  answer-sound true (waiting j es held) e h = settled-sound j fine _ w (h .1 .holdings .resources)
+  answer-sound false (waiting j es held) e h = settled-sound j _ _ w s
+
+-- one unit keeps it, over any memory
+pub step-keeps-sound : (w : World) → SoundState (w .state) → SoundState (step w .state)
+unfolding step
+step-keeps-sound w s = step-on-sound w (s .resources) (w .state .work) refl (s .work)
+
+-- and so does a run
+pub run-keeps-sound : (n : ℕ) (w : World) → SoundState (w .state) → SoundState (run-for n w .state .state)
+run-keeps-sound zero w s = rw (run-none go step w) s
+run-keeps-sound (suc n) w s = by-test (go w) refl (run-keeps-sound n (step w) (step-keeps-sound w s))
+  where
+    by-test : (b : Bool) → go w ≡ b → SoundState (run-for n (step w) .state .state) → SoundState (run-for (suc n) w .state .state)
+    by-test true g k = rw (run-go go step n w g) k
+    by-test false g k = rw (run-stop go step (suc n) w g) s
+
+-- and an answer
+pub answer-keeps-sound : (good : Bool) (w : World) → SoundState (w .state) → SoundState (answered good w .state)
+unfolding answered
+answer-keeps-sound good w s = answer-sound w (s .resources) good (w .state .work) refl (s .work)
+
+-- while a submission waits: every range lies inside the one entry of its table that has its id, and no other has it
+pub waiting-ranges-inside : (s : State) (j : Job) (es : List Entry) (h : Progress) → SoundState s → s .work ≡ waiting j es h → Every (Inside es) (h .holdings .records) × Once entry-id es
+waiting-ranges-inside s j es h k e =
+    let here : SoundWork (waiting j es h) = subst SoundWork e (k .work) in
+    (here .1 .holdings .inside, here .0 .once)
+
+-- and every record is a range to back, to read or to write, or a clipped rectangle: of kind 1 to 4
+pub waiting-kinds : (s : State) (j : Job) (es : List Entry) (h : Progress) → SoundState s → s .work ≡ waiting j es h → Every OfAKind (h .holdings .records)
+waiting-kinds s j es h k e =
+    let here : SoundWork (waiting j es h) = subst SoundWork e (k .work) in
+    here .1 .holdings .kinds
+
+-- the bytes that a device's resource keeps are those of its kind: a buffer has some, a backed texture its packed size, a
+-- host-backed one none
+pub resources-keep-bytes : (s : State) → SoundState s → Every KeepsBytes (s .resources)
+resources-keep-bytes s k = k .resources .bytes
