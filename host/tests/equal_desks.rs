@@ -1,93 +1,35 @@
 //! Desks compare by what they mean: how they came there, in how many slices and by which rows, says nothing.
 mod current;
+mod night;
 
 use current::ticket;
-use zelezmut::guest::{self, Backing, Descriptor, Entry, Packet, Part, Shape};
+use night::Night;
+use zelezmut::guest::{Backing, Packet, Shape};
 use zelezmut::{registers, Desk, Ended, HostAnswer};
 
-const MEMORY: usize = 16_384;
-const TABLE: usize = 1024;
-const STREAM: usize = 2048;
-const SLOTS: u32 = 4;
 const BACKING: Option<Backing> = Some(Backing { id: 5, offset: 64 });
 
-#[derive(Clone)]
-struct Night {
-    desk: Desk,
-    memory: Vec<u8>,
-    tail: u32,
-}
-
-impl Night {
-    fn new() -> Night {
-        let mut night = Night {
-            desk: Desk::new(MEMORY),
-            memory: vec![0; MEMORY],
-            tail: 0,
-        };
-        guest::put(&mut night.memory, 0, &guest::ring(SLOTS, 0, 0));
-        night.write(registers::RING_SIZE, guest::ring_size(SLOTS));
-        night.write(registers::CONTROL, registers::CONTROL_ENABLE);
-        night
-    }
-
-    fn write(&mut self, offset: u32, value: u32) {
-        self.desk.write(offset, value).unwrap();
-    }
-
-    /// Puts a submission of fence 1 into the ring, with a table of these ids.
-    fn submit(&mut self, ids: &[u32], packets: &[Packet]) {
-        let entry = |&id| Entry {
-            id,
-            gpa: 8192,
-            size: 4096,
-            read_only: false,
-        };
-        let entries: Vec<Entry> = ids.iter().map(entry).collect();
-        let (table, stream) = (guest::table(&entries), guest::stream(packets));
-        let descriptor = Descriptor {
-            commands: Part::of(STREAM as u64, &stream),
-            table: Part::of(TABLE as u64, &table),
-            fence: 1,
-            silent: false,
-        };
-        let slot = guest::slot_offset(self.tail % SLOTS);
-        self.tail += 1;
-        guest::put_tail(&mut self.memory, 0, self.tail);
-        guest::put(&mut self.memory, slot, &descriptor.to_bytes());
-        guest::put(&mut self.memory, TABLE, &table);
-        guest::put(&mut self.memory, STREAM, &stream);
-        self.write(registers::DOORBELL, 1);
-    }
-
-    fn run(&mut self, allowance: u16) -> Ended {
-        let ran = self.desk.run(&mut self.memory, allowance).unwrap();
-        ran.ended
-    }
-
-    /// Works in such slices until nothing is left to do; what waits gets this answer.
-    fn rest(&mut self, slice: u16, answer: HostAnswer) {
-        loop {
-            match self.run(slice) {
-                Ended::Idle => return,
-                Ended::Paused => (),
-                Ended::Waiting => {
-                    let ticket = ticket(&self.desk);
-                    let ran = self.desk.answer(&mut self.memory, ticket, answer, slice);
-                    ran.unwrap();
-                }
+/// Works in such slices until nothing is left to do; what waits gets this answer.
+fn rest(night: &mut Night, slice: u16, answer: HostAnswer) {
+    loop {
+        match night.run(slice) {
+            Ended::Idle => return,
+            Ended::Paused => (),
+            Ended::Waiting => {
+                let ticket = ticket(&night.desk);
+                night.answer(ticket, answer, slice).unwrap();
             }
         }
     }
+}
 
-    /// A night after one submission, with a good answer.
-    fn after(packets: &[Packet]) -> Night {
-        let mut night = Night::new();
-        night.submit(&[5], packets);
-        night.rest(100, HostAnswer::Good);
-        assert_eq!(night.desk.last_error(), None);
-        night
-    }
+/// A night after one submission, with a good answer. All are of fence 1.
+fn after(packets: &[Packet]) -> Night {
+    let mut night = Night::new();
+    night.submit(1, &[5], packets);
+    rest(&mut night, 100, HostAnswer::Good);
+    assert_eq!(night.desk.last_error(), None);
+    night
 }
 
 fn create(handle: u32) -> Packet {
@@ -126,13 +68,13 @@ fn slices_say_nothing() {
         (&[], &[]),
     ] {
         for answer in [HostAnswer::Good, HostAnswer::Failed] {
-            let mut whole = Night::after(&[create(9)]);
-            whole.submit(ids, packets);
+            let mut whole = after(&[create(9)]);
+            whole.submit(1, ids, packets);
             let before = whole.clone();
-            whole.rest(1000, answer);
+            rest(&mut whole, 1000, answer);
             for slice in [1, 2, 3, 4, 7] {
                 let mut sliced = before.clone();
-                sliced.rest(slice, answer);
+                rest(&mut sliced, slice, answer);
                 assert_eq!(sliced.memory, whole.memory);
                 assert_eq!(sliced.desk, whole.desk);
                 assert_ne!(sliced.desk, before.desk);
@@ -143,9 +85,9 @@ fn slices_say_nothing() {
 
 #[test]
 fn units_count_and_not_how_they_were_spent() {
-    let mut submitted = Night::after(&[create(1)]);
-    submitted.submit(&[5, 6], &[create(2), dirty(1, 8), dirty(2, 8)]);
-    let after = |slices: &[u16]| {
+    let mut submitted = after(&[create(1)]);
+    submitted.submit(1, &[5, 6], &[create(2), dirty(1, 8), dirty(2, 8)]);
+    let sliced = |slices: &[u16]| {
         let mut night = submitted.clone();
         for &units in slices {
             night.run(units);
@@ -153,32 +95,32 @@ fn units_count_and_not_how_they_were_spent() {
         night.desk
     };
     for units in 0..6 {
-        assert_eq!(after(&vec![1; units.into()]), after(&[units]));
-        assert_ne!(after(&[units]), after(&[units + 1]), "unit {}", units);
+        assert_eq!(sliced(&vec![1; units.into()]), sliced(&[units]));
+        assert_ne!(sliced(&[units]), sliced(&[units + 1]), "unit {}", units);
     }
-    assert_eq!(after(&[6]), after(&[7]));
+    assert_eq!(sliced(&[6]), sliced(&[7]));
 }
 
 #[test]
 fn resources_are_a_map_by_handle() {
-    let one = Night::after(&[create(1), create(2), create(3)]);
-    let other = Night::after(&[create(3), create(1), create(2)]);
+    let one = after(&[create(1), create(2), create(3)]);
+    let other = after(&[create(3), create(1), create(2)]);
     assert_eq!(one.desk, other.desk);
     // Their rows have moved.
     let gone = Packet::Destroy { handle: 4 };
-    let moved = Night::after(&[create(4), create(1), create(2), create(3), gone]);
+    let moved = after(&[create(4), create(1), create(2), create(3), gone]);
     assert_eq!(one.desk, moved.desk);
     // Their rows stand in the other table: a submission that creates turns the tables, one that creates nothing does not.
-    let mut twice = Night::after(&[create(2), create(1)]);
-    twice.submit(&[5], &[create(3)]);
-    twice.rest(100, HostAnswer::Good);
+    let mut twice = after(&[create(2), create(1)]);
+    twice.submit(1, &[5], &[create(3)]);
+    rest(&mut twice, 100, HostAnswer::Good);
     assert_eq!(one.desk, twice.desk);
     // So do those of a submission in work, which goes back to the same slot.
     let [mut one, mut twice] = [one, twice];
-    one.submit(&[5], &[]);
-    one.rest(100, HostAnswer::Good);
+    one.submit(1, &[5], &[]);
+    rest(&mut one, 100, HostAnswer::Good);
     for night in [&mut one, &mut twice] {
-        night.submit(&[5], &[dirty(3, 8), create(4)]);
+        night.submit(1, &[5], &[dirty(3, 8), create(4)]);
         assert_eq!(night.run(100), Ended::Waiting);
     }
     assert_eq!(one.desk, twice.desk);
@@ -222,14 +164,14 @@ fn other_resources_are_another_desk() {
         .iter()
         .map(|&packet| {
             let mut night = Night::new();
-            night.submit(&[5, 6], &[packet]);
+            night.submit(1, &[5, 6], &[packet]);
             assert_eq!(night.run(100), Ended::Waiting);
             night
         })
         .collect();
     let answered = |answer| {
         let mut nights = waiting.clone();
-        nights.iter_mut().for_each(|night| night.rest(100, answer));
+        nights.iter_mut().for_each(|night| rest(night, 100, answer));
         nights
     };
     let good = answered(HostAnswer::Good);
@@ -253,7 +195,7 @@ fn other_resources_are_another_desk() {
 #[test]
 fn other_registers_are_another_desk() {
     assert_ne!(Desk::new(16), Desk::new(17));
-    let night = Night::after(&[create(1)]);
+    let night = after(&[create(1)]);
     for (offset, value) in [
         (registers::RING_GPA_LO, 64),
         (registers::RING_GPA_HI, 1),
@@ -280,7 +222,7 @@ fn other_registers_are_another_desk() {
 #[test]
 fn tickets_are_left_out() {
     let mut night = Night::new();
-    night.submit(&[5], &[create(1)]);
+    night.submit(1, &[5], &[create(1)]);
     assert_eq!(night.run(100), Ended::Waiting);
     let clone = night.desk.clone();
     assert_ne!(ticket(&clone), ticket(&night.desk));
