@@ -23,7 +23,13 @@ fn says_something(tag: u64, i: usize) -> bool {
 fn nothing_is_left_over(state: &State) {
     let tag = state.words[word::TAG];
     for (i, &word) in state.words.iter().enumerate() {
-        assert!(says_something(tag, i) || word == 0, "word {} is {}, tag {}", i, word, tag);
+        assert!(
+            says_something(tag, i) || word == 0,
+            "word {} is {}, tag {}",
+            i,
+            word,
+            tag
+        );
     }
 }
 
