@@ -1,5 +1,6 @@
 //! A small emulator around a desk: guest memory, the adapter's registers, and a host that carries submissions out on surfaces of its own.
-//! What it plays in `main` is a guest's driver that uploads a picture, copies it, and wants a part of it back.
+//! What it plays in `main` is a guest's driver that uploads a picture, copies it, and wants a part of it back; and two programs that
+//! share a texture.
 //!
 //! The front has checked a submission when it waits, and gives a record for every range of guest memory that the host is to read or
 //! write. What else is to be done stands in the stream, and the host reads that for itself (`carry_out`).
@@ -12,7 +13,7 @@
 //!     cargo run --example emulator
 use std::collections::BTreeMap;
 use std::io::{self, Write};
-use zelezmut::guest::{self, Backing, Descriptor, Entry, Packet, Part};
+use zelezmut::guest::{self, Backing, Descriptor, Entry, Packet, Part, Shape};
 use zelezmut::{packed_size, registers, Desk, Ended, HostAnswer};
 use zelezmut::{Range, Record, RecordKind, Refused, Waiting, Written};
 
@@ -22,8 +23,95 @@ const SLICE: u16 = 2;
 /// The most bytes of a surface. No rule bounds a buffer that lives with the host: the guest may ask for 2^64 - 1.
 const LARGEST_SURFACE: u64 = 1 << 20;
 
-/// Every live resource's bytes, by its handle. A texture that lives with the host has none here: no packet so far touches them.
-type Surfaces = BTreeMap<u32, Vec<u8>>;
+/// What the host keeps of the guest's resources. A surface may have several names, and is gone with the last of them.
+#[derive(Clone, Default)]
+pub struct Surfaces {
+    /// Every surface's bytes, by a number of the host's own. A texture that lives with the host has none: no packet so far touches them.
+    bytes: BTreeMap<u64, Vec<u8>>,
+    /// The next surface's number: none is ever used again.
+    next: u64,
+    /// The number of the surface that a name stands for.
+    names: BTreeMap<u32, u64>,
+    /// The number of the surface that a token was bound to, and whether it still is.
+    tokens: BTreeMap<u64, (u64, bool)>,
+}
+
+impl Surfaces {
+    /// All names, in rising order.
+    pub fn names(&self) -> Vec<u32> {
+        self.names.keys().copied().collect()
+    }
+
+    /// The bytes of the surface of this name.
+    pub fn get(&self, name: u32) -> Option<&[u8]> {
+        let number = self.names.get(&name)?;
+        self.bytes.get(number).map(Vec::as_slice)
+    }
+
+    fn get_mut(&mut self, name: u32) -> Option<&mut Vec<u8>> {
+        self.bytes.get_mut(self.names.get(&name)?)
+    }
+
+    /// The number of the surface of this name.
+    fn number(&self, name: u32) -> Result<u64, Trouble> {
+        let number = self.names.get(&name).copied();
+        number.ok_or_else(|| format!("there is no surface {}", name))
+    }
+
+    /// A new surface, or another name for one that there is.
+    fn add_name(&mut self, name: u32, number: u64) -> Result<(), Trouble> {
+        match self.names.insert(name, number) {
+            None => Ok(()),
+            Some(_) => Err(format!("there is a surface {} already", name)),
+        }
+    }
+
+    fn create(&mut self, name: u32, bytes: Vec<u8>) -> Result<(), Trouble> {
+        self.add_name(name, self.next)?;
+        self.bytes.insert(self.next, bytes);
+        self.next += 1;
+        Ok(())
+    }
+
+    /// The surface goes with its last name, and then nobody can import it any more.
+    fn destroy(&mut self, name: u32) -> Result<(), Trouble> {
+        let number = self.number(name)?;
+        self.names.remove(&name);
+        if !self.names.values().any(|&other| other == number) {
+            self.bytes.remove(&number);
+            let tokens = self.tokens.values_mut();
+            tokens
+                .filter(|(of, _)| *of == number)
+                .for_each(|(_, bound)| *bound = false);
+        }
+        Ok(())
+    }
+
+    /// The token is the surface's from now on, if it was never another's and is not spent.
+    fn export(&mut self, name: u32, token: u64) -> Result<(), Trouble> {
+        let binding = (self.number(name)?, true);
+        match *self.tokens.entry(token).or_insert(binding) == binding {
+            true => Ok(()),
+            false => Err(format!("token {} is taken or spent", token)),
+        }
+    }
+
+    /// Another name for the surface that the token is bound to.
+    fn import(&mut self, name: u32, token: u64) -> Result<(), Trouble> {
+        let (number, _) = *self.bound(token)?;
+        self.add_name(name, number)
+    }
+
+    fn release(&mut self, token: u64) -> Result<(), Trouble> {
+        self.bound(token)?.1 = false;
+        Ok(())
+    }
+
+    fn bound(&mut self, token: u64) -> Result<&mut (u64, bool), Trouble> {
+        let bound = self.tokens.get_mut(&token).filter(|(_, bound)| *bound);
+        bound.ok_or_else(|| format!("token {} is bound to nothing", token))
+    }
+}
 
 /// Why a submission is answered "failed".
 type Trouble = String;
@@ -40,7 +128,7 @@ impl Emulator {
         Emulator {
             desk: Desk::new(memory),
             memory: vec![0; memory],
-            surfaces: Surfaces::new(),
+            surfaces: Surfaces::default(),
         }
     }
 
@@ -48,7 +136,7 @@ impl Emulator {
     pub fn write(&mut self, offset: u32, value: u32) -> Result<bool, Refused> {
         let written = self.desk.write(offset, value)?;
         if written == Written::Reset {
-            self.surfaces.clear();
+            self.surfaces = Surfaces::default();
         }
         Ok(written == Written::Rang)
     }
@@ -148,15 +236,15 @@ fn apply(
             let size = backing.and(packed).unwrap_or(0);
             create(handle, size, backing, records, surfaces)
         }
-        Packet::Destroy { handle } => match surfaces.remove(&handle) {
-            Some(_) => Ok(()),
-            None => Err(format!("there is no surface {}", handle)),
-        },
+        Packet::Destroy { handle } => surfaces.destroy(handle),
         Packet::DirtyRange { .. } => upload(packet, records, memory, surfaces),
         Packet::CopyBuffer { .. } => copy(packet, records, memory, surfaces),
         Packet::Target { .. } | Packet::Viewport(_) | Packet::Scissor(_) | Packet::Clear(_) => {
             draw(packet, records, surfaces)
         }
+        Packet::Export { handle, token } => surfaces.export(handle, token),
+        Packet::Import { handle, token } => surfaces.import(handle, token),
+        Packet::Release { token } => surfaces.release(token),
         Packet::Unknown { .. } => Ok(()),
     }
 }
@@ -168,9 +256,7 @@ fn draw(
     surfaces: &Surfaces,
 ) -> Result<(), Trouble> {
     match packet {
-        Packet::Target { handle } if !surfaces.contains_key(&handle) => {
-            Err(format!("there is no surface {}", handle))
-        }
+        Packet::Target { handle } => surfaces.number(handle).map(drop),
         // A host that draws clips to the record's rectangle: the stream's own may be another by now.
         Packet::Scissor(_) => match records.next() {
             Some(Record::Clips(_)) => Ok(()),
@@ -195,10 +281,7 @@ fn create(
     if backing.is_some() {
         next_range(records, RecordKind::Backs, handle, size)?;
     }
-    match surfaces.insert(handle, vec![0; size as usize]) {
-        None => Ok(()),
-        Some(_) => Err(format!("there is a surface {} already", handle)),
-    }
+    surfaces.create(handle, vec![0; size as usize])
 }
 
 /// Takes over what the guest has changed. A range of no bytes has no record.
@@ -256,7 +339,7 @@ fn part(
     size: u64,
 ) -> Result<&mut [u8], Trouble> {
     let outside = || format!("surface {} has no {} bytes at {}", handle, size, offset);
-    let surface = surfaces.get_mut(&handle).ok_or_else(outside)?;
+    let surface = surfaces.get_mut(handle).ok_or_else(outside)?;
     range_of(surface, offset, size).ok_or_else(outside)
 }
 
@@ -277,7 +360,7 @@ fn guest_range<'a>(
     range_of(memory, range.gpa, range.length).ok_or_else(|| "no such range".to_string())
 }
 
-/// The next record's range, which has to be the one that this packet was checked for.
+/// The next record's range, which has to be the one that this packet was checked for: its handle is the name that the packet says.
 fn next_range(
     records: &mut impl Iterator<Item = Record>,
     kind: RecordKind,
@@ -371,26 +454,62 @@ pub const GET_BACK: [Packet; 2] = [
     Packet::Destroy { handle: 2 },
 ];
 
-/// Plays both submissions and prints what became of them.
+/// One program makes texture 3 and exports it; the desktop imports it as 4 and uploads through that name; the program gives its own up.
+pub const SHARE: [Packet; 5] = [
+    Packet::CreateTexture {
+        handle: 3,
+        shape: Shape {
+            format: 1,
+            width: 5,
+            height: 3,
+            mips: 1,
+            layers: 1,
+            pitch: 20,
+        },
+        backing: Some(Backing { id: 5, offset: 64 }),
+    },
+    Packet::Export {
+        handle: 3,
+        token: 77,
+    },
+    Packet::Import {
+        handle: 4,
+        token: 77,
+    },
+    Packet::DirtyRange {
+        handle: 4,
+        offset: 16,
+        size: 5,
+    },
+    Packet::Destroy { handle: 3 },
+];
+
+/// Plays three submissions and prints what became of them.
 pub fn play(out: &mut impl Write) -> io::Result<()> {
     let refused = |refused: Refused| io::Error::new(io::ErrorKind::Other, refused);
     let mut emulator = Emulator::new(MEMORY);
     let backing = PICTURE.gpa as usize + 64;
     guest::put(&mut emulator.memory, backing + 16, b"hello");
     start(&mut emulator).map_err(refused)?;
-    for (fence, packets) in [(1, &UPLOAD[..]), (2, &GET_BACK[..])] {
+    for (fence, packets) in [(1, &UPLOAD[..]), (2, &GET_BACK), (3, &SHARE)] {
         submit(&mut emulator, fence, packets).map_err(refused)?;
         let troubles = emulator.serve(|_| ()).map_err(refused)?;
         let fence = emulator.desk.completed_fence();
-        let handles: Vec<&u32> = emulator.surfaces.keys().collect();
+        let names = emulator.surfaces.names();
         writeln!(
             out,
             "fence {}, surfaces {:?}, troubles {:?}",
-            fence, handles, troubles
+            fence, names, troubles
         )?;
     }
     let back = String::from_utf8_lossy(&emulator.memory[backing + 100..][..5]);
-    writeln!(out, "back in guest memory: {}", back)
+    writeln!(out, "back in guest memory: {}", back)?;
+    let shared = emulator
+        .surfaces
+        .get(4)
+        .map_or(&[][..], |shared| &shared[16..21]);
+    let shared = String::from_utf8_lossy(shared);
+    writeln!(out, "in the shared texture: {}", shared)
 }
 
 pub fn main() -> io::Result<()> {

@@ -85,15 +85,16 @@ int main(void) {
     printf("write %u\n", zelezmut_write(device.words, 0x10C, 1)); /* enable */
     printf("write %u\n", zelezmut_write(device.words, 0x200, 1)); /* doorbell */
 
-    print_ran("run", zelezmut_run(device.words, device.entries, device.first, device.second, device.records, memory, MEMORY, 100));
+    print_ran("run", zelezmut_run(device.words, device.entries, device.first, device.second, device.first_tokens,
+                                  device.second_tokens, device.records, memory, MEMORY, 100));
     uint64_t record[5];
     for (uint32_t i = 0; zelezmut_record(device.words, device.records, i, record) == ZELEZMUT_DONE; i++)
         printf("record %u: kind %u, handle %u, id %u, %llu bytes at %llu\n", i, (unsigned)record[0], (unsigned)record[1],
                (unsigned)record[2], (unsigned long long)record[4], (unsigned long long)record[3]);
 
     /* The host has done what the records ask. */
-    print_ran("answer", zelezmut_answer(device.words, device.entries, device.first, device.second, device.records, memory, MEMORY,
-                                        1, 100));
+    print_ran("answer", zelezmut_answer(device.words, device.entries, device.first, device.second, device.first_tokens,
+                                        device.second_tokens, device.records, memory, MEMORY, 1, 100));
     printf("fence %u\n", (unsigned)zelezmut_read(device.words, 0x130));
     return 0;
 }

@@ -34,19 +34,22 @@
 extern "C" {
 #endif
 
-/* Sizes in words of 64 bits: a device's numbers, and 64 rows each of entries, resources (twice) and records. */
+/* Sizes in words of 64 bits: a device's numbers, 64 rows each of entries, names of resources (twice) and records, and 256 rows of
+ * tokens (twice). */
 #define ZELEZMUT_MOST 64
-#define ZELEZMUT_WORDS 32
+#define ZELEZMUT_MOST_TOKENS 256
+#define ZELEZMUT_WORDS 36
 #define ZELEZMUT_ENTRIES (ZELEZMUT_MOST * 4)
-#define ZELEZMUT_RESOURCES (ZELEZMUT_MOST * 11)
+#define ZELEZMUT_RESOURCES (ZELEZMUT_MOST * 12)
+#define ZELEZMUT_TOKENS (ZELEZMUT_MOST_TOKENS * 2)
 #define ZELEZMUT_RECORDS (ZELEZMUT_MOST * 5)
 
 /* The layout number of the library that this header is for: these sizes, and a version that goes up with every landing that grows the
  * state or changes what its words mean. */
-#define ZELEZMUT_LAYOUT_VERSION 2
+#define ZELEZMUT_LAYOUT_VERSION 3
 #define ZELEZMUT_LAYOUT \
-    (((uint64_t)ZELEZMUT_LAYOUT_VERSION << 48) | ((uint64_t)ZELEZMUT_WORDS << 36) | ((uint64_t)ZELEZMUT_ENTRIES << 24) | \
-     ((uint64_t)ZELEZMUT_RESOURCES << 12) | (uint64_t)ZELEZMUT_RECORDS)
+    (((uint64_t)ZELEZMUT_LAYOUT_VERSION << 60) | ((uint64_t)ZELEZMUT_WORDS << 48) | ((uint64_t)ZELEZMUT_ENTRIES << 36) | \
+     ((uint64_t)ZELEZMUT_RESOURCES << 24) | ((uint64_t)ZELEZMUT_TOKENS << 12) | (uint64_t)ZELEZMUT_RECORDS)
 
 /* A device. Its words are the library's own business: zelezmut_make sets them, and the host keeps them. It may be copied. */
 struct zelezmut_state {
@@ -54,6 +57,8 @@ struct zelezmut_state {
     uint64_t entries[ZELEZMUT_ENTRIES];
     uint64_t first[ZELEZMUT_RESOURCES];
     uint64_t second[ZELEZMUT_RESOURCES];
+    uint64_t first_tokens[ZELEZMUT_TOKENS];
+    uint64_t second_tokens[ZELEZMUT_TOKENS];
     uint64_t records[ZELEZMUT_RECORDS];
 };
 
@@ -83,7 +88,8 @@ uint64_t zelezmut_read(const uint64_t words[ZELEZMUT_WORDS], uint32_t offset);
 
 /* Works until so many units are spent, nothing is left to do, or a submission waits for the host. zelezmut_ran_.. take apart what it says. */
 uint64_t zelezmut_run(uint64_t words[ZELEZMUT_WORDS], uint64_t entries[ZELEZMUT_ENTRIES], uint64_t first[ZELEZMUT_RESOURCES],
-                      uint64_t second[ZELEZMUT_RESOURCES], uint64_t records[ZELEZMUT_RECORDS], uint8_t *memory, size_t len,
+                      uint64_t second[ZELEZMUT_RESOURCES], uint64_t first_tokens[ZELEZMUT_TOKENS],
+                      uint64_t second_tokens[ZELEZMUT_TOKENS], uint64_t records[ZELEZMUT_RECORDS], uint8_t *memory, size_t len,
                       uint16_t allowance);
 
 /* What a record asks of the host. */
@@ -95,7 +101,8 @@ enum {
 };
 
 /* Record i of the submission that waits: the answer. Sets kind, handle, id, address and length, or for ZELEZMUT_CLIPS kind, left, top,
- * width and height, all 0 if nothing is left of the target; zeros if the call is refused. */
+ * width and height, all 0 if nothing is left of the target; zeros if the call is refused. A resource may have several names: the handle
+ * is the one that the packet says. Which names are one resource stands in the stream alone, in its imports and destroys. */
 uint32_t zelezmut_record(const uint64_t words[ZELEZMUT_WORDS], const uint64_t records[ZELEZMUT_RECORDS], uint32_t i,
                          uint64_t said[5]);
 
@@ -105,7 +112,8 @@ uint32_t zelezmut_record(const uint64_t words[ZELEZMUT_WORDS], const uint64_t re
  * one waiting when the host is done: a host that answers later than it was told keeps count of the resets, which the guest writes to
  * register 10C (hex) as bit 1, and drops what it was doing for a submission from before. */
 uint64_t zelezmut_answer(uint64_t words[ZELEZMUT_WORDS], uint64_t entries[ZELEZMUT_ENTRIES], uint64_t first[ZELEZMUT_RESOURCES],
-                         uint64_t second[ZELEZMUT_RESOURCES], uint64_t records[ZELEZMUT_RECORDS], uint8_t *memory, size_t len,
+                         uint64_t second[ZELEZMUT_RESOURCES], uint64_t first_tokens[ZELEZMUT_TOKENS],
+                         uint64_t second_tokens[ZELEZMUT_TOKENS], uint64_t records[ZELEZMUT_RECORDS], uint8_t *memory, size_t len,
                          uint32_t good, uint16_t allowance);
 
 /* The bytes of a backed texture, 0 for a bad shape. */

@@ -89,8 +89,8 @@ pub enum Written {
     Stored,
     /// The doorbell rang: there may be work, and it is time for a run.
     Rang,
-    /// The device was reset: the submission in work was dropped, whether it waited or not, and all resources are gone. What the host
-    /// keeps for them can go too, and what it is doing for that submission is for nobody.
+    /// The device was reset: the submission in work was dropped, whether it waited or not, all resources are gone and all tokens are
+    /// forgotten. What the host keeps for them can go too, and what it is doing for that submission is for nobody.
     Reset,
 }
 
@@ -198,9 +198,9 @@ impl fmt::Display for RecordKind {
 /// What the host says of a waiting submission.
 #[derive(Clone, Copy, Debug, PartialEq, Eq, Hash)]
 pub enum HostAnswer {
-    /// All records were carried out: the submission's resources become the device's.
+    /// All records were carried out: the submission's resources and tokens become the device's.
     Good,
-    /// Something failed: the submission ends with error 27, and the resources before it stay.
+    /// Something failed: the submission ends with error 27, and the resources and tokens before it stay.
     Failed,
 }
 
@@ -236,11 +236,11 @@ pub enum DeviceError {
     BadStream = 16,
     /// A packet's size breaks a rule, or bytes are left over.
     BadPacket = 17,
-    /// A handle is 0, live when created, or not live when used; or a copy's is no buffer, a target's no texture.
+    /// A handle is 0, live when created or imported, or not live when used; or a copy's is no buffer, a target's no texture.
     BadHandle = 18,
-    /// More than 64 table entries, resources or records.
+    /// More than 64 table entries, names of resources or records, or more than 256 tokens.
     TooMany = 19,
-    /// No resource has this shape.
+    /// No resource has this shape, or what is exported is no texture of one mip and one layer.
     BadShape = 20,
     /// The backing id is not in the submission's table.
     NotInTable = 21,
@@ -256,13 +256,17 @@ pub enum DeviceError {
     BadCopy = 26,
     /// The host said that it failed.
     HostFailed = 27,
+    /// The token of an export is 0, was used for another resource, or is spent.
+    BadToken = 28,
+    /// The token of an import or a release is bound to no live resource.
+    UnboundToken = 29,
     /// A viewport, clear or scissor breaks a rule, or there is no target for the scissor.
     BadState = 30,
 }
 
 impl DeviceError {
     /// Every error, by rising number.
-    pub const ALL: [DeviceError; 19] = [
+    pub const ALL: [DeviceError; 21] = [
         DeviceError::BadRing,
         DeviceError::BadDescriptor,
         DeviceError::OutsideMemory,
@@ -281,10 +285,12 @@ impl DeviceError {
         DeviceError::HostBacked,
         DeviceError::BadCopy,
         DeviceError::HostFailed,
+        DeviceError::BadToken,
+        DeviceError::UnboundToken,
         DeviceError::BadState,
     ];
 
-    /// The error's number in documents 01 and 02: 10 to 27, and 30.
+    /// The error's number in documents 01 and 02: 10 to 30.
     #[inline]
     pub fn number(self) -> u32 {
         self as u32
@@ -323,8 +329,10 @@ impl fmt::Display for DeviceError {
             DeviceError::BadStream => "the stream's header breaks a rule",
             DeviceError::BadPacket => "a packet's size breaks a rule, or bytes are left over",
             DeviceError::BadHandle => "a handle is 0, taken, or not a live resource of the kind",
-            DeviceError::TooMany => "more than 64 table entries, resources or records",
-            DeviceError::BadShape => "no resource has this shape",
+            DeviceError::TooMany => "more than 64 table entries, names or records, or 256 tokens",
+            DeviceError::BadShape => {
+                "no resource has this shape, or it is none that can be exported"
+            }
             DeviceError::NotInTable => "the backing id is not in the table",
             DeviceError::PastEntry => "the range leaves its table entry",
             DeviceError::ReadOnly => "the table entry is read-only",
@@ -332,6 +340,8 @@ impl fmt::Display for DeviceError {
             DeviceError::HostBacked => "the resource has no guest memory behind it",
             DeviceError::BadCopy => "a copy within one buffer, or with unknown flags",
             DeviceError::HostFailed => "the host failed",
+            DeviceError::BadToken => "the token is 0, was used for another resource, or is spent",
+            DeviceError::UnboundToken => "the token is bound to no live resource",
             DeviceError::BadState => {
                 "a viewport, clear or scissor breaks a rule, or a scissor has no target"
             }
@@ -359,9 +369,9 @@ mod tests {
     }
 
     #[test]
-    fn errors_are_10_to_27_and_30() {
+    fn errors_are_10_to_30() {
         let numbers: Vec<u32> = DeviceError::ALL.iter().map(|e| e.number()).collect();
-        assert_eq!(numbers, (10..=27).chain([30]).collect::<Vec<u32>>());
+        assert_eq!(numbers, (10..=30).collect::<Vec<u32>>());
         for number in 0..100 {
             let error = DeviceError::from_number(number);
             assert_eq!(error.is_some(), numbers.contains(&number));

@@ -10,11 +10,11 @@ use std::fmt;
 
 /// An adapter's front for one guest memory.
 ///
-/// It owns its state, some 16 KB in a box: it moves cheaply and no call allocates. A clone goes its own way from there, and has its
-/// own tickets: what was begun for the original is not answered at the clone.
+/// It owns its state, some 25 KB in a box: it moves cheaply, and no call of the front allocates. A clone goes its own way from there, and
+/// has its own tickets: what was begun for the original is not answered at the clone.
 ///
 /// Two desks are equal if every call that comes does the same at both: registers, doorbell flag, the memory's length, resources by their
-/// handles, and the submission in work with all that was kept of it. How they came there says nothing, nor in how many slices; and tickets are
+/// names, tokens, and the submission in work with all that was kept of it. How they came there says nothing, nor in how many slices; and tickets are
 /// left out, so a clone is equal.
 pub struct Desk {
     state: Box<State>,
@@ -271,6 +271,25 @@ impl Desk {
         } else {
             Refused::OtherMemory
         }
+    }
+
+    /// The names of the device's resources, each beside the lowest name of its resource, in rising order: names with the same lowest name
+    /// are one resource. A submission in work has changed nothing here; a good answer makes its names the device's.
+    ///
+    /// A host needs no such list to carry submissions out. It is for one that shows what is there, or that compares it with its own.
+    ///
+    /// ```
+    /// # use zelezmut::Desk;
+    /// assert!(Desk::new(4096).names().is_empty());
+    /// ```
+    pub fn names(&self) -> Vec<(u32, u32)> {
+        self.state.names()
+    }
+
+    /// The tokens that were used since the last reset, in rising order, each beside the lowest name of the resource that it is bound to;
+    /// `None` if it is spent: released, or its resource is gone. A submission in work has changed nothing here.
+    pub fn tokens(&self) -> Vec<(u64, Option<u32>)> {
+        self.state.tokens()
     }
 
     /// The completed fence, both halves.

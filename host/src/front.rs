@@ -8,7 +8,7 @@
 //! That the library linked is the one of these declarations is asked once, before the first call: it gives the number of its layout.
 #![allow(unsafe_code)]
 
-use crate::state::{Entries, Records, Resources, State, Words, LAYOUT};
+use crate::state::{Entries, Records, Resources, State, Tokens, Words, LAYOUT};
 use std::alloc::{alloc_zeroed, handle_alloc_error, Layout};
 use std::mem::MaybeUninit;
 use std::sync::atomic::{AtomicBool, Ordering};
@@ -20,7 +20,7 @@ pub(crate) type Said = [u64; 5];
 pub(crate) type Ran = (u32, u32, u16);
 
 mod library {
-    use super::{Entries, MaybeUninit, Records, Resources, Said, Words};
+    use super::{Entries, MaybeUninit, Records, Resources, Said, Tokens, Words};
 
     // The calls of 64-bit Linux on x86-64, whatever "C" means where this is built: the library has no other code.
     extern "sysv64" {
@@ -46,6 +46,8 @@ mod library {
             entries: &mut Entries,
             first: &mut Resources,
             second: &mut Resources,
+            first_tokens: &mut Tokens,
+            second_tokens: &mut Tokens,
             records: &mut Records,
             mem: *mut u8,
             len: usize,
@@ -63,6 +65,8 @@ mod library {
             entries: &mut Entries,
             first: &mut Resources,
             second: &mut Resources,
+            first_tokens: &mut Tokens,
+            second_tokens: &mut Tokens,
             records: &mut Records,
             mem: *mut u8,
             len: usize,
@@ -180,6 +184,8 @@ pub(crate) fn run(state: &mut State, memory: &mut [u8], allowance: u16) -> Ran {
             &mut state.entries,
             &mut state.first,
             &mut state.second,
+            &mut state.first_tokens,
+            &mut state.second_tokens,
             &mut state.records,
             memory.as_mut_ptr(),
             memory.len(),
@@ -208,6 +214,8 @@ pub(crate) fn answer(state: &mut State, memory: &mut [u8], good: bool, allowance
             &mut state.entries,
             &mut state.first,
             &mut state.second,
+            &mut state.first_tokens,
+            &mut state.second_tokens,
             &mut state.records,
             memory.as_mut_ptr(),
             memory.len(),

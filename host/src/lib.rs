@@ -64,7 +64,8 @@
 //!
 //! When a run ends [waiting](Ended::Waiting), all of the submission was checked. Each range of guest memory that the host is to read or
 //! write is a [`Record`], and so is what each scissor leaves of its target; what a record does not say (the source of a copy, where
-//! within a resource a range is, resources that live with the host, viewports and clears) stands in the submission's stream. So a host
+//! within a resource a range is, resources that live with the host, names and tokens, viewports and clears) stands in the submission's
+//! stream. So a host
 //!
 //! 1. takes the ticket from [`Desk::waiting`] and the records from [`Desk::records`];
 //! 2. finds the stream by [`guest::at_head`], and reads its packets by [`guest::decode`], once, from a copy;
@@ -76,6 +77,19 @@
 //! the front gives (records, registers) is not touched by that; what a host reads from guest memory by itself is. It judges every handle,
 //! offset and size of a packet by what it keeps of its own, and takes addresses from records alone. `examples/emulator.rs` is a small
 //! emulator that does all this: `cargo run --example emulator`.
+//!
+//! # Surfaces that programs share
+//!
+//! A program [exports](guest::Packet::Export) a texture of one mip and one layer by a token, a number of 64 bits that the programs agree
+//! on; another one [imports](guest::Packet::Import) it, and has a name of its own for the same resource. What the host sees of that:
+//!
+//! - A record made under a second name carries that name, not the first one. All names of a resource have its one backing.
+//! - Exports, imports and releases make no record, nor do destroys. So a host that keeps a picture for each resource reads the stream: an
+//!   import is another name for a picture that there is, a destroy takes one name away, and the picture goes with its last name.
+//! - A [`Target`](guest::Packet::Target) is a name, too: it ends when that name is destroyed, though the texture may live on.
+//! - A submission that is refused, or answered [`Failed`](HostAnswer::Failed), leaves names and tokens as they were before it. A reset
+//!   forgets all of them.
+//! - [`Desk::names`] and [`Desk::tokens`] list what the device has, for a host that shows it or holds its own lists against it.
 //!
 //! # What a host has to know
 //!
@@ -94,7 +108,8 @@
 //! - A submission that breaks a rule ends within the run. [`Desk::last_error`] says which rule, and at which table entry or packet.
 //! - A call ends. One unit is one step (an opening, a table entry or a packet), and a run, behind an answer or by itself, takes no
 //!   more than its allowance.
-//! - No call panics on what a guest wrote, and none allocates once the desk is made.
+//! - No call panics on what a guest wrote, and none allocates once the desk is made, but for the two that give lists, [`Desk::names`] and
+//!   [`Desk::tokens`].
 //! - Desks compare by meaning: `==` of two that came to the same by different slices holds.
 //! - The static library is code for 64-bit Linux on x86-64, and a build for anything else is refused. `rt staticlib zelezmut` in
 //!   the project's root builds it, and so does `./play` there; the build script warns if it is missing. Checking and documentation

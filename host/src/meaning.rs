@@ -1,17 +1,19 @@
-//! What a device's state means, to compare two by it: numbers of what is over, rows that are not live, the order of resources and
-//! which of the two tables has them say nothing.
+//! What a device's state means, to compare two by it and to list its names and tokens: numbers of what is over, rows that are not live,
+//! the order of resources and of tokens, and which of the two tables has them say nothing.
 //!
 //! This is the view of the rule book's state that the library's contracts are about, `deskIn` of `crates/run_state/specs/Views.antt`,
 //! written once more in Rust. It is tested, not proved: words that it takes for the same are the same to every call.
 use crate::state::word::*;
-use crate::state::{State, ENTRIES, ENTRY_WORDS, NOTHING, PACKETS, RECORD_WORDS, RESOURCE_WORDS};
+use crate::state::{State, ENTRIES, NOTHING, PACKETS};
+use crate::state::{ENTRY_WORDS, RECORD_WORDS, RESOURCE_WORDS, TOKEN_WORDS};
 
-/// By meaning, for states that were made and called: in those no two resources of a table have one handle.
+/// By meaning, for states that were made and called: in those no two rows of a table have one name, or one token.
 impl PartialEq for State {
     fn eq(&self, other: &State) -> bool {
         self.memory() == other.memory()
             && registers(self) == registers(other)
             && resources(self) == resources(other)
+            && tokens(self) == tokens(other)
             && work(self) == work(other)
     }
 }
@@ -45,8 +47,8 @@ type Table = (u64, u32, u32);
 /// Address and size.
 type Stream = (u64, u32);
 
-/// The submission's resources, the records that it has made, and its target.
-type Held<'a> = (Map<'a>, Made<'a>, u32);
+/// The submission's resources and tokens, the records that it has made, and its target.
+type Held<'a> = (Map<'a>, Tokens<'a>, Made<'a>, u32);
 
 fn work(state: &State) -> Work<'_> {
     let kept = Kept(state.live(&state.entries, ENTRY_WORDS, KEPT));
@@ -91,14 +93,28 @@ fn resources(state: &State) -> Map<'_> {
     Map(state.live(table, RESOURCE_WORDS, LIVE))
 }
 
-/// They are rows of the device's table until the submission has its own.
+/// The device's tokens.
+fn tokens(state: &State) -> Tokens<'_> {
+    let table = match state.is_set(TOKEN_SIDE) {
+        false => &state.first_tokens,
+        true => &state.second_tokens,
+    };
+    Tokens(state.used(table, TOKENS))
+}
+
+/// Resources and tokens are rows of the device's tables until the submission has its own.
 fn held(state: &State) -> Held<'_> {
-    let table = match state.is_set(SIDE) == state.is_set(COPIED) {
+    let resources = match state.is_set(SIDE) == state.is_set(COPIED) {
         true => &state.first,
         false => &state.second,
     };
+    let tokens = match state.is_set(TOKEN_SIDE) == state.is_set(TOKENS_COPIED) {
+        true => &state.first_tokens,
+        false => &state.second_tokens,
+    };
     (
-        Map(state.live(table, RESOURCE_WORDS, HELD)),
+        Map(state.live(resources, RESOURCE_WORDS, HELD)),
+        Tokens(state.used(tokens, HELD_TOKENS)),
         Made(state.live(&state.records, RECORD_WORDS, MADE)),
         state.small(TARGET),
     )
@@ -117,6 +133,29 @@ impl State {
     /// The live rows of a table, of so many words each, as many as a word says.
     fn live<'a>(&self, table: &'a [u64], words: usize, count: usize) -> &'a [u64] {
         &table[..words * self.rows(count)]
+    }
+
+    /// The rows of a table of tokens that mean something, as many as a word says.
+    fn used<'a>(&self, table: &'a [u64], count: usize) -> &'a [u64] {
+        &table[..TOKEN_WORDS * self.token_rows(count)]
+    }
+
+    /// The names of the device's resources, each with the lowest name of its resource, in rising order.
+    pub(crate) fn names(&self) -> Vec<(u32, u32)> {
+        let rows = resources(self).0.chunks_exact(RESOURCE_WORDS);
+        let mut names: Vec<(u32, u32)> = rows.map(|row| (row[0] as u32, row[11] as u32)).collect();
+        names.sort_unstable();
+        names
+    }
+
+    /// The device's tokens, each with the lowest name of its resource unless it is spent, in rising order.
+    pub(crate) fn tokens(&self) -> Vec<(u64, Option<u32>)> {
+        let rows = tokens(self).0.chunks_exact(TOKEN_WORDS).map(token);
+        let mut tokens: Vec<(u64, Option<u32>)> = rows
+            .map(|[name, token]| (token, Some(name as u32).filter(|&name| name != 0)))
+            .collect();
+        tokens.sort_unstable();
+        tokens
     }
 }
 
@@ -156,18 +195,38 @@ fn record(row: &[u64]) -> [u64; RECORD_WORDS] {
     [low(row[0]), low(row[1]), low(row[2]), row[3], row[4]]
 }
 
-/// Rows of resources, as a map by handle: their order says nothing.
+/// Whether two tables have the same rows, in any order.
+fn same_rows<const N: usize>(one: &[u64], other: &[u64], said: fn(&[u64]) -> [u64; N]) -> bool {
+    let mut rows = one.chunks_exact(N).map(said);
+    let others = other.chunks_exact(N).map(said);
+    one.len() == other.len() && rows.all(|row| others.clone().any(|other| other == row))
+}
+
+/// Rows of tokens, as a map by token: their order says nothing.
+struct Tokens<'a>(&'a [u64]);
+
+impl PartialEq for Tokens<'_> {
+    fn eq(&self, other: &Tokens<'_>) -> bool {
+        same_rows(self.0, other.0, token)
+    }
+}
+
+/// The lowest name of the resource that it is bound to, 0 if it is spent, and the token.
+fn token(row: &[u64]) -> [u64; TOKEN_WORDS] {
+    [low(row[0]), row[1]]
+}
+
+/// Rows of resources, as a map by name: their order says nothing.
 struct Map<'a>(&'a [u64]);
 
 impl PartialEq for Map<'_> {
     fn eq(&self, other: &Map<'_>) -> bool {
-        let mut rows = self.0.chunks_exact(RESOURCE_WORDS).map(resource);
-        let others = other.0.chunks_exact(RESOURCE_WORDS).map(resource);
-        self.0.len() == other.0.len() && rows.all(|row| others.clone().any(|other| other == row))
+        same_rows(self.0, other.0, resource)
     }
 }
 
-/// Handle, whether it is a texture, bytes, the five numbers of a texture's shape, pitch, backing id and offset.
+/// Handle, whether it is a texture, bytes, the five numbers of a texture's shape, pitch, backing id and offset, and the lowest name of
+/// the resource.
 fn resource(row: &[u64]) -> [u64; RESOURCE_WORDS] {
     let texture = row[1] != 0;
     let shape = |word| if texture { low(word) } else { 0 };
@@ -199,7 +258,18 @@ mod tests {
         STREAM_SIZE,
         TARGET,
     ];
-    const FLAGS: [usize; 7] = [ENABLED, FENCED, FAILED, DOORBELL, JOB_SILENT, SIDE, COPIED];
+    const FLAGS: [usize; 9] = [
+        ENABLED,
+        FENCED,
+        FAILED,
+        DOORBELL,
+        JOB_SILENT,
+        SIDE,
+        COPIED,
+        TOKEN_SIDE,
+        TOKENS_COPIED,
+    ];
+    const OF_THE_SUBMISSION: [usize; 6] = [HELD, MADE, COPIED, TARGET, HELD_TOKENS, TOKENS_COPIED];
 
     /// Whether a word says something while so much is in work.
     fn says_something(tag: u64, i: usize) -> bool {
@@ -209,11 +279,11 @@ mod tests {
             ENTRIES => (JOB_RING..=STREAM_SIZE).contains(&i) || i == KEPT,
             PACKETS => {
                 let read = (STREAM_GPA..=KEPT).contains(&i);
-                of_the_job || read || [HELD, MADE, COPIED, TARGET].contains(&i)
+                of_the_job || read || OF_THE_SUBMISSION.contains(&i)
             }
-            _ => of_the_job || [KEPT, HELD, MADE, COPIED, TARGET].contains(&i),
+            _ => of_the_job || i == KEPT || OF_THE_SUBMISSION.contains(&i),
         };
-        in_work || i <= TAG || [LIVE, SIDE, ERROR_DETAIL].contains(&i)
+        in_work || i <= TAG || [LIVE, SIDE, ERROR_DETAIL, TOKENS, TOKEN_SIDE].contains(&i)
     }
 
     /// A state in which every flag is set and no row is like another.
@@ -224,10 +294,13 @@ mod tests {
             entries,
             first,
             second,
+            first_tokens,
+            second_tokens,
             records,
         } = &mut *state;
         let tables = entries.iter_mut().chain(records).chain(first).chain(second);
-        for (word, number) in words.iter_mut().chain(tables).zip(3..) {
+        let tokens = first_tokens.iter_mut().chain(second_tokens);
+        for (word, number) in words.iter_mut().chain(tables).chain(tokens).zip(3..) {
             *word = number;
         }
         words[TAG] = tag;
@@ -281,6 +354,42 @@ mod tests {
     }
 
     #[test]
+    fn every_token_counts_that_was_used_and_no_other_does() {
+        let state = busy(PACKETS);
+        // The second table is the device's, and the first the submission's.
+        let [used, held] = [TOKENS, HELD_TOKENS].map(|count| TOKEN_WORDS * state.token_rows(count));
+        for i in 0..state.first_tokens.len() {
+            let mut other = state.clone();
+            other.second_tokens[i] += 1;
+            assert_eq!(state != other, i < used, "second {}", i);
+            let mut other = state.clone();
+            other.first_tokens[i] += 1;
+            assert_eq!(state != other, i < held, "first {}", i);
+        }
+    }
+
+    #[test]
+    fn names_and_tokens_are_listed_in_rising_order() {
+        let mut state = make(7);
+        assert_eq!((state.names(), state.tokens()), (vec![], vec![]));
+        for (row, (name, lowest)) in [(9, 4), (4, 4), (7, 7)].into_iter().enumerate() {
+            state.first[RESOURCE_WORDS * row] = name;
+            state.first[RESOURCE_WORDS * row + 11] = lowest;
+        }
+        state.words[LIVE] = 3;
+        assert_eq!(state.names(), [(4, 4), (7, 7), (9, 4)]);
+        let rows = [[4, 1 << 40], [0, 5], [7, u64::MAX], [4, 6]];
+        for (row, token) in state.first_tokens.chunks_exact_mut(TOKEN_WORDS).zip(rows) {
+            row.copy_from_slice(&token);
+        }
+        state.words[TOKENS] = 3;
+        let expected = [(5, None), (1 << 40, Some(4)), (u64::MAX, Some(7))];
+        assert_eq!(state.tokens(), expected);
+        state.words[TOKEN_SIDE] = 1;
+        assert_eq!(state.tokens(), [(0, None); 3]);
+    }
+
+    #[test]
     fn a_buffer_has_no_shape() {
         let mut state = busy(NOTHING);
         state.second[1] = 0;
@@ -292,11 +401,14 @@ mod tests {
     }
 
     #[test]
-    fn resources_stand_in_any_order_and_the_rest_does_not() {
+    fn resources_and_tokens_stand_in_any_order_and_the_rest_does_not() {
         let state = busy(3);
         let mut other = state.clone();
         other.second[..RESOURCE_WORDS * state.rows(LIVE)].rotate_right(RESOURCE_WORDS);
         other.first[..RESOURCE_WORDS * state.rows(HELD)].rotate_left(RESOURCE_WORDS);
+        let [used, held] = [TOKENS, HELD_TOKENS].map(|count| TOKEN_WORDS * state.token_rows(count));
+        other.second_tokens[..used].rotate_right(TOKEN_WORDS);
+        other.first_tokens[..held].rotate_left(TOKEN_WORDS);
         assert!(state == other);
         let mut entries = state.clone();
         entries.entries[..2 * ENTRY_WORDS].rotate_right(ENTRY_WORDS);
@@ -322,6 +434,26 @@ mod tests {
         if tag > PACKETS {
             other.words[TAG] = numbers.next() | 3;
         }
+        copy_rows(state, &mut other);
+        if numbers.next() % 2 == 0 {
+            let State { first, second, .. } = &mut *other;
+            std::mem::swap(first, second);
+            other.words[SIDE] = (!other.is_set(SIDE)).into();
+        }
+        if numbers.next() % 2 == 0 {
+            let State {
+                first_tokens,
+                second_tokens,
+                ..
+            } = &mut *other;
+            std::mem::swap(first_tokens, second_tokens);
+            other.words[TOKEN_SIDE] = (!other.is_set(TOKEN_SIDE)).into();
+        }
+        other
+    }
+
+    /// The rows that mean something.
+    fn copy_rows(state: &State, other: &mut State) {
         let copy = |from: &[u64], to: &mut [u64], words: usize, count| {
             let live = words * state.rows(count);
             to[..live].copy_from_slice(&from[..live]);
@@ -336,12 +468,10 @@ mod tests {
         };
         copy(&state.first, &mut other.first, RESOURCE_WORDS, most);
         copy(&state.second, &mut other.second, RESOURCE_WORDS, most);
-        if numbers.next() % 2 == 0 {
-            let State { first, second, .. } = &mut *other;
-            std::mem::swap(first, second);
-            other.words[SIDE] = (!other.is_set(SIDE)).into();
-        }
-        other
+        let [used, held] = [TOKENS, HELD_TOKENS].map(|count| TOKEN_WORDS * state.token_rows(count));
+        let most = used.max(held);
+        other.first_tokens[..most].copy_from_slice(&state.first_tokens[..most]);
+        other.second_tokens[..most].copy_from_slice(&state.second_tokens[..most]);
     }
 
     /// Calls of all kinds on two states that are the same in other words: they say the same, and leave what is the same.

@@ -19,7 +19,11 @@ impl Numbers {
         let words = state.words.iter_mut();
         let tables = state.entries.iter_mut().chain(&mut state.records);
         let resources = state.first.iter_mut().chain(&mut state.second);
-        for word in words.chain(tables).chain(resources) {
+        let tokens = state
+            .first_tokens
+            .iter_mut()
+            .chain(&mut state.second_tokens);
+        for word in words.chain(tables).chain(resources).chain(tokens) {
             *word = self.next();
         }
         state.words[word::MEMORY] = memory as u64;

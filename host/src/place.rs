@@ -48,6 +48,8 @@ impl Place {
             | DeviceError::PastResource
             | DeviceError::HostBacked
             | DeviceError::BadCopy
+            | DeviceError::BadToken
+            | DeviceError::UnboundToken
             | DeviceError::BadState => Place::Packet(detail),
         }
     }

@@ -11,7 +11,8 @@ use std::fmt;
 /// - what a copy reads: the source, be it backed or not, has no record, and a copy without writeback has none at all;
 /// - a resource that lives with the host: neither its create nor what is done with it makes a record; nor does any destroy, nor a
 ///   dirty range or a copy of no bytes;
-/// - a texture's shape; which texture is the target; viewports and clears; and packets that the front does not know.
+/// - a texture's shape; which texture is the target; viewports and clears; and packets that the front does not know;
+/// - exports, imports and releases, which make no record: that two names are one surface a host learns from the stream alone.
 ///
 /// ```
 /// use zelezmut::{Range, Record, RecordKind, Rectangle};
@@ -41,7 +42,7 @@ pub enum Record {
 /// A checked range of guest memory, and its resource.
 #[derive(Clone, Copy, Debug, PartialEq, Eq, Hash)]
 pub struct Range {
-    /// The resource's handle.
+    /// The resource's name in the packet, which is one of several if it was imported.
     pub handle: u32,
     /// The table entry's id.
     pub id: u32,

@@ -27,7 +27,7 @@ use std::fmt;
 const MAGIC: [u8; 4] = *b"DSK2";
 
 /// What [`encode`] says of itself: bit N for wish N. Nobody who plays a script asks for it.
-const WISHES: u32 = 1 << 2 | 1 << 6 | 1 << 7 | 1 << 9;
+const WISHES: u32 = 1 << 2 | 1 << 5 | 1 << 6 | 1 << 7 | 1 << 9;
 
 /// The most bytes that a script has.
 pub const LONGEST_SCRIPT: usize = 1 << 20;
@@ -430,7 +430,7 @@ mod tests {
             },
         ];
         let bytes = encode(0x1234, &operations);
-        assert_eq!(bytes[..HEAD], *b"DSK2\x34\x12\x00\x00\xC4\x02\x00\x00");
+        assert_eq!(bytes[..HEAD], *b"DSK2\x34\x12\x00\x00\xE4\x02\x00\x00");
         assert_eq!(
             bytes[HEAD..],
             *b"\x04\x06\x05\x06\x01\x06\x05\x09\x01\x06\x05\x34\x12\x00\x00"

@@ -5,17 +5,22 @@
 //! words are kept and not written, and two files read them: this one for what no call tells, and [`meaning`](crate::meaning) to compare.
 use std::mem::size_of;
 
-/// Entries, resources and records are rows of words, at most so many of each.
+/// Entries, names of resources, and records are rows of words, at most so many of each.
 pub(crate) const MOST: usize = 64;
+
+/// So are tokens.
+pub(crate) const MOST_TOKENS: usize = 256;
 
 /// The words of a row.
 pub(crate) const ENTRY_WORDS: usize = 4;
-pub(crate) const RESOURCE_WORDS: usize = 11;
+pub(crate) const RESOURCE_WORDS: usize = 12;
+pub(crate) const TOKEN_WORDS: usize = 2;
 pub(crate) const RECORD_WORDS: usize = 5;
 
-pub(crate) type Words = [u64; 32];
+pub(crate) type Words = [u64; 36];
 pub(crate) type Entries = [u64; MOST * ENTRY_WORDS];
 pub(crate) type Resources = [u64; MOST * RESOURCE_WORDS];
+pub(crate) type Tokens = [u64; MOST_TOKENS * TOKEN_WORDS];
 pub(crate) type Records = [u64; MOST * RECORD_WORDS];
 
 /// A device's state.
@@ -30,17 +35,21 @@ pub(crate) struct State {
     /// The resources of the device, and as the submission in work has left them: the words say which table is which.
     pub(crate) first: Resources,
     pub(crate) second: Resources,
+    /// The tokens likewise, by two words of their own.
+    pub(crate) first_tokens: Tokens,
+    pub(crate) second_tokens: Tokens,
     pub(crate) records: Records,
 }
 
 /// It goes up with every landing that grows the state or changes what its words mean, here and in the library.
-const LAYOUT_VERSION: u64 = 2;
+const LAYOUT_VERSION: u64 = 3;
 
 /// The number that the library must give of itself: the version, and how many words each array has.
-pub(crate) const LAYOUT: u64 = LAYOUT_VERSION << 48
-    | words_of::<Words>() << 36
-    | words_of::<Entries>() << 24
-    | words_of::<Resources>() << 12
+pub(crate) const LAYOUT: u64 = LAYOUT_VERSION << 60
+    | words_of::<Words>() << 48
+    | words_of::<Entries>() << 36
+    | words_of::<Resources>() << 24
+    | words_of::<Tokens>() << 12
     | words_of::<Records>();
 
 const fn words_of<T>() -> u64 {
@@ -74,7 +83,7 @@ pub(crate) mod word {
     pub(crate) const STREAM_GPA: usize = 21;
     pub(crate) const STREAM_SIZE: usize = 22;
     pub(crate) const PLACE: usize = 23;
-    /// How many rows are live: of the entries kept, the device's resources, the submission's, and its records.
+    /// How many rows are live: of the entries kept, the names of the device's resources, of the submission's, and its records.
     pub(crate) const KEPT: usize = 24;
     pub(crate) const LIVE: usize = 25;
     pub(crate) const HELD: usize = 26;
@@ -87,6 +96,13 @@ pub(crate) mod word {
     pub(crate) const ERROR_DETAIL: usize = 30;
     /// The handle of the submission's target, 0 for none.
     pub(crate) const TARGET: usize = 31;
+    /// How many tokens the device has used since the last reset, and how many rows of them the submission has.
+    pub(crate) const TOKENS: usize = 32;
+    pub(crate) const HELD_TOKENS: usize = 33;
+    /// Of the device, whatever is in work: which table of tokens is its own.
+    pub(crate) const TOKEN_SIDE: usize = 34;
+    /// Whether the submission has the other table of tokens for its own.
+    pub(crate) const TOKENS_COPIED: usize = 35;
 }
 
 /// What is in work, by its tag; any other waits for the host.
@@ -117,5 +133,11 @@ impl State {
     #[inline]
     pub(crate) fn rows(&self, count: usize) -> usize {
         self.words[count].min(MOST as u64) as usize
+    }
+
+    /// How many rows a word says of tokens: there are no more than [`MOST_TOKENS`].
+    #[inline]
+    pub(crate) fn token_rows(&self, count: usize) -> usize {
+        self.words[count].min(MOST_TOKENS as u64) as usize
     }
 }

@@ -42,7 +42,7 @@ fn the_c_example_plays_a_submission() {
 
 /// A library of another layout: one more version, nothing else.
 const OTHER_LAYOUT: &str = "#include \"zelezmut.h\"\n\
-    uint64_t zelezmut_layout(void) { return ZELEZMUT_LAYOUT + (UINT64_C(1) << 48); }\n";
+    uint64_t zelezmut_layout(void) { return ZELEZMUT_LAYOUT + (UINT64_C(1) << 60); }\n";
 
 #[test]
 fn the_c_example_tells_a_library_of_another_layout() {
@@ -77,6 +77,36 @@ fn number_behind(text: &str, words: &str) -> u64 {
     digits.parse().unwrap_or_else(|_| panic!("{}", words))
 }
 
+/// What stands before each size, in Rust and in C.
+const SIZES: [(&str, &str); 8] = [
+    (
+        "const LAYOUT_VERSION: u64 = ",
+        "define ZELEZMUT_LAYOUT_VERSION ",
+    ),
+    ("const MOST: usize = ", "define ZELEZMUT_MOST "),
+    ("type Words = [u64; ", "define ZELEZMUT_WORDS "),
+    (
+        "const ENTRY_WORDS: usize = ",
+        "define ZELEZMUT_ENTRIES (ZELEZMUT_MOST * ",
+    ),
+    (
+        "const RESOURCE_WORDS: usize = ",
+        "define ZELEZMUT_RESOURCES (ZELEZMUT_MOST * ",
+    ),
+    (
+        "const MOST_TOKENS: usize = ",
+        "define ZELEZMUT_MOST_TOKENS ",
+    ),
+    (
+        "const TOKEN_WORDS: usize = ",
+        "define ZELEZMUT_TOKENS (ZELEZMUT_MOST_TOKENS * ",
+    ),
+    (
+        "const RECORD_WORDS: usize = ",
+        "define ZELEZMUT_RECORDS (ZELEZMUT_MOST * ",
+    ),
+];
+
 /// The header's sizes are those of the boundary in Rust, which the library is called by in all other tests.
 #[test]
 fn the_header_has_the_sizes_of_the_boundary() {
@@ -85,26 +115,7 @@ fn the_header_has_the_sizes_of_the_boundary() {
         include_str!("../src/front.rs"),
     );
     let header = include_str!("../include/zelezmut.h");
-    for (rust, c) in [
-        (
-            "const LAYOUT_VERSION: u64 = ",
-            "define ZELEZMUT_LAYOUT_VERSION ",
-        ),
-        ("const MOST: usize = ", "define ZELEZMUT_MOST "),
-        ("type Words = [u64; ", "define ZELEZMUT_WORDS "),
-        (
-            "const ENTRY_WORDS: usize = ",
-            "define ZELEZMUT_ENTRIES (ZELEZMUT_MOST * ",
-        ),
-        (
-            "const RESOURCE_WORDS: usize = ",
-            "define ZELEZMUT_RESOURCES (ZELEZMUT_MOST * ",
-        ),
-        (
-            "const RECORD_WORDS: usize = ",
-            "define ZELEZMUT_RECORDS (ZELEZMUT_MOST * ",
-        ),
-    ] {
+    for (rust, c) in SIZES {
         assert_eq!(
             number_behind(state, rust),
             number_behind(header, c),

@@ -30,11 +30,11 @@ impl Numbers {
 
     /// Between the opcodes that are known, and those.
     fn opcode(&mut self) -> u32 {
-        [255, 1023, 1535][self.below(3)] + self.below(9) as u32
+        [255, 1023, 1535, 1807][self.below(4)] + self.below(9) as u32
     }
 
     fn packet(&mut self) -> Packet {
-        match self.below(9) {
+        match self.below(11) {
             0 => Packet::Destroy {
                 handle: self.handle(),
             },
@@ -63,10 +63,20 @@ impl Numbers {
                 depth: self.float(),
                 stencil: 0,
             }),
+            6 => self.import(),
+            7 => Packet::Release { token: 1 },
             _ => Packet::Unknown {
                 opcode: self.opcode(),
                 size: 8 + 4 * self.below(12) as u32,
             },
+        }
+    }
+
+    /// No token is bound to anything.
+    fn import(&mut self) -> Packet {
+        Packet::Import {
+            handle: 2 + self.handle(),
+            token: self.below(2) as u64,
         }
     }
 
@@ -176,7 +186,7 @@ fn the_reader_and_the_front_agree() {
             Some(other) => panic!("{:?}: {:?}", other, stream),
         }
     }
-    for error in [0, 16, 17, 18, 26, 30] {
+    for error in [0, 16, 17, 18, 26, 29, 30] {
         let times = met.get(&error).copied().unwrap_or(0);
         assert!(times > 100, "error {}: {:?}", error, met);
     }

@@ -2,15 +2,15 @@
 #[path = "../examples/emulator.rs"]
 mod emulator;
 
-use emulator::{play, start, submit, Emulator, GET_BACK, MEMORY, PICTURE, STREAM, UPLOAD};
+use emulator::{play, start, submit, Emulator, GET_BACK, MEMORY, PICTURE, SHARE, STREAM, UPLOAD};
 use zelezmut::guest::{self, Backing, Clear, Packet, Scissor, Shape, Viewport};
-use zelezmut::DeviceError;
+use zelezmut::{registers, DeviceError};
 
 /// Where buffer 1 of the example lives in guest memory.
 const BACKING: usize = PICTURE.gpa as usize + 64;
 
 #[test]
-fn it_uploads_copies_and_gets_back() {
+fn it_uploads_copies_gets_back_and_shares() {
     emulator::main().unwrap();
     let mut out = Vec::new();
     play(&mut out).unwrap();
@@ -18,7 +18,9 @@ fn it_uploads_copies_and_gets_back() {
         String::from_utf8(out).unwrap(),
         "fence 1, surfaces [1, 2], troubles []\n\
          fence 2, surfaces [1], troubles []\n\
-         back in guest memory: hello\n"
+         fence 3, surfaces [1, 4], troubles []\n\
+         back in guest memory: hello\n\
+         in the shared texture: hello\n"
     );
 }
 
@@ -30,6 +32,11 @@ fn uploaded() -> Emulator {
     assert_eq!(submit(&mut emulator, 1, &UPLOAD), Ok(true));
     assert_eq!(emulator.serve(|_| ()), Ok(Vec::new()));
     emulator
+}
+
+fn names_of_the_desk(emulator: &Emulator) -> Vec<u32> {
+    let names = emulator.desk.names().into_iter();
+    names.map(|(name, _)| name).collect()
 }
 
 /// What the second submission comes to if the guest does this to the memory behind the check: the trouble.
@@ -46,8 +53,8 @@ fn changed_behind(packets: &[Packet], change: impl Fn(&mut [u8])) -> String {
     });
     let error = emulator.desk.last_error().map(|report| report.error);
     assert_eq!(error, Some(DeviceError::HostFailed));
-    let surfaces: Vec<u32> = emulator.surfaces.keys().copied().collect();
-    assert_eq!(surfaces, [1, 2]);
+    assert_eq!(emulator.surfaces.names(), [1, 2]);
+    assert_eq!(names_of_the_desk(&emulator), [1, 2]);
     assert_eq!(emulator.desk.completed_fence(), 2);
     troubles.unwrap().join("; ")
 }
@@ -137,7 +144,7 @@ fn state_packets_are_carried_out_and_judged_anew() {
     let mut emulator = uploaded();
     submit(&mut emulator, 2, &drawing()).unwrap();
     assert_eq!(emulator.serve(|_| ()), Ok(Vec::new()));
-    assert!(emulator.surfaces.contains_key(&3));
+    assert!(emulator.surfaces.get(3).is_some());
 
     let [texture, target, viewport] = [24, 24 + 56, 24 + 56 + 16].map(|at| STREAM + at);
     let scissor = viewport + 32;
@@ -196,7 +203,66 @@ fn textures_have_the_bytes_that_back_them() {
     );
     submit(&mut emulator, 2, &[backed, texture(4, None), dirty]).unwrap();
     assert_eq!(emulator.serve(|_| ()), Ok(Vec::new()));
-    assert_eq!(emulator.surfaces[&3].len(), 72);
-    assert_eq!(emulator.surfaces[&3][70..], *b"!?");
-    assert_eq!(emulator.surfaces[&4].len(), 0);
+    let bytes = emulator.surfaces.get(3).unwrap();
+    assert_eq!((bytes.len(), &bytes[70..]), (72, &b"!?"[..]));
+    assert_eq!(emulator.surfaces.get(4), Some(&[][..]));
+}
+
+#[test]
+fn a_surface_goes_with_its_last_name() {
+    let mut emulator = uploaded();
+    let import = |handle| Packet::Import { handle, token: 77 };
+    let destroy = |handle| Packet::Destroy { handle };
+    for (fence, packets, names) in [
+        (2, &SHARE[..], &[1, 2, 4][..]),
+        (3, &[import(3), import(9), destroy(4)], &[1, 2, 3, 9]),
+        (4, &[destroy(3)], &[1, 2, 9]),
+        (5, &[Packet::Release { token: 77 }], &[1, 2, 9]),
+        (6, &[destroy(9)], &[1, 2]),
+    ] {
+        submit(&mut emulator, fence, packets).unwrap();
+        assert_eq!(emulator.serve(|_| ()), Ok(Vec::new()), "fence {}", fence);
+        assert_eq!(emulator.surfaces.names(), names);
+        assert_eq!(names_of_the_desk(&emulator), names);
+        if let Some(bytes) = emulator.surfaces.get(9) {
+            assert_eq!(bytes[16..21], *b"hello");
+        }
+    }
+    assert_eq!(emulator.desk.tokens(), [(77, None)]);
+    // The reset forgets tokens: this one can be used again.
+    emulator
+        .write(registers::CONTROL, registers::CONTROL_RESET)
+        .unwrap();
+    assert_eq!(emulator.surfaces.names(), []);
+    guest::put(&mut emulator.memory, BACKING + 16, b"again");
+    start(&mut emulator).unwrap();
+    submit(&mut emulator, 1, &SHARE).unwrap();
+    assert_eq!(emulator.serve(|_| ()), Ok(Vec::new()));
+    assert_eq!(emulator.surfaces.get(4).unwrap()[16..21], *b"again");
+}
+
+#[test]
+fn names_and_tokens_are_judged_anew() {
+    let export = STREAM + 24 + 56;
+    let [import, dirty] = [export + 24, export + 48];
+    let destroy = dirty + 32;
+    for (at, value, trouble) in [
+        (export + 8, 9, "there is no surface 9"),
+        (export + 16, 76, "token 77 is bound to nothing"),
+        (import, 1808, "there is no surface 4"),
+        (import + 8, 3, "there is a surface 3 already"),
+        (import + 16, 76, "token 76 is bound to nothing"),
+        (dirty + 8, 3, "no record reads 5 bytes of surface 3"),
+        (destroy + 8, 5, "there is no surface 5"),
+        (destroy, 1810, "token 3 is bound to nothing"),
+    ] {
+        let put = |memory: &mut [u8]| guest::put(memory, at, &u32::to_le_bytes(value));
+        let told = changed_behind(&SHARE, put);
+        assert_eq!(told, format!("fence 2: {}", trouble));
+    }
+    // A token that the guest has put in place of another: what the host was told before counts.
+    let again = [SHARE[0], SHARE[1], SHARE[1]];
+    let put = |memory: &mut [u8]| guest::put(memory, import + 8, &1u32.to_le_bytes());
+    let told = changed_behind(&again, put);
+    assert_eq!(told, "fence 2: token 77 is taken or spent");
 }

@@ -192,6 +192,81 @@ fn other_resources_are_another_desk() {
     }
 }
 
+/// Two textures, and what programs do with their tokens.
+fn sharing(packets: &[Packet]) -> Night {
+    let texture = |handle| Packet::CreateTexture {
+        handle,
+        shape: Shape { mips: 1, ..SHAPE },
+        backing: None,
+    };
+    let created = [texture(1), texture(2)];
+    after(&[&created, packets].concat())
+}
+
+fn export(handle: u32, token: u64) -> Packet {
+    Packet::Export { handle, token }
+}
+
+fn import(handle: u32, token: u64) -> Packet {
+    Packet::Import { handle, token }
+}
+
+#[test]
+fn other_names_or_tokens_are_another_desk() {
+    let release = |token| Packet::Release { token };
+    let destroy = |handle| Packet::Destroy { handle };
+    let nights: Vec<Night> = [
+        &[][..],
+        &[export(1, 7)],
+        &[export(1, 8)],
+        &[export(2, 7)],
+        &[export(1, 7), release(7)],
+        &[export(1, 7), export(1, 8)],
+        &[export(1, 7), export(2, 8)],
+        &[export(1, 7), import(3, 7)],
+        &[export(1, 7), import(4, 7)],
+        &[export(2, 7), import(3, 7)],
+        &[export(1, 7), import(3, 7), release(7)],
+        &[export(1, 7), import(3, 7), destroy(1)],
+        &[export(1, 7), destroy(1)],
+    ]
+    .into_iter()
+    .map(sharing)
+    .collect();
+    for (i, night) in nights.iter().enumerate() {
+        for (j, other) in nights.iter().enumerate() {
+            assert_eq!(night.desk == other.desk, i == j, "{} and {}", i, j);
+        }
+    }
+}
+
+#[test]
+fn tokens_are_a_map_and_names_have_no_history() {
+    let one = sharing(&[export(1, 7), export(2, 8)]);
+    let other = sharing(&[export(2, 8), export(1, 7)]);
+    assert_eq!(one.desk, other.desk);
+    // Which of its names a resource had first says nothing.
+    let first = sharing(&[export(1, 7), import(3, 7)]);
+    let moved = [
+        export(1, 7),
+        import(3, 7),
+        Packet::Destroy { handle: 1 },
+        import(1, 7),
+    ];
+    assert_eq!(sharing(&moved).desk, first.desk);
+    // Nor does it for a submission in work.
+    let mut begun = [
+        sharing(&[export(1, 7), export(2, 8)]),
+        sharing(&[export(2, 8), export(1, 7)]),
+    ];
+    begun[0].submit(1, &[5], &[import(3, 8)]);
+    begun[1].submit(1, &[5], &[import(3, 8)]);
+    for night in &mut begun {
+        assert_eq!(night.run(100), Ended::Waiting);
+    }
+    assert_eq!(begun[0].desk, begun[1].desk);
+}
+
 #[test]
 fn other_registers_are_another_desk() {
     assert_ne!(Desk::new(16), Desk::new(17));

@@ -16,26 +16,26 @@ use Rattle.device_memory_calls.specs.declared.Spent.{Spent}
 use Rattle.device.specs.Views.{stateOf, worldOf, wroteOf, ranOf}
 use Rattle.device.specs.declared.Device.{Device}
 
-pub is-made : (memory : ℕ) (s e a b c : List ℕ) → Makes memory s → stateOf (record { words = s; entries = e; first = a; second = b; records = c }) ≡ made memory
-is-made memory s e a b c k = k .new e a b c
+pub is-made : (memory : ℕ) (s e a b ft st c : List ℕ) → Makes memory s → stateOf (record { words = s; entries = e; first = a; second = b; firsttokens = ft; secondtokens = st; records = c }) ≡ made memory
+is-made memory s e a b ft st c k = k .new e a b ft st c
 
 module _ (d : Device) where
   pub wrote : (offset v answer : ℕ) (s′ : List ℕ) → Writes (d .words) offset v answer s′
-      → wroteOf (record { answer = answer; device = record { words = s′; entries = d .entries; first = d .first; second = d .second; records = d .records } }) ≡ call-write (stateOf d) offset v
-  wrote offset v answer s′ k = k .wrote (d .entries) (d .first) (d .second) (d .records)
+      → wroteOf (record { answer = answer; device = record { words = s′; entries = d .entries; first = d .first; second = d .second; firsttokens = d .firsttokens; secondtokens = d .secondtokens; records = d .records } }) ≡ call-write (stateOf d) offset v
+  wrote offset v answer s′ k = k .wrote (d .entries) (d .first) (d .second) (d .firsttokens) (d .secondtokens) (d .records)
 
   pub read : (offset : ℕ) (x : ValueRead) → Reads (d .words) offset x → valueOf x ≡ call-read (stateOf d) offset
-  read offset x k = k .value (d .entries) (d .first) (d .second) (d .records)
+  read offset x k = k .value (d .entries) (d .first) (d .second) (d .firsttokens) (d .secondtokens) (d .records)
 
   pub record-read : (i : ℕ) (x : RecordRead) → GivesRecord (d .words) (d .records) i x → recordReadOf x ≡ call-record (stateOf d) i
-  record-read i x k = k .hands (d .entries) (d .first) (d .second)
+  record-read i x k = k .hands (d .entries) (d .first) (d .second) (d .firsttokens) (d .secondtokens)
 
-  pub ran : (m : List ℕ) (allowance : ℕ) (x : Spent) (s′ e′ a′ b′ c′ m′ : List ℕ) → Runs allowance (lent (d .words) (d .entries) (d .first) (d .second) (d .records) m) x (lent s′ e′ a′ b′ c′ m′)
-      → ranOf (record { answer = x .answer; units = x .units; ended = x .ended; device = record { words = s′; entries = e′; first = a′; second = b′; records = c′ } }) m′ ≡ call-run (worldOf d m) allowance
-  ran m allowance x s′ e′ a′ b′ c′ m′ k = k .ran
+  pub ran : (m : List ℕ) (allowance : ℕ) (x : Spent) (s′ e′ a′ b′ ft′ st′ c′ m′ : List ℕ) → Runs allowance (lent (d .words) (d .entries) (d .first) (d .second) (d .firsttokens) (d .secondtokens) (d .records) m) x (lent s′ e′ a′ b′ ft′ st′ c′ m′)
+      → ranOf (record { answer = x .answer; units = x .units; ended = x .ended; device = record { words = s′; entries = e′; first = a′; second = b′; firsttokens = ft′; secondtokens = st′; records = c′ } }) m′ ≡ call-run (worldOf d m) allowance
+  ran m allowance x s′ e′ a′ b′ ft′ st′ c′ m′ k = k .ran
 
-  pub answered : (m : List ℕ) (good : Bool) (allowance : ℕ) (x : Spent) (s′ e′ a′ b′ c′ m′ : List ℕ) → Answers good allowance (lent (d .words) (d .entries) (d .first) (d .second) (d .records) m) x (lent s′ e′ a′ b′ c′ m′)
-      → ranOf (record { answer = x .answer; units = x .units; ended = x .ended; device = record { words = s′; entries = e′; first = a′; second = b′; records = c′ } }) m′ ≡ call-answer (worldOf d m) good allowance
-  answered m good allowance x s′ e′ a′ b′ c′ m′ k = k .ran
+  pub answered : (m : List ℕ) (good : Bool) (allowance : ℕ) (x : Spent) (s′ e′ a′ b′ ft′ st′ c′ m′ : List ℕ) → Answers good allowance (lent (d .words) (d .entries) (d .first) (d .second) (d .firsttokens) (d .secondtokens) (d .records) m) x (lent s′ e′ a′ b′ ft′ st′ c′ m′)
+      → ranOf (record { answer = x .answer; units = x .units; ended = x .ended; device = record { words = s′; entries = e′; first = a′; second = b′; firsttokens = ft′; secondtokens = st′; records = c′ } }) m′ ≡ call-answer (worldOf d m) good allowance
+  answered m good allowance x s′ e′ a′ b′ ft′ st′ c′ m′ k = k .ran
 
 pub ruleset calling = (is-made, wrote, read, record-read, ran, answered, needs)

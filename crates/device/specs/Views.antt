@@ -9,10 +9,10 @@ use Rattle.device.specs.declared.Wrote.{Wrote}
 use Rattle.device.specs.declared.Ran.{Ran}
 
 abbrev pub worldOf : Device → List ℕ → World
-worldOf d m = deskIn (d .words) (d .entries) (d .first) (d .second) (d .records) m
+worldOf d m = deskIn (d .words) (d .entries) (d .first) (d .second) (d .firsttokens) (d .secondtokens) (d .records) m
 
 abbrev pub stateOf : Device → State
-stateOf d = stateIn (d .words) (d .entries) (d .first) (d .second) (d .records)
+stateOf d = stateIn (d .words) (d .entries) (d .first) (d .second) (d .firsttokens) (d .secondtokens) (d .records)
 
 abbrev pub wroteOf : Wrote → WroteBy
 wroteOf r = record { answer = r .answer; state = stateOf (r .device) }

@@ -10,12 +10,14 @@ ghost use Rattle.rules.specs.Calls.{call-write, call-read, call-run, call-recor
 ghost use Rattle.device_calls.specs.Views.{valueOf, recordReadOf};
 ghost use Rattle.device.specs.Views.{stateOf, worldOf, wroteOf, ranOf};
 
-// A device by value: its words, the entries kept, the two tables of resources and the records.
+// A device by value: its words, the entries kept, the two tables of resources, the two of tokens, and the records.
 pub struct Device {
-    pub words: [u64; 32],
+    pub words: [u64; 36],
     pub entries: [u64; 256],
-    pub first: [u64; 704],
-    pub second: [u64; 704],
+    pub first: [u64; 768],
+    pub second: [u64; 768],
+    pub firsttokens: [u64; 512],
+    pub secondtokens: [u64; 512],
     pub records: [u64; 320],
 }
 
@@ -38,13 +40,15 @@ impl Device {
     pub fn new(memory: usize) -> Device
         ensures { λ r. ⌜ stateOf r ≡ made memory ⌝ }
     {
-        let mut words = [0u64; 32];
+        let mut words = [0u64; 36];
         device_calls::make(&mut words, memory);
         Device {
             words,
             entries: [0u64; 256],
-            first: [0u64; 704],
-            second: [0u64; 704],
+            first: [0u64; 768],
+            second: [0u64; 768],
+            firsttokens: [0u64; 512],
+            secondtokens: [0u64; 512],
             records: [0u64; 320],
         }
     }
@@ -57,6 +61,8 @@ impl Device {
         let entries = self.entries;
         let first = self.first;
         let second = self.second;
+        let firsttokens = self.firsttokens;
+        let secondtokens = self.secondtokens;
         let records = self.records;
         let answer = registers::writing::write(&mut words, offset, value);
         let device = Device {
@@ -64,6 +70,8 @@ impl Device {
             entries,
             first,
             second,
+            firsttokens,
+            secondtokens,
             records,
         };
         Wrote { answer, device }
@@ -94,12 +102,16 @@ impl Device {
         let mut entries = self.entries;
         let mut first = self.first;
         let mut second = self.second;
+        let mut firsttokens = self.firsttokens;
+        let mut secondtokens = self.secondtokens;
         let mut records = self.records;
         let x = device_memory_calls::run(
             &mut words,
             &mut entries,
             &mut first,
             &mut second,
+            &mut firsttokens,
+            &mut secondtokens,
             &mut records,
             mem,
             allowance,
@@ -110,6 +122,8 @@ impl Device {
             entries,
             first,
             second,
+            firsttokens,
+            secondtokens,
             records,
         };
         Ran {
@@ -129,12 +143,16 @@ impl Device {
         let mut entries = self.entries;
         let mut first = self.first;
         let mut second = self.second;
+        let mut firsttokens = self.firsttokens;
+        let mut secondtokens = self.secondtokens;
         let mut records = self.records;
         let x = device_memory_calls::answer(
             &mut words,
             &mut entries,
             &mut first,
             &mut second,
+            &mut firsttokens,
+            &mut secondtokens,
             &mut records,
             mem,
             good,
@@ -146,6 +164,8 @@ impl Device {
             entries,
             first,
             second,
+            firsttokens,
+            secondtokens,
             records,
         };
         Ran {

@@ -19,8 +19,8 @@ use Rattle.registers.specs.declared.Shown.{Shown}
 use Rattle.registers.specs.declared.Shown.the-variants.{Value, NoRegister as NoShown}
 use Rattle.rows.specs.Rows.{rowAt, table, tab}
 use Rattle.kept_resources.specs.Views.{recordOf, recordsOf}
-use Rattle.run_state.specs.Views.{countIn, registersIn, tagIn, worldIn, rested, stateIn, sideIn}
-use Rattle.run_state.specs.Reading.{none-live}
+use Rattle.run_state.specs.Views.{countIn, registersIn, tagIn, worldIn, rested, stateIn, sideIn, tokenSideIn}
+use Rattle.run_state.specs.Reading.{none-live, none-used}
 use Rattle.run_state.specs.Stages.{waits-in, outs-in}
 use Rattle.run_state.specs.Spelled.{spell}
 use Rattle.device_calls.specs.Views.{noRecord, Makes, Reads, GivesRecord}
@@ -29,15 +29,15 @@ use Rattle.device_calls.specs.declared.RecordRead.{RecordRead}
 -- ---- make
 
 abbrev made-words : ℕ → List ℕ → List ℕ
-made-words n w = set (set (set (set (set (set (set (set (set (set (set (set (set (set (set (set w 0 n) 1 0) 2 0) 3 0) 4 0) 5 0) 6 0) 7 0) 8 0) 9 0) 10 0) 11 0) 30 0) 12 0) 25 0) 28 0
+made-words n w = set (set (set (set (set (set (set (set (set (set (set (set (set (set (set (set (set (set w 0 n) 1 0) 2 0) 3 0) 4 0) 5 0) 6 0) 7 0) 8 0) 9 0) 10 0) 11 0) 30 0) 12 0) 25 0) 28 0) 32 0) 34 0
 
-pub makes : (s s′ : List ℕ) (memory n : ℕ) → length s ≡ 32 → (n ≡ memory) × (n < 18446744073709551616)
-    → s′ ≡ rested (set (set (set (set (set (set (set (set (set (set (set (set (set (set (set (set s 0 n) 1 0) 2 0) 3 0) 4 0) 5 0) 6 0) 7 0) 8 0) 9 0) 10 0) 11 0) 30 0) 12 0) 25 0) 28 0)
+pub makes : (s s′ : List ℕ) (memory n : ℕ) → length s ≡ 36 → (n ≡ memory) × (n < 18446744073709551616)
+    → s′ ≡ rested (set (set (set (set (set (set (set (set (set (set (set (set (set (set (set (set (set (set s 0 n) 1 0) 2 0) 3 0) 4 0) 5 0) 6 0) 7 0) 8 0) 9 0) 10 0) 11 0) 30 0) 12 0) 25 0) 28 0) 32 0) 34 0)
     → Makes memory s′
 unfolding worldIn rested
 makes s s′ memory n long p is =
     record {
-      new = λ e a b c. rw is (spell (λ w. stateIn (rested (made-words n w)) e a b c) s long ∙ rw (p .0, none-live a));
+      new = λ e a b ft st c. rw is (spell (λ w. stateIn (rested (made-words n w)) e a b ft st c) s long ∙ rw (p .0, none-live a, none-used ft));
       rests = rw is (spell (λ w. rested (made-words n w)) s long ∙ sym (spell (λ w. rested (rested (made-words n w))) s long));
     }
 
@@ -56,11 +56,11 @@ shown-value (found x) v e = let same : x .value ≡ v = cc in rw same
 module _ (s : List ℕ) (offset : ℕ) (x : Shown) (is : x ≡ shown (register (registersIn s) offset)) where
   pub reads-none : x ≡ NoShown → Reads s offset (record { answer = no-register; value = 0 })
   unfolding call-read worldIn
-  reads-none q = record { value = λ e a b c. sym (shown-none (register (registersIn s) offset) (sym is ∙ q)) }
+  reads-none q = record { value = λ e a b ft st c. sym (shown-none (register (registersIn s) offset) (sym is ∙ q)) }
 
   pub reads-value : (v : ℕ) → x ≡ Value v → Reads s offset (record { answer = done; value = v })
   unfolding call-read worldIn
-  reads-value v q = record { value = λ e a b c. sym (shown-value (register (registersIn s) offset) v (sym is ∙ q)) }
+  reads-value v q = record { value = λ e a b ft st c. sym (shown-value (register (registersIn s) offset) v (sym is ∙ q)) }
 
 pub ruleset reading = (reads-none, reads-value, needs)
 
@@ -81,17 +81,17 @@ nth-past f i (suc n) (suc k) h = nth-past f (suc i) n k (omega arith)
 module _ (s c : List ℕ) (i k : ℕ) (at : k ≡ i) where
   pub hands-unasked : (x : RecordRead) → tagIn s < 3 → x ≡ noRecord → GivesRecord s c i x
   unfolding call-record nth
-  hands-unasked x low p = record { hands = λ e a b. rw (p, outs-in s e (pick (sideIn s) b a) (pick (sideIn s) a b) c [] low) }
+  hands-unasked x low p = record { hands = λ e a b ft st. rw (p, outs-in s e (pick (sideIn s) b a) (pick (sideIn s) a b) (pick (tokenSideIn s) st ft) (pick (tokenSideIn s) ft st) c [] low) }
 
   module _ (waiting : 3 ≤ tagIn s) (n : ℕ) (is : (n ≡ countIn (getD s 27 0)) × (n ≤ most)) where
-    there : (e a b : List ℕ) → handed-out (stateIn s e a b c .work) ≡ recordsOf n c
-    there e a b = rw (waits-in s e (pick (sideIn s) b a) (pick (sideIn s) a b) c [] waiting, is .0)
+    there : (e a b ft st : List ℕ) → handed-out (stateIn s e a b ft st c .work) ≡ recordsOf n c
+    there e a b ft st = rw (waits-in s e (pick (sideIn s) b a) (pick (sideIn s) a b) (pick (tokenSideIn s) st ft) (pick (tokenSideIn s) ft st) c [] waiting, is .0)
 
     pub hands-past : (x : RecordRead) → n ≤ k → x ≡ noRecord → GivesRecord s c i x
     unfolding call-record table
     hands-past x p q =
         let out : nth (recordsOf n c) i ≡ none = nth-past (λ j. recordOf (rowAt 5 c j)) 0 n i (omega arith) in
-        record { hands = λ e a b. rw (q, there e a b, out) }
+        record { hands = λ e a b ft st. rw (q, there e a b ft st, out) }
 
     pub record-room : k < n → k < most
     record-room p = omega (arith, is .1)
@@ -100,6 +100,6 @@ module _ (s c : List ℕ) (i k : ℕ) (at : k ≡ i) where
     unfolding call-record table
     hands-there x p q =
         let out : nth (recordsOf n c) i ≡ found (recordOf (rowAt 5 c (0 + i))) = nth-tab (λ j. recordOf (rowAt 5 c j)) 0 n i (omega arith) in
-        record { hands = λ e a b. rw (there e a b, out, zero-add, q, at) }
+        record { hands = λ e a b ft st. rw (there e a b ft st, out, zero-add, q, at) }
 
 pub ruleset handing = (hands-unasked, hands-past, record-room, hands-there, needs)

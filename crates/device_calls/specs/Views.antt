@@ -21,11 +21,11 @@ noRecord = record { answer = no-record; range = no-range }
 
 -- a new device; no word is left of what was in work
 pub record Makes (memory : ℕ) (s′ : List ℕ) : Type 0 where
-  pub new : (e a b c : List ℕ) → stateIn s′ e a b c ≡ made memory
+  pub new : (e a b ft st c : List ℕ) → stateIn s′ e a b ft st c ≡ made memory
   pub rests : Rests s′
 
 pub record Reads (s : List ℕ) (offset : ℕ) (x : ValueRead) : Type 0 where
-  pub value : (e a b c : List ℕ) → valueOf x ≡ call-read (stateIn s e a b c) offset
+  pub value : (e a b ft st c : List ℕ) → valueOf x ≡ call-read (stateIn s e a b ft st c) offset
 
 pub record GivesRecord (s c : List ℕ) (i : ℕ) (x : RecordRead) : Type 0 where
-  pub hands : (e a b : List ℕ) → recordReadOf x ≡ call-record (stateIn s e a b c) i
+  pub hands : (e a b ft st : List ℕ) → recordReadOf x ≡ call-record (stateIn s e a b ft st c) i

@@ -25,6 +25,8 @@ use run_state::RING;
 use run_state::RING_SIZE;
 use run_state::SIDE;
 use run_state::TAG;
+use run_state::TOKEN_SIDE;
+use run_state::TOKENS;
 use run_state::WAITING;
 use run_state::Words;
 use run_state::rest;
@@ -68,6 +70,8 @@ pub fn make(words: &mut Words, memory: usize)
     words[DOORBELL] = 0;
     words[LIVE] = 0;
     words[SIDE] = 0;
+    words[TOKENS] = 0;
+    words[TOKEN_SIDE] = 0;
     rest(words);
 }
 

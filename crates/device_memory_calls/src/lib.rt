@@ -3,6 +3,7 @@
 use kept_entries::Entries;
 use kept_records::Records;
 use kept_resources::resources::Resources;
+use kept_tokens::Tokens;
 use rules::Ended;
 use rules::Fault;
 use rules::numbers::DONE;
@@ -17,13 +18,14 @@ use run_state::MEMORY;
 use run_state::NOTHING;
 use run_state::SIDE;
 use run_state::TAG;
+use run_state::TOKEN_SIDE;
 use run_state::WAITING;
 use run_state::Words;
 use widths::word_to_usize;
 ghost use mathlib.Core.Path.{_≡_};
 ghost use Prim.Native.Nat.{_≤_};
 ghost use Rattle.run_state.specs.Views.{tagIn};
-ghost use Rattle.device_memory_calls.specs.Views.{Ends, RanOn, refusedWith, Runs, SettlesAnswered, Answers};
+ghost use Rattle.device_memory_calls.specs.Views.{Ends, RanSided, RanOn, refusedWith, Runs, SettlesAnswered, Answers};
 
 // What a run or an answer is answered with: the call's answer, the units spent and how it ended.
 pub struct Spent {
@@ -52,12 +54,73 @@ fn ended_in(words: &Words) -> Ended
     Ended::Paused
 }
 
-// A run, with the table of resources that is the device's and the other. Without an allowance nothing is looked at.
+// A run, with the table of tokens that is the device's and the other.
+fn run_sided(
+    words: &mut Words,
+    entries: &mut Entries,
+    resources: &Resources,
+    own: &mut Resources,
+    firsttokens: &mut Tokens,
+    secondtokens: &mut Tokens,
+    records: &mut Records,
+    mem: &mut [u8],
+    allowance: u16,
+) -> u16
+    ensures { λ r. ⌜ RanSided allowance (now (resources .entry))
+        (record {
+          words = now (words .entry);
+          entries = now (entries .entry);
+          own = now (own .entry);
+          firstTokens = now (firsttokens .entry);
+          secondTokens = now (secondtokens .entry);
+          records = now (records .entry);
+          mem = now (mem .entry);
+        })
+        r
+        (record {
+          words = now (words .exit);
+          entries = now (entries .exit);
+          own = now (own .exit);
+          firstTokens = now (firsttokens .exit);
+          secondTokens = now (secondtokens .exit);
+          records = now (records .exit);
+          mem = now (mem .exit);
+        }) ⌝ }
+{
+    if words[TOKEN_SIDE] == 0 {
+        return run_loop::run(
+            words,
+            mem,
+            entries,
+            resources,
+            own,
+            firsttokens,
+            secondtokens,
+            records,
+            allowance,
+        );
+    }
+    run_loop::run(
+        words,
+        mem,
+        entries,
+        resources,
+        own,
+        secondtokens,
+        firsttokens,
+        records,
+        allowance,
+    )
+}
+
+// A run, with the tables that are the device's and the others. Without an allowance nothing is looked at.
 fn run_on(
     words: &mut Words,
     entries: &mut Entries,
     first: &mut Resources,
     second: &mut Resources,
+    firsttokens: &mut Tokens,
+    secondtokens: &mut Tokens,
     records: &mut Records,
     mem: &mut [u8],
     allowance: u16,
@@ -68,6 +131,8 @@ fn run_on(
           entries = now (entries .entry);
           first = now (first .entry);
           second = now (second .entry);
+          firstTokens = now (firsttokens .entry);
+          secondTokens = now (secondtokens .entry);
           records = now (records .entry);
           mem = now (mem .entry);
         })
@@ -77,6 +142,8 @@ fn run_on(
           entries = now (entries .exit);
           first = now (first .exit);
           second = now (second .exit);
+          firstTokens = now (firsttokens .exit);
+          secondTokens = now (secondtokens .exit);
           records = now (records .exit);
           mem = now (mem .exit);
         }) ⌝ }
@@ -85,9 +152,29 @@ fn run_on(
         return 0;
     }
     if words[SIDE] == 0 {
-        return run_loop::run(words, mem, entries, first, second, records, allowance);
+        return run_sided(
+            words,
+            entries,
+            first,
+            second,
+            firsttokens,
+            secondtokens,
+            records,
+            mem,
+            allowance,
+        );
     }
-    run_loop::run(words, mem, entries, second, first, records, allowance)
+    run_sided(
+        words,
+        entries,
+        second,
+        first,
+        firsttokens,
+        secondtokens,
+        records,
+        mem,
+        allowance,
+    )
 }
 
 // A call that is refused with this answer: nothing was spent, and it says idle.
@@ -107,6 +194,8 @@ pub fn run(
     entries: &mut Entries,
     first: &mut Resources,
     second: &mut Resources,
+    firsttokens: &mut Tokens,
+    secondtokens: &mut Tokens,
     records: &mut Records,
     mem: &mut [u8],
     allowance: u16,
@@ -117,6 +206,8 @@ pub fn run(
           entries = now (entries .entry);
           first = now (first .entry);
           second = now (second .entry);
+          firstTokens = now (firsttokens .entry);
+          secondTokens = now (secondtokens .entry);
           records = now (records .entry);
           mem = now (mem .entry);
         })
@@ -126,6 +217,8 @@ pub fn run(
           entries = now (entries .exit);
           first = now (first .exit);
           second = now (second .exit);
+          firstTokens = now (firsttokens .exit);
+          secondTokens = now (secondtokens .exit);
           records = now (records .exit);
           mem = now (mem .exit);
         }) ⌝ }
@@ -134,7 +227,17 @@ pub fn run(
     if mem.len() != memory {
         return refused(OTHER_MEMORY);
     }
-    let units = run_on(words, entries, first, second, records, mem, allowance);
+    let units = run_on(
+        words,
+        entries,
+        first,
+        second,
+        firsttokens,
+        secondtokens,
+        records,
+        mem,
+        allowance,
+    );
     let ended = ended_in(words);
     Spent {
         answer: DONE,
@@ -166,6 +269,8 @@ pub fn answer(
     entries: &mut Entries,
     first: &mut Resources,
     second: &mut Resources,
+    firsttokens: &mut Tokens,
+    secondtokens: &mut Tokens,
     records: &mut Records,
     mem: &mut [u8],
     good: bool,
@@ -177,6 +282,8 @@ pub fn answer(
           entries = now (entries .entry);
           first = now (first .entry);
           second = now (second .entry);
+          firstTokens = now (firsttokens .entry);
+          secondTokens = now (secondtokens .entry);
           records = now (records .entry);
           mem = now (mem .entry);
         })
@@ -186,6 +293,8 @@ pub fn answer(
           entries = now (entries .exit);
           first = now (first .exit);
           second = now (second .exit);
+          firstTokens = now (firsttokens .exit);
+          secondTokens = now (secondtokens .exit);
           records = now (records .exit);
           mem = now (mem .exit);
         }) ⌝ }
@@ -198,7 +307,17 @@ pub fn answer(
         return refused(NOTHING_WAITS);
     }
     settle_answered(words, mem, good);
-    let units = run_on(words, entries, first, second, records, mem, allowance);
+    let units = run_on(
+        words,
+        entries,
+        first,
+        second,
+        firsttokens,
+        secondtokens,
+        records,
+        mem,
+        allowance,
+    );
     let ended = ended_in(words);
     Spent {
         answer: DONE,

@@ -1,3 +1,4 @@
 pub mod Views
 pub mod Resources
 pub mod Storing
+pub mod Naming

@@ -29,30 +29,30 @@ module _ (l : List ℕ) (b : ℕ) where
   kind-texture-at f w h m y n p q r s t = rw (ne-eqb _ _ n, p, q, r, s, t)
 
 -- the kind of a row is what stands at its words
-kind-of-row : (l : List ℕ) (i : ℕ) → kindIn (rowAt 11 l i) 0 ≡ kindIn l (11 * i)
+kind-of-row : (l : List ℕ) (i : ℕ) → kindIn (rowAt 12 l i) 0 ≡ kindIn l (12 * i)
 kind-of-row l i =
-    rw (row-field 11 l i 1 (omega arith), row-field 11 l i 3 (omega arith), row-field 11 l i 4 (omega arith), row-field 11 l i 5 (omega arith), row-field 11 l i 6 (omega arith), row-field 11 l i 7 (omega arith))
+    rw (row-field 12 l i 1 (omega arith), row-field 12 l i 3 (omega arith), row-field 12 l i 4 (omega arith), row-field 12 l i 5 (omega arith), row-field 12 l i 6 (omega arith), row-field 12 l i 7 (omega arith))
 
-pub row-read : (l : List ℕ) (i a p y o : ℕ) (k : Kind) → k ≡ kindIn l (11 * i) → a ≡ getD l (11 * i) 0 % 4294967296 → p ≡ getD l (11 * i + 8) 0 % 4294967296
-    → y ≡ getD l (11 * i + 9) 0 % 4294967296 → o ≡ getD l (11 * i + 10) 0 % 4294967296
-    → _≡_ {A = Resource} (record { handle = a; kind = k; bytes = getD l (11 * i + 2) 0; pitch = p; backing = y; offset = o }) (resourceOf (rowAt 11 l i))
-row-read l i a p y o k e q r s t =
-    let base : getD (rowAt 11 l i) 0 0 ≡ getD l (11 * i) 0 = rw (row-field 11 l i 0 (omega arith), add-zero) in
-    rw (e, q, r, s, t, base, kind-of-row l i, row-field 11 l i 2 (omega arith), row-field 11 l i 8 (omega arith), row-field 11 l i 9 (omega arith), row-field 11 l i 10 (omega arith))
+pub row-read : (l : List ℕ) (i a p y o w : ℕ) (k : Kind) → k ≡ kindIn l (12 * i) → a ≡ getD l (12 * i) 0 % 4294967296 → p ≡ getD l (12 * i + 8) 0 % 4294967296
+    → y ≡ getD l (12 * i + 9) 0 % 4294967296 → o ≡ getD l (12 * i + 10) 0 % 4294967296 → w ≡ getD l (12 * i + 11) 0 % 4294967296
+    → _≡_ {A = Resource} (record { handle = a; kind = k; bytes = getD l (12 * i + 2) 0; pitch = p; backing = y; offset = o; lowest = w }) (resourceOf (rowAt 12 l i))
+row-read l i a p y o w k e q r s t u =
+    let base : getD (rowAt 12 l i) 0 0 ≡ getD l (12 * i) 0 = rw (row-field 12 l i 0 (omega arith), add-zero) in
+    rw (e, q, r, s, t, u, base, kind-of-row l i, row-field 12 l i 2 (omega arith), row-field 12 l i 8 (omega arith), row-field 12 l i 9 (omega arith), row-field 12 l i 10 (omega arith), row-field 12 l i 11 (omega arith))
 
 pub ruleset reading-resource = (kind-buffer-at, kind-texture-at, row-read, needs)
 
 -- ---- find_resource
 
-pub resource-found-at : (n i k : ℕ) (l : List ℕ) → i ≡ indexOf firstWord k (table (λ r. r) 11 n l) → i ≡ indexOf handle-of k (resourcesOf n l)
-resource-found-at n i k l p = p ∙ sym (find-table resourceOf 11 handle-of k (λ r. refl) n l)
+pub resource-found-at : (n i k : ℕ) (l : List ℕ) → i ≡ indexOf firstWord k (table (λ r. r) 12 n l) → i ≡ indexOf handle-of k (resourcesOf n l)
+resource-found-at n i k l p = p ∙ sym (find-table resourceOf 12 handle-of k (λ r. refl) n l)
 
 -- what the place of a handle says: the resource there is the one that has it, and past the last there is none
 module _ (n i k : ℕ) (l : List ℕ) (place : i ≡ indexOf handle-of k (resourcesOf n l)) where
-  pub resource-found : i < n → lookup handle-of k (resourcesOf n l) ≡ found (resourceOf (rowAt 11 l i))
-  resource-found h = lookup-row resourceOf 11 handle-of k n i l place h
+  pub resource-found : i < n → lookup handle-of k (resourcesOf n l) ≡ found (resourceOf (rowAt 12 l i))
+  resource-found h = lookup-row resourceOf 12 handle-of k n i l place h
 
   pub resource-missing : n ≤ i → lookup handle-of k (resourcesOf n l) ≡ none
-  resource-missing h = lookup-no-row resourceOf 11 handle-of k n i l place h
+  resource-missing h = lookup-no-row resourceOf 12 handle-of k n i l place h
 
 pub ruleset finding-resource = (resource-found-at, needs)

@@ -34,25 +34,26 @@ flat-texture k s f w h m y e a b c d g =
 pub ruleset flattening = (flat-buffer, flat-texture, needs)
 
 module _ (n : ℕ) (l : List ℕ) (r : Resource) (tag bytes format width height mips layers : ℕ) where
-  pub pushes : (a p y o : ℕ) → n < most → length l ≡ 704 → flatKind tag format width height mips layers ≡ r .kind → bytes ≡ r .bytes
-      → (a ≡ r .handle) × (a < 4294967296) → (p ≡ r .pitch) × (p < 4294967296) → (y ≡ r .backing) × (y < 4294967296) → (o ≡ r .offset) × (o < 4294967296)
-      → resourcesOf (n + 1) (set (set (set (set (set (set (set (set (set (set (set l (11 * n) a) (11 * n + 1) tag) (11 * n + 2) bytes) (11 * n + 3) format) (11 * n + 4) width) (11 * n + 5) height) (11 * n + 6) mips) (11 * n + 7) layers) (11 * n + 8) p) (11 * n + 9) y) (11 * n + 10) o)
+  pub pushes : (a p y o w : ℕ) → n < most → length l ≡ 768 → flatKind tag format width height mips layers ≡ r .kind → bytes ≡ r .bytes
+      → (a ≡ r .handle) × (a < 4294967296) → (p ≡ r .pitch) × (p < 4294967296) → (y ≡ r .backing) × (y < 4294967296) → (o ≡ r .offset) × (o < 4294967296) → (w ≡ r .lowest) × (w < 4294967296)
+      → resourcesOf (n + 1) (set (set (set (set (set (set (set (set (set (set (set (set l (12 * n) a) (12 * n + 1) tag) (12 * n + 2) bytes) (12 * n + 3) format) (12 * n + 4) width) (12 * n + 5) height) (12 * n + 6) mips) (12 * n + 7) layers) (12 * n + 8) p) (12 * n + 9) y) (12 * n + 10) o) (12 * n + 11) w)
       ≡ pushed (resourcesOf n l) r
-  pushes a p y o h len k hb ha hp hy ho =
-      let vs : List ℕ = a ∷ tag ∷ bytes ∷ format ∷ width ∷ height ∷ mips ∷ layers ∷ p ∷ y ∷ o ∷ [] in
-      let same : resourceOf vs ≡ r = rw (mod-eq-of-lt (ha .1), mod-eq-of-lt (hp .1), mod-eq-of-lt (hy .1), mod-eq-of-lt (ho .1), ha .0, hp .0, hy .0, ho .0, hb, k) in
-      let ninth : 11 * n + 9 ≡ suc (11 * n + 8) = omega arith in
-      let tenth : 11 * n + 10 ≡ suc (11 * n + 9) = omega arith in
-      rw (tenth, ninth) (simp towards-suc (simp towards-suc at (table-push-sets resourceOf 11 n vs l refl (omega arith)))) ∙ ap (λ x. pushed (resourcesOf n l) x) same
+  pushes a p y o w h len k hb ha hp hy ho hw =
+      let vs : List ℕ = a ∷ tag ∷ bytes ∷ format ∷ width ∷ height ∷ mips ∷ layers ∷ p ∷ y ∷ o ∷ w ∷ [] in
+      let same : resourceOf vs ≡ r = rw (mod-eq-of-lt (ha .1), mod-eq-of-lt (hp .1), mod-eq-of-lt (hy .1), mod-eq-of-lt (ho .1), mod-eq-of-lt (hw .1), ha .0, hp .0, hy .0, ho .0, hw .0, hb, k) in
+      let ninth : 12 * n + 9 ≡ suc (12 * n + 8) = omega arith in
+      let tenth : 12 * n + 10 ≡ suc (12 * n + 9) = omega arith in
+      let eleventh : 12 * n + 11 ≡ suc (12 * n + 10) = omega arith in
+      rw (eleventh, tenth, ninth) (simp towards-suc (simp towards-suc at (table-push-sets resourceOf 12 n vs l refl (omega arith)))) ∙ ap (λ x. pushed (resourcesOf n l) x) same
 
 pub ruleset pushing-resource = (pushes, needs)
 
 -- ---- remove_resource, copy_resources
 
-pub removes : (n i : ℕ) (l m : List ℕ) → (n ≤ most) × (i < n) → length l ≡ 704 → m ≡ over (11 * i) (rowAt 11 l (n - 1)) l → resourcesOf (n - 1) m ≡ removed i (resourcesOf n l)
-removes n i l m pre len e = rw e (table-remove resourceOf 11 n i l (omega arith) (pre .1))
+pub removes : (n i : ℕ) (l m : List ℕ) → (n ≤ most) × (i < n) → length l ≡ 768 → m ≡ over (12 * i) (rowAt 12 l (n - 1)) l → resourcesOf (n - 1) m ≡ removed i (resourcesOf n l)
+removes n i l m pre len e = rw e (table-remove resourceOf 12 n i l (omega arith) (pre .1))
 
-pub copies : (n : ℕ) (l k m : List ℕ) → n ≤ most → length l ≡ 704 → m ≡ over 0 (take (11 * n) l) k → resourcesOf n m ≡ resourcesOf n l
-copies n l k m h len e = rw e (table-copied resourceOf 11 n l k (omega arith))
+pub copies : (n : ℕ) (l k m : List ℕ) → n ≤ most → length l ≡ 768 → m ≡ over 0 (take (12 * n) l) k → resourcesOf n m ≡ resourcesOf n l
+copies n l k m h len e = rw e (table-copied resourceOf 12 n l k (omega arith))
 
 pub ruleset moving-resource = (removes, copies, needs)

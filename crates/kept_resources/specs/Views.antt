@@ -9,6 +9,7 @@ use Rattle.rules.specs.declared.Kind.{Kind}
 use Rattle.rules.specs.declared.Kind.the-variants.{Buffer, Texture}
 use Rattle.rules.specs.declared.Resource.{Resource}
 use Rattle.rules.specs.declared.Record.{Record}
+use Rattle.rules.specs.declared.Token.{Token}
 use Rattle.rows.specs.Rows.{table}
 
 -- a four-byte number
@@ -27,11 +28,11 @@ kindIn l b =
     flatKind (getD l (b + 1) 0) (getD l (b + 3) 0) (getD l (b + 4) 0) (getD l (b + 5) 0) (getD l (b + 6) 0) (getD l (b + 7) 0)
 
 abbrev pub resourceOf : List ℕ → Resource
-resourceOf r = record { handle = small r 0; kind = kindIn r 0; bytes = getD r 2 0; pitch = small r 8; backing = small r 9; offset = small r 10 }
+resourceOf r = record { handle = small r 0; kind = kindIn r 0; bytes = getD r 2 0; pitch = small r 8; backing = small r 9; offset = small r 10; lowest = small r 11 }
 
 -- the first n rows
 abbrev pub resourcesOf : ℕ → List ℕ → List Resource
-resourcesOf n l = table resourceOf 11 n l
+resourcesOf n l = table resourceOf 12 n l
 
 abbrev pub recordOf : List ℕ → Record
 recordOf r = record { kind = small r 0; handle = small r 1; id = small r 2; gpa = getD r 3 0; length = getD r 4 0 }
@@ -43,18 +44,22 @@ recordsOf n l = table recordOf 5 n l
 abbrev pub holdingsOf : ℕ → List ℕ → ℕ → List ℕ → Holdings
 holdingsOf live resources made records = record { resources = resourcesOf live resources; records = recordsOf made records }
 
--- what it carries from packet to packet: that, and its target
-abbrev pub progressOf : ℕ → ℕ → List ℕ → ℕ → List ℕ → Progress
-progressOf target live resources made records = record { holdings = holdingsOf live resources made records; target = target }
+-- what it carries from packet to packet: that, its target and its tokens
+abbrev pub progressOf : ℕ → ℕ → List ℕ → ℕ → List ℕ → List Token → Progress
+progressOf target live resources made records tokens =
+    record { holdings = holdingsOf live resources made records; target = target; tokens = tokens }
 
 -- ---- the tables of a device, each by its name
 
--- those that a unit works on: the entries kept, the device's resources, the submission's own copy of them, its records
+-- those that a unit works on: the entries kept, the device's resources, the submission's own copy of them,
+-- the device's tokens, the submission's own copy of them, its records
 pub record Tables : Type 0 where
   pub entries : List ℕ
   pub resources : List ℕ
   pub own : List ℕ
+  pub tokens : List ℕ
+  pub ownTokens : List ℕ
   pub records : List ℕ
 
-abbrev pub tables : List ℕ → List ℕ → List ℕ → List ℕ → Tables
-tables e r h c = record { entries = e; resources = r; own = h; records = c }
+abbrev pub tables : List ℕ → List ℕ → List ℕ → List ℕ → List ℕ → List ℕ → Tables
+tables e r h t u c = record { entries = e; resources = r; own = h; tokens = t; ownTokens = u; records = c }

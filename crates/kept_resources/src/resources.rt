@@ -1,5 +1,5 @@
-// A resource as a row of eleven words: handle, tag (0 for a buffer), bytes, format, width, height, mips, layers, pitch, backing,
-// offset. Of a buffer's row the five words after its bytes say nothing.
+// A resource as a row of twelve words: handle, tag (0 for a buffer), bytes, format, width, height, mips, layers, pitch, backing,
+// offset, lowest name. Of a buffer's row the five words after its bytes say nothing.
 use rules::Kind;
 use rules::Resource;
 use rules::Shape;
@@ -12,16 +12,16 @@ ghost use Rattle.rows.specs.Rows.{rowAt};
 ghost use Rattle.kept_resources.specs.Views.{resourceOf, resourcesOf, kindIn};
 
 // A table of resources, 64 rows.
-pub type Resources = [u64; 704];
+pub type Resources = [u64; 768];
 
 // The words of a resource.
-pub const WORDS: usize = 11;
+pub const WORDS: usize = 12;
 
 pub const BUFFER: u64 = 0;
 
 // What the resource of a row is.
 fn kind_at(resources: &Resources, b: usize) -> Kind
-    requires { ⌜ b + 11 ≤ 704 ⌝ }
+    requires { ⌜ b + 12 ≤ 768 ⌝ }
     ensures { λ r. ⌜ r ≡ kindIn (now (resources .entry)) b ⌝ }
 {
     if resources[b + 1] == BUFFER {
@@ -39,7 +39,7 @@ fn kind_at(resources: &Resources, b: usize) -> Kind
 // The resource of row i.
 pub fn resource_row(resources: &Resources, i: usize) -> Resource
     requires { ⌜ i < most ⌝ }
-    ensures { λ r. ⌜ r ≡ resourceOf (rowAt 11 (now (resources .entry)) i) ⌝ }
+    ensures { λ r. ⌜ r ≡ resourceOf (rowAt 12 (now (resources .entry)) i) ⌝ }
 {
     let b = WORDS * i;
     let kind = kind_at(resources, b);
@@ -50,6 +50,7 @@ pub fn resource_row(resources: &Resources, i: usize) -> Resource
         pitch: words::low32(resources[b + 8]),
         backing: words::low32(resources[b + 9]),
         offset: words::low32(resources[b + 10]),
+        lowest: words::low32(resources[b + 11]),
     }
 }
 

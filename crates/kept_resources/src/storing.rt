@@ -1,4 +1,4 @@
-// Resources stored, removed and copied, each a row of eleven words.
+// Resources stored, removed and copied, each a row of twelve words.
 use crate::resources::BUFFER;
 use crate::resources::Resources;
 use crate::resources::WORDS;
@@ -67,6 +67,7 @@ pub fn push_resource(resources: &mut Resources, live: usize, r: Resource)
     resources[b + 8] = u32_to_word(r.pitch);
     resources[b + 9] = u32_to_word(r.backing);
     resources[b + 10] = u32_to_word(r.offset);
+    resources[b + 11] = u32_to_word(r.lowest);
 }
 
 // The resource of row i is gone: the last of `live` takes its place.

@@ -1,6 +1,6 @@
--- What is true of a submission's resources, records and target, whatever packets came: handles are non-zero and each once, at most 64 of
--- each, every resource keeps the bytes of its kind, every record of a range lies inside the one entry with its id, and the target is a live
--- texture. Assumes nothing.
+-- What is true of a submission's resources, records, target and tokens, whatever packets came: names are non-zero and each once, at most 64 of
+-- them and of records, every resource keeps the bytes of its kind, every record of a range lies inside the one entry with its id, the target is a
+-- live texture, and names and tokens are sound (SoundNames.antt). Assumes nothing.
 use mathlib.Core.Path.{_≡_, refl, sym, ap, subst, _∙_}
 use mathlib.Core.Bool.{Bool, true, false, _||_}
 use mathlib.Core.List.{List, [], _∷_, _++_}
@@ -18,10 +18,12 @@ use Rattle.rules.specs.Lists.Found.{none, found}
 use Rattle.rules.specs.Table.{matching}
 use Rattle.rules.specs.Stream.{frame-of, packet-of}
 use Rattle.rules.specs.StatePackets.{begins, common, rectangle, unless-empty, clip-of}
-use Rattle.rules.specs.Packets.{Holdings, at-first, handle-of, live, range-of, shape-in, live-texture, Progress, Passed, pass, pass-frame, take-packet}
+use Rattle.rules.specs.Names.{shareable, renamed, under, rename, lower, lowest-left, names-left, tokens-left, names-with, tokens-with}
+use Rattle.rules.specs.Packets.{Holdings, at-first, left-by, handle-of, live, range-of, shape-in, live-texture, without, Progress, Belongings, Passed, pass, pass-frame, take-packet}
 use Rattle.rules.specs.declared.Entry.{Entry}
 use Rattle.rules.specs.declared.Resource.{Resource}
 use Rattle.rules.specs.declared.Record.{Record}
+use Rattle.rules.specs.declared.Token.{Token}
 use Rattle.rules.specs.declared.Shape.{Shape}
 use Rattle.rules.specs.declared.SetScissor.{SetScissor}
 use Rattle.rules.specs.declared.Refusal.{Refusal}
@@ -29,9 +31,10 @@ use Rattle.rules.specs.declared.Frame.{Frame}
 use Rattle.rules.specs.declared.Frame.the-variants.{Whole, Misframed}
 use Rattle.rules.specs.declared.Packet.{Packet}
 use Rattle.rules.specs.declared.Verdict.the-variants.{Fine, Broken}
-use Rattle.rows.specs.Keys.{Once, once-nil, once-pushed, once-removed, lookup-nil, lookup-pushed-other, lookup-removed-other, length-removed, lookup-none, index-bound}
-use Rattle.words.specs.Over.{below-or-not}
-use Rattle.packet_apply.specs.Effects.{KeepsBytes, Fresh, InRange, pass-or, take-or}
+use Rattle.rows.specs.Keys.{same-or-not, lookup-here, lookup-later, Once, once-nil, once-pushed, once-removed, lookup-nil, lookup-pushed-other, lookup-removed-other, length-removed}
+use Rattle.packet_apply.specs.Effects.{KeepsBytes, bytes-by-any-name, Fresh, InRange, Imported, pass-or}
+use Rattle.packet_apply.specs.Names.{none-not-found, found-same, found-place, in-found, moved, lookup-rename, length-rename, once-rename}
+use Rattle.packet_apply.specs.SoundNames.{SoundNames, no-names, SoundTokens, no-tokens, names-stored, tokens-stored, name-after-destroy, names-destroyed, tokens-destroyed-sound, BoundTo, bound-is, sound-bound, names-imported, tokens-imported-sound, tokens-exported-sound, tokens-released-sound}
 
 -- ---- every member of a list
 
@@ -69,6 +72,16 @@ module _ {A : Type 0} (P : A → Type 0) where
   unfolding over
   every-over at b m h k = every-both (take at m) _ (every-take at m k) (every-both b _ h (every-drop (at + length b) m k))
 
+  -- what is found is one of them
+  pub every-found : (key : A → ℕ) (k : ℕ) (xs : List A) (x : A) → lookup key k xs ≡ found x → Every xs → P x
+  unfolding Every
+  every-found key k [] x e h = absurd (none-not-found x (sym (lookup-nil key k) ∙ e))
+  every-found key k (y ∷ ys) x e h =
+      ⊎-elim
+      (λ q. subst P (found-same (sym (lookup-here key k y ys q) ∙ e)) (h .0))
+      (λ q. every-found key k ys x (sym (lookup-later key k y ys q) ∙ e) (h .1))
+      (same-or-not (key y) k)
+
   pub every-removed : (i : ℕ) (xs : List A) → Every xs → Every (removed i xs)
   unfolding removed
   every-removed i xs h = every-take (length xs - 1) _ (every-over i (drop (length xs - 1) xs) xs (every-drop (length xs - 1) xs h) h)
@@ -103,18 +116,28 @@ clip-kind s c = empty-or-not (begins (c .x)) (begins (c .y)) (common (c .x) (nat
 -- ---- resources
 
 pub record SoundResources (rs : List Resource) : Type 0 where
-  -- at most 64 are live
+  -- at most 64 names are live
   pub few : length rs ≤ most
-  -- no handle is live twice
+  -- no name is live twice
   pub once : Once handle-of rs
   -- none is 0
   pub some : lookup handle-of 0 rs ≡ none
   -- each keeps the bytes of its kind
   pub bytes : Every KeepsBytes rs
+  -- which of them are one resource
+  pub names : SoundNames rs
 
 -- no resources are sound
 pub none-sound : SoundResources []
-none-sound = record { few = omega arith; once = once-nil handle-of; some = lookup-nil handle-of 0; bytes = every-none KeepsBytes }
+none-sound = record { few = omega arith; once = once-nil handle-of; some = lookup-nil handle-of 0; bytes = every-none KeepsBytes; names = no-names }
+
+-- what a device has of its own
+pub record SoundBelongings (b : Belongings) : Type 0 where
+  pub resources : SoundResources (b .resources)
+  pub tokens : SoundTokens (b .resources) (b .tokens)
+
+pub nothing-sound : SoundBelongings (record { resources = []; tokens = [] })
+nothing-sound = record { resources = none-sound; tokens = no-tokens [] }
 
 pub record SoundHoldings (es : List Entry) (h : Holdings) : Type 0 where
   pub resources : SoundResources (h .resources)
@@ -135,24 +158,20 @@ TargetLives h = (h .target ≡ 0 → ⊥) → LiveTexture (h .target) (h .holdin
 pub record SoundProgress (es : List Entry) (h : Progress) : Type 0 where
   pub holdings : SoundHoldings es (h .holdings)
   pub target : TargetLives h
+  pub tokens : SoundTokens (h .holdings .resources) (h .tokens)
 
--- a submission begins with the device's resources, no record and no target
-pub first-sound : (es : List Entry) (rs : List Resource) → SoundResources rs → SoundProgress es (at-first rs)
-first-sound es rs s =
+-- a submission begins with the device's resources and tokens, no record and no target
+pub first-sound : (es : List Entry) (b : Belongings) → SoundBelongings b → SoundProgress es (at-first b)
+first-sound es b s =
     record {
-      holdings = record { resources = s; few = omega arith; inside = every-none (Inside es); kinds = every-none OfAKind };
+      holdings = record { resources = s .resources; few = omega arith; inside = every-none (Inside es); kinds = every-none OfAKind };
       target = λ some. absurd (some refl);
+      tokens = s .tokens;
     }
 
--- ---- what is found has a place
-
-none-not-found : {A : Type 0} (x : A) → none ≡ found x → ⊥
-none-not-found x e = let z : _≡_ {A = ℕ} 0 1 = cc in omega arith
-
-found-place : {A : Type 0} (key : A → ℕ) (k : ℕ) (xs : List A) (x : A) → lookup key k xs ≡ found x → indexOf key k xs < length xs
-found-place key k xs x e =
-    ⊎-elim (λ h. h) (λ h. absurd (none-not-found x (sym (lookup-none key k xs (omega (arith, index-bound key k xs))) ∙ e)))
-    (below-or-not (indexOf key k xs) (length xs))
+-- and leaves what is sound
+pub left-sound : (es : List Entry) (h : Progress) → SoundProgress es h → SoundBelongings (left-by h)
+left-sound es h s = record { resources = s .holdings .resources; tokens = s .tokens }
 
 -- ---- a live texture is live, and is the same texture where the same is live
 
@@ -160,6 +179,15 @@ module _ (k : ℕ) where
   pub texture-same : (g h : Holdings) → live k g ≡ live k h → live-texture k g ≡ live-texture k h
   unfolding live-texture
   texture-same g h e = ap (λ (f : Found Resource). pick (eqb k 0) none (shape-in f)) e
+
+  -- nor does it matter which name of its resource is the lowest
+  pub texture-moved : (old new : ℕ) (g h : Holdings) → live k g ≡ in-found (moved old new) (live k h) → live-texture k g ≡ live-texture k h
+  unfolding live-texture
+  texture-moved old new g h e = ap (λ (f : Found Resource). pick (eqb k 0) none (shape-in f)) e ∙ by-found (live k h)
+    where
+      by-found : (f : Found Resource) → pick (eqb k 0) none (shape-in (in-found (moved old new) f)) ≡ pick (eqb k 0) none (shape-in f)
+      by-found none = refl
+      by-found (found r) = refl
 
   module _ (h : Holdings) (s : Shape) where
     -- its handle is not 0, and names a resource
@@ -170,6 +198,28 @@ module _ (k : ℕ) where
         by-test : (b : Bool) → eqb k 0 ≡ b → pick b none (shape-in (live k h)) ≡ found s → (b ≡ false) × (live k h ≡ none → ⊥)
         by-test true t e = absurd (none-not-found s e)
         by-test false t e = (refl, λ z. none-not-found s (sym (ap shape-in z) ∙ e))
+
+-- ---- another lowest name is nothing to all this
+
+every-renamed : (old new : ℕ) (rs : List Resource) → Every KeepsBytes rs → Every KeepsBytes (rename old new rs)
+unfolding Every rename
+every-renamed old new [] h = h
+every-renamed old new (r ∷ rs) h = (bytes-by-any-name (r .handle) (renamed old new (r .lowest)) r (h .0), every-renamed old new rs (h .1))
+
+module _ (old new : ℕ) (rs : List Resource) (few : length rs ≤ most) (once : Once handle-of rs) (some : lookup handle-of 0 rs ≡ none) (bytes : Every KeepsBytes rs) where
+  renamed-sound : SoundNames (rename old new rs) → SoundResources (rename old new rs)
+  renamed-sound n =
+      record {
+        few = rw (length-rename old new rs) few;
+        once = once-rename old new rs once;
+        some = lookup-rename old new 0 rs ∙ ap (in-found (moved old new)) some;
+        bytes = every-renamed old new rs bytes;
+        names = n;
+      }
+
+  pub left-or-renamed : (b : Bool) → SoundNames (pick b (rename old new rs) rs) → SoundResources (pick b (rename old new rs) rs)
+  left-or-renamed true n = renamed-sound n
+  left-or-renamed false n = record { few = few; once = once; some = some; bytes = bytes; names = n }
 
 -- ---- kept by every packet
 
@@ -187,7 +237,11 @@ module _ (es : List Entry) (h : Progress) (s : SoundProgress es h) where
         once = once-pushed handle-of (held .resources) r (sound .resources .once) (f .unused);
         some = lookup-pushed-other handle-of 0 (held .resources) r (f .some) ∙ sound .resources .some;
         bytes = every-pushed KeepsBytes (held .resources) r (sound .resources .bytes) (f .bytes);
+        names = names-stored (held .resources) (sound .resources .names) r (f .unused) (f .own);
       }
+
+  stored-tokens : (r : Resource) → Fresh held r → SoundTokens (pushed (held .resources) r) (h .tokens)
+  stored-tokens r f = tokens-stored (held .resources) (sound .resources .names) r (f .unused) (h .tokens) (s .tokens)
 
   range-inside : (kind : ℕ) (r : Resource) (e : Entry) (from size : ℕ) → InRange es held kind r e from size → Inside es (range-of kind r e from size)
   range-inside kind r e from size i _ = subst (Within (range-of kind r e from size)) (sym (i .entry)) (omega arith, omega (arith, i .inside))
@@ -218,69 +272,131 @@ module _ (es : List Entry) (h : Progress) (s : SoundProgress es h) where
       records-more (held .resources) (clip-of t c) (sound .resources) room (λ other. absurd (other (clip-kind t c)))
       (rw (clip-kind t c) (omega arith))
 
-  resources-removed : (k : ℕ) (r : Resource) → live k held ≡ found r → SoundResources (removed (indexOf handle-of k (held .resources)) (held .resources))
-  resources-removed k r e =
-      let here : indexOf handle-of k (held .resources) < length (held .resources) = found-place handle-of k (held .resources) r e in
-      record {
-        few = rw (length-removed (indexOf handle-of k (held .resources)) (held .resources) here) (omega (arith, sound .resources .few));
-        once = once-removed handle-of (indexOf handle-of k (held .resources)) (held .resources) (sound .resources .once) here;
-        some =
-            lookup-removed-other handle-of k 0 (indexOf handle-of k (held .resources)) (held .resources) (sound .resources .once) refl here
-            (λ z. none-not-found r (sym (sound .resources .some) ∙ (ap (λ n. live n held) z ∙ e)))
-            ∙ sound .resources .some;
-        bytes = every-removed KeepsBytes (indexOf handle-of k (held .resources)) (held .resources) (sound .resources .bytes);
-      }
+  module _ (k : ℕ) (r : Resource) (e : live k held ≡ found r) where
+    abbrev place : ℕ
+    place = indexOf handle-of k (held .resources)
+
+    here : place < length (held .resources)
+    here = found-place handle-of k (held .resources) r e
+
+    resources-destroyed : SoundResources (names-left r (without k held))
+    resources-destroyed =
+        left-or-renamed (r .lowest) (lowest-left (r .lowest) (without k held)) (without k held)
+        (rw (length-removed place (held .resources) here) (omega (arith, sound .resources .few)))
+        (once-removed handle-of place (held .resources) (sound .resources .once) here)
+        (lookup-removed-other handle-of k 0 place (held .resources) (sound .resources .once) refl here
+        (λ z. none-not-found r (sym (sound .resources .some) ∙ (ap (λ n. live n held) z ∙ e)))
+        ∙ sound .resources .some)
+        (every-removed KeepsBytes place (held .resources) (sound .resources .bytes))
+        (shareable (r .kind))
+        (names-destroyed (held .resources) (sound .resources .once) (sound .resources .some) (sound .resources .names) k r e)
+
+    destroyed-tokens : SoundTokens (names-left r (without k held)) (tokens-left r (without k held) (h .tokens))
+    destroyed-tokens = tokens-destroyed-sound (held .resources) (sound .resources .once) (sound .resources .some) (sound .resources .names) k r e (h .tokens) (s .tokens)
+
+  module _ (k token : ℕ) (r : Resource) (i : Imported h k token r) where
+    its : BoundTo token (h .tokens) (held .resources) r
+    its = sound-bound token (h .tokens) (held .resources) r (s .tokens) (i .bound-to)
+
+    resources-imported : SoundResources (names-with k r (held .resources))
+    resources-imported =
+        renamed-sound (r .lowest) (lower k (r .lowest)) (pushed (held .resources) (under k r))
+        (simp length-append (omega (arith, i .room)))
+        (once-pushed handle-of (held .resources) (under k r) (sound .resources .once) (i .unused))
+        (lookup-pushed-other handle-of 0 (held .resources) (under k r) (i .some) ∙ sound .resources .some)
+        (every-pushed KeepsBytes (held .resources) (under k r) (sound .resources .bytes) (bytes-by-any-name k (r .lowest) r (every-found KeepsBytes handle-of (r .lowest) (held .resources) r (its .lowest) (sound .resources .bytes))))
+        (names-imported (held .resources) (sound .resources .names) k (i .unused) r (its .lowest) (its .shape))
+
+    imported-tokens : SoundTokens (names-with k r (held .resources)) (tokens-with k r (h .tokens))
+    imported-tokens =
+        tokens-imported-sound (held .resources) (sound .resources .names) k (i .unused) r (its .lowest) (its .shape) (sound .resources .some) (h .tokens) (s .tokens)
 
   -- ---- the target: a create makes no handle anew that is live, and a destroy of the target's handle ends it
 
-  target-stored : (r : Resource) (cs : List Record) → Fresh held r → TargetLives (record { holdings = record { resources = pushed (held .resources) r; records = cs }; target = h .target })
+  target-stored : (r : Resource) (cs : List Record) → Fresh held r → TargetLives (record { holdings = record { resources = pushed (held .resources) r; records = cs }; target = h .target; tokens = h .tokens })
   target-stored r cs f some =
       let l : LiveTexture (h .target) held = s .target some in
       let other : r .handle ≡ h .target → ⊥ = λ z. texture-some (h .target) held (l .0) (l .1) .1 (ap (λ n. live n held) (sym z) ∙ f .unused) in
       (l .0, texture-same (h .target) _ held (lookup-pushed-other handle-of (h .target) (held .resources) r other) ∙ l .1)
 
-  abbrev without : ℕ → Holdings
-  without k = record { resources = removed (indexOf handle-of k (held .resources)) (held .resources); records = held .records }
-
-  target-removed : (k : ℕ) (r : Resource) → live k held ≡ found r → TargetLives (record { holdings = without k; target = pick (eqb k (h .target)) 0 (h .target) })
-  target-removed k r e = by-test (eqb k (h .target)) refl
+  target-destroyed : (k : ℕ) (r : Resource) (ts : List Token) → live k held ≡ found r
+      → TargetLives (record { holdings = record { resources = names-left r (without k held); records = held .records }; target = pick (eqb k (h .target)) 0 (h .target); tokens = ts })
+  target-destroyed k r ts e = by-test (eqb k (h .target)) refl
     where
-      by-test : (b : Bool) → eqb k (h .target) ≡ b → TargetLives (record { holdings = without k; target = pick b 0 (h .target) })
+      by-test : (b : Bool) → eqb k (h .target) ≡ b
+          → TargetLives (record { holdings = record { resources = names-left r (without k held); records = held .records }; target = pick b 0 (h .target); tokens = ts })
       by-test true t some = absurd (some refl)
       by-test false t some =
           let l : LiveTexture (h .target) held = s .target some in
-          let same : live (h .target) (without k) ≡ live (h .target) held =
+          let same : lookup handle-of (h .target) (without k held) ≡ live (h .target) held =
           lookup-removed-other handle-of k (h .target) (indexOf handle-of k (held .resources)) (held .resources) (sound .resources .once) refl
           (found-place handle-of k (held .resources) r e) (λ z. eqb-false k (h .target) t (sym z)) in
-          (l .0, texture-same (h .target) (without k) held same ∙ l .1)
+          let after = name-after-destroy (held .resources) (sound .resources .once) (sound .resources .some) (sound .resources .names) k r e (h .target) in
+          (l .0, texture-moved (h .target) _ _ _ held (after ∙ ap (in-found (moved (r .lowest) (lowest-left (r .lowest) (without k held)))) same) ∙ l .1)
+
+  target-imported : (k token : ℕ) (r : Resource) (ts : List Token) → Imported h k token r
+      → TargetLives (record { holdings = record { resources = names-with k r (held .resources); records = held .records }; target = h .target; tokens = ts })
+  target-imported k token r ts i some =
+      let l : LiveTexture (h .target) held = s .target some in
+      let other : k ≡ h .target → ⊥ = λ z. texture-some (h .target) held (l .0) (l .1) .1 (ap (λ n. live n held) (sym z) ∙ i .unused) in
+      let same : lookup handle-of (h .target) (pushed (held .resources) (under k r)) ≡ live (h .target) held = lookup-pushed-other handle-of (h .target) (held .resources) (under k r) other in
+      let after = lookup-rename (r .lowest) (lower k (r .lowest)) (h .target) (pushed (held .resources) (under k r)) in
+      (l .0, texture-moved (h .target) _ _ _ held (after ∙ ap (in-found (moved (r .lowest) (lower k (r .lowest)))) same) ∙ l .1)
 
   -- and one record more is nothing to it
-  target-goes-on : (g : Holdings) → g .resources ≡ held .resources → TargetLives (record { holdings = g; target = h .target })
-  target-goes-on g e some =
+  target-goes-on : (g : Holdings) (ts : List Token) → g .resources ≡ held .resources → TargetLives (record { holdings = g; target = h .target; tokens = ts })
+  target-goes-on g ts e some =
       let l : LiveTexture (h .target) held = s .target some in
       (l .0, texture-same (h .target) g held (ap (lookup handle-of (h .target)) e) ∙ l .1)
 
   abbrev SoundAfter : Passed → Type 0
   SoundAfter o = SoundProgress es (o .held)
 
-  -- whatever the bytes left of a stream begin with
-  pub take-sound : (b : List ℕ) → SoundProgress es (take-packet es h b .held)
-  take-sound =
-      take-or SoundAfter es h (λ r. s) s
+  -- whatever the packet
+  pub pass-sound : (p : Packet) → SoundProgress es (pass es h p .held)
+  pass-sound =
+      pass-or SoundAfter es h (λ r. s) s
       (λ r f. record {
         holdings = record { resources = resources-stored r f; few = sound .few; inside = sound .inside; kinds = sound .kinds };
         target = target-stored r _ f;
+        tokens = stored-tokens r f;
       })
-      (λ r e f i. record { holdings = range-more _ _ r e _ _ (resources-stored r f) i; target = target-stored r _ f })
+      (λ r e f i. record { holdings = range-more _ _ r e _ _ (resources-stored r f) i; target = target-stored r _ f; tokens = stored-tokens r f })
       (λ k r e. record {
-        holdings = record { resources = resources-removed k r e; few = sound .few; inside = sound .inside; kinds = sound .kinds };
-        target = target-removed k r e;
+        holdings = record { resources = resources-destroyed k r e; few = sound .few; inside = sound .inside; kinds = sound .kinds };
+        target = target-destroyed k r (h .tokens) e;
+        tokens = destroyed-tokens k r e;
       })
-      (λ kind r e from size i. record { holdings = range-more _ kind r e from size (sound .resources) i; target = target-goes-on _ refl })
-      (λ k t e. record { holdings = sound; target = λ some. (t, e) })
-      (λ t c k. record { holdings = clip-more t c (k .room); target = target-goes-on _ refl })
+      (λ kind r e from size i. record { holdings = range-more _ kind r e from size (sound .resources) i; target = target-goes-on _ (h .tokens) refl; tokens = s .tokens })
+      (λ k t e. record { holdings = sound; target = λ some. (t, e); tokens = s .tokens })
+      (λ t c k. record { holdings = clip-more t c (k .room); target = target-goes-on _ (h .tokens) refl; tokens = s .tokens })
+      (λ k token r e. record {
+        holdings = sound;
+        target = s .target;
+        tokens =
+            tokens-exported-sound (held .resources) (sound .resources .names) (h .tokens) (s .tokens) k r (e .named) (e .shape) token (e .some) (e .room);
+      })
+      (λ k token r i. record {
+        holdings = record { resources = resources-imported k token r i; few = sound .few; inside = sound .inside; kinds = sound .kinds };
+        target = target-imported k token r (h .tokens) i;
+        tokens = imported-tokens k token r i;
+      })
+      (λ token r e. record {
+        holdings = sound;
+        target = s .target;
+        tokens = let b = bound-is token (h .tokens) (held .resources) r e in tokens-released-sound (held .resources) (h .tokens) (s .tokens) token (b .0) (b .1);
+      })
 
--- ---- a packet that is refused changes neither resources nor records, and leaves the target
+  -- and whatever the bytes left of a stream begin with
+  pub take-sound : (b : List ℕ) → SoundProgress es (take-packet es h b .held)
+  unfolding take-packet
+  take-sound b = by-frame (frame-of b)
+    where
+      by-frame : (f : Frame) → SoundProgress es (pass-frame es h b f .held)
+      by-frame (Whole op size) = pass-sound (packet-of op (take size b))
+      by-frame (Misframed r) = s
+
+-- ---- a packet that is refused changes neither resources nor records, and leaves the target and the tokens
 
 abbrev pub KeepsIfBroken : Progress → Passed → Type 0
 KeepsIfBroken h o = (r : Refusal) → o .verdict ≡ Broken r → o .held ≡ h
@@ -291,7 +407,8 @@ fine-not-broken r e = let z : _≡_ {A = ℕ} 0 1 = cc in omega arith
 pub refused-packet-keeps-progress : (es : List Entry) (h : Progress) (p : Packet) → KeepsIfBroken h (pass es h p)
 refused-packet-keeps-progress es h =
     pass-or (KeepsIfBroken h) es h (λ r n e. refl) (λ r e. refl) (λ _ _ r e. absurd (fine-not-broken r e)) (λ _ _ _ _ r e. absurd (fine-not-broken r e)) (λ _ _ _ r e. absurd (fine-not-broken r e))
-    (λ _ _ _ _ _ _ r e. absurd (fine-not-broken r e)) (λ _ _ _ r e. absurd (fine-not-broken r e)) (λ _ _ _ r e. absurd (fine-not-broken r e))
+    (λ _ _ _ _ _ _ r e. absurd (fine-not-broken r e)) (λ _ _ _ r e. absurd (fine-not-broken r e)) (λ _ _ _ r e. absurd (fine-not-broken r e)) (λ _ _ _ _ r e. absurd (fine-not-broken r e))
+    (λ _ _ _ _ r e. absurd (fine-not-broken r e)) (λ _ _ _ r e. absurd (fine-not-broken r e))
 
 -- the same of the packet that some bytes begin with
 pub refused-keeps-progress : (es : List Entry) (h : Progress) (b : List ℕ) → KeepsIfBroken h (take-packet es h b)

@@ -57,13 +57,13 @@ pitchless false = refl
 
 module _ (n live made offset : ℕ) (es resources records resources′ records′ : List ℕ) (a : Applied) where
   pub buffer-applies : (c : CreateBuffer) → offset ≡ pick (backed (c .backing)) (c .offset) 0
-      → Applies (create (entriesOf n es) (holdingsOf live resources made records) (not (eqb (c .size) 0)) (record { handle = c .handle; kind = Buffer; bytes = c .size; pitch = 0; backing = c .backing; offset = offset })) a resources′ records′
+      → Applies (create (entriesOf n es) (holdingsOf live resources made records) (not (eqb (c .size) 0)) (record { handle = c .handle; kind = Buffer; bytes = c .size; pitch = 0; backing = c .backing; offset = offset; lowest = c .handle })) a resources′ records′
       → Applies (on-buffer-packet (entriesOf n es) (holdingsOf live resources made records) c) a resources′ records′
   unfolding on-buffer-packet
   buffer-applies c e f = rw (pitchless (backed (c .backing)), ← e) f
 
   pub texture-applies : (c : CreateTexture) (w : Weighed) (pitch : ℕ) → w ≡ weighed c → pitch ≡ pick (backed (c .backing)) (c .pitch) 0 → offset ≡ pick (backed (c .backing)) (c .offset) 0
-      → Applies (create (entriesOf n es) (holdingsOf live resources made records) (w .good) (record { handle = c .handle; kind = Texture (c .shape); bytes = w .bytes; pitch = pitch; backing = c .backing; offset = offset })) a resources′ records′
+      → Applies (create (entriesOf n es) (holdingsOf live resources made records) (w .good) (record { handle = c .handle; kind = Texture (c .shape); bytes = w .bytes; pitch = pitch; backing = c .backing; offset = offset; lowest = c .handle })) a resources′ records′
       → Applies (on-texture-packet (entriesOf n es) (holdingsOf live resources made records) c) a resources′ records′
   unfolding on-texture-packet weighed
   texture-applies c w pitch g p o f = rw (← p, ← o) (rw g at f)

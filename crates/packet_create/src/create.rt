@@ -47,6 +47,7 @@ pub fn on_buffer(
         pitch: 0,
         backing: c.backing,
         offset: backed_only(c.backing, c.offset),
+        lowest: c.handle,
     };
     create(entries, kept, own, live, records, made, good, r)
 }
@@ -99,6 +100,7 @@ pub fn on_texture(
         pitch: backed_only(c.backing, c.pitch),
         backing: c.backing,
         offset: backed_only(c.backing, c.offset),
+        lowest: c.handle,
     };
     create(entries, kept, own, live, records, made, w.good, r)
 }

@@ -38,13 +38,13 @@ module _ (live made : ℕ) (resources : List ℕ) (r : Resource) (room : (live �
       → (l : List ℕ) → Applies (create-hosted (holdingsOf live resources made l) r) a resources l
   unfolding create-hosted
   hosted-full a h e l =
-      stays live made too-many resources l _ a (room .0) (room .1) e (rw (length-table resourceOf 11 live resources, le-leb _ _ h))
+      stays live made too-many resources l _ a (room .0) (room .1) e (rw (length-table resourceOf 12 live resources, le-leb _ _ h))
 
   pub hosted-stored : (m : List ℕ) → live < most → resourcesOf (live + 1) m ≡ pushed (resourcesOf live resources) r
       → (l : List ℕ) → Applies (create-hosted (holdingsOf live resources made l) r) (record { verdict = Fine; live = live + 1; made = made }) m l
   unfolding create-hosted
   hosted-stored m h e l =
-      record { outcome = rw (length-table resourceOf 11 live resources, lt-leb _ _ h, e); live = omega arith; made = room .1 }
+      record { outcome = rw (length-table resourceOf 12 live resources, lt-leb _ _ h, e); live = omega arith; made = room .1 }
 
 pub ruleset hosting = (hosted-full, hosted-stored, needs)
 
@@ -62,7 +62,7 @@ module _ (live made : ℕ) (resources records : List ℕ) (r : Resource) (c : Re
       → Applies (store-backed (holdingsOf live resources made records) r c) a resources records
   unfolding store-backed
   no-room a h told =
-      stays live made too-many resources records _ a (room .0) (room .1) told (rw (length-table resourceOf 11 live resources, le-leb _ _ h))
+      stays live made too-many resources records _ a (room .0) (room .1) told (rw (length-table resourceOf 12 live resources, le-leb _ _ h))
 
   module _ (h : live < most) where
     pub no-record-room : (a : Applied) → most ≤ made → a ≡ refusedWith too-many live made
@@ -70,14 +70,14 @@ module _ (live made : ℕ) (resources records : List ℕ) (r : Resource) (c : Re
     unfolding store-backed
     no-record-room a p told =
         stays live made too-many resources records _ a (room .0) (room .1) told
-        (rw (length-table resourceOf 11 live resources, lt-leb _ _ h, length-table recordOf 5 made records, le-leb _ _ p))
+        (rw (length-table resourceOf 12 live resources, lt-leb _ _ h, length-table recordOf 5 made records, le-leb _ _ p))
 
     pub both-stored : (resources′ records′ : List ℕ) → made < most → resourcesOf (live + 1) resources′ ≡ pushed (resourcesOf live resources) r → recordsOf (made + 1) records′ ≡ pushed (recordsOf made records) c
         → Applies (store-backed (holdingsOf live resources made records) r c) (record { verdict = Fine; live = live + 1; made = made + 1 }) resources′ records′
     unfolding store-backed
     both-stored resources′ records′ p s t =
         record {
-          outcome = rw (length-table resourceOf 11 live resources, lt-leb _ _ h, length-table recordOf 5 made records, lt-leb _ _ p, s, t);
+          outcome = rw (length-table resourceOf 12 live resources, lt-leb _ _ h, length-table recordOf 5 made records, lt-leb _ _ p, s, t);
           live = omega arith;
           made = omega arith;
         }

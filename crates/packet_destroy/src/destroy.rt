@@ -1,10 +1,15 @@
-// The destroy packet: a live resource is gone, and the last of the others takes its row.
-// The records are not lent: the contract holds whatever they are.
+// The destroy packet: a name of a live resource is gone, and the last of the others takes its row. Where the resource may have other
+// names, its lowest name is the lowest of those that are left (02, wish 5).
+// The records are not lent: the contract holds whatever they are. Nor are the tokens: the answer says how they follow.
+use kept_resources::naming::rename_left;
+use kept_resources::naming::shareable;
 use kept_resources::resources::Resources;
 use kept_resources::resources::find_resource;
+use kept_resources::resources::resource_row;
 use kept_resources::storing::remove_resource;
 use packet_ranges::applied::Applied;
-use packet_ranges::applied::refuse;
+use packet_ranges::applied::Renamed;
+use packet_ranges::applied::refuse_renaming;
 use rules::DestroyResource;
 use rules::Verdict;
 use rules::numbers::BAD_HANDLE;
@@ -13,18 +18,31 @@ ghost use Rattle.rules.specs.Numbers.{most};
 ghost use Rattle.packet_destroy.specs.Destroy.{Destroys};
 
 // Applies a destroy packet, in place.
-pub fn on_destroy(own: &mut Resources, live: usize, made: usize, c: DestroyResource) -> Applied
+pub fn on_destroy(own: &mut Resources, live: usize, made: usize, c: DestroyResource) -> Renamed
     requires { ⌜ (live ≤ most) × (made ≤ most) ⌝ }
-    ensures { λ r. ⌜ Destroys c live made (now (own .entry)) r (now (own .exit)) ⌝ }
+    ensures { λ x. ⌜ Destroys c live made (now (own .entry)) x (now (own .exit)) ⌝ }
 {
     let place = find_resource(own, live, c.handle);
     if place >= live {
-        return refuse(BAD_HANDLE, live, made);
+        return refuse_renaming(BAD_HANDLE, live, made);
     }
+    let r = resource_row(own, place);
+    let kind = r.kind;
+    let left = live - 1;
     remove_resource(own, live, place);
-    Applied {
+    let applied = Applied {
         verdict: Verdict::Fine,
-        live: live - 1,
+        live: left,
         made,
+    };
+    if !shareable(kind) {
+        return Renamed {
+            applied,
+            old: 0,
+            new: 0,
+        };
     }
+    let old = r.lowest;
+    let new = rename_left(own, left, old);
+    Renamed { applied, old, new }
 }

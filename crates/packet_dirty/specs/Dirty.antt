@@ -35,7 +35,7 @@ module _ (n : ℕ) (entries : List ℕ) (live : ℕ) (resources : List ℕ) (mad
   dirties-not-live a p e =
       refused-applies bad-handle n live made records a room e _ resources (rw (resource-missing live i (c .handle) resources place p))
 
-  module _ (p : i < live) (r : Resource) (row : r ≡ resourceOf (rowAt 11 resources i)) where
+  module _ (p : i < live) (r : Resource) (row : r ≡ resourceOf (rowAt 12 resources i)) where
     here : lookup handle-of (c .handle) (resourcesOf live resources) ≡ found r
     here = resource-found live i (c .handle) resources place p ∙ ap found (sym row)
 

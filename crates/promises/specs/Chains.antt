@@ -33,7 +33,7 @@ pub record Into (w : World) (xs : List Act) (v : World) : Type 0 where
   pub inside : midst (v .state .work) ≡ true
   -- with any registers that enable, one run of as many units does the same work
   pub units : (q : Registers) → q .enabled ≡ true → Course (units-in xs) (registering q w) (registering q v)
-  -- memory and resources stay, and the registers are what the writes made of them
+  -- memory, resources and tokens stay, and the registers are what the writes made of them
   pub only : v ≡ registering (registers-after xs (w .state .regs)) (working (v .state .work) w)
 
 -- from w, these acts lead to v, the end of what was in the midst at w

@@ -139,8 +139,8 @@ module _ (w : World) (rest : w .state .work ≡ resting) (m : midst (step w .sta
             (table-judged (registering q w) on o lies .count) (packets-judged (registering q w) on o lies .count);
         units = sym (submission-units (registering q w) on o lies);
         course = rw e (course-started (registering q w) on o lies);
-        clear = finished-clear (registering q w) (o .job) (entries-of (w .mem) (o .table)) (submission (w .mem) o (at-first (w .state .resources)) .held)
-            (submission (w .mem) o (at-first (w .state .resources)) .finding);
+        clear = finished-clear (registering q w) (o .job) (entries-of (w .mem) (o .table)) (submission (w .mem) o (at-first (w .state .belongings)) .held)
+            (submission (w .mem) o (at-first (w .state .belongings)) .finding);
       }
 
   -- o being what the unsliced rules give

@@ -10,18 +10,18 @@ use Rattle.machine.specs.Machine.{pick, run-none, run-stop}
 use Prim.Native.Nat.{ℕ, _^_, _≤_, _<_}
 use lib.Ieee.{lt}
 use lib.ListN.{length}
-use Rattle.rules.specs.Numbers.{done, no-record, host-failed, clips, bad-handle, bad-state, too-many, most as most-records, set-target, set-viewport, set-scissor, clear as clear-opcode}
+use Rattle.rules.specs.Numbers.{done, no-record, host-failed, clips, bad-handle, bad-state, too-many, most as most-records, set-target, set-viewport, set-scissor, clear as clear-opcode, export-surface, import-surface, release-token}
 use Rattle.rules.specs.Ring.{opening-of}
 use Rattle.rules.specs.Table.{entries-of}
-use Rattle.rules.specs.Layouts.{stream-header-size, target-fields, viewport-floats, viewport-fields, scissor-fields, clear-floats, clear-fields}
+use Rattle.rules.specs.Layouts.{stream-header-size, target-fields, viewport-floats, viewport-fields, scissor-fields, clear-floats, clear-fields, word, long, export-fields, import-fields, release-fields}
 use Rattle.rules.specs.Floats.{float-of, is-nan, nan-among, not-finite-among, below}
-use Rattle.rules.specs.Stream.{known, frame-of, packet-of}
+use Rattle.rules.specs.Stream.{known, least-size, frame-of, packet-of}
 use Rattle.rules.specs.StatePackets.{bad-sides}
-use Rattle.rules.specs.Packets.{live-texture, Progress, at-first, pass, take-packet}
+use Rattle.rules.specs.Packets.{live-texture, Progress, at-first, pass, take-packet, left-by, bound}
 use Rattle.rules.specs.Judging.{refusal, Finding, without-place}
 use Rattle.rules.specs.Judging.Finding.{fine, broken}
 use Rattle.rules.specs.Registers.{Read, register}
-use Rattle.rules.specs.State.{State, World, working, registering}
+use Rattle.rules.specs.State.{State, World, working, registering, nothing-owned}
 use Rattle.rules.specs.State.Work.{resting, packets, waiting}
 use Rattle.rules.specs.Settle.{settled, settled-keeping}
 use Rattle.rules.specs.Steps.{go, step, waits-on, waits, answered}
@@ -37,10 +37,14 @@ use Rattle.rules.specs.declared.Stream.{Stream}
 use Rattle.rules.specs.declared.SetTarget.{SetTarget}
 use Rattle.rules.specs.declared.SetScissor.{SetScissor}
 use Rattle.rules.specs.declared.DestroyResource.{DestroyResource}
+use Rattle.rules.specs.declared.ExportSurface.{ExportSurface}
+use Rattle.rules.specs.declared.ImportSurface.{ImportSurface}
+use Rattle.rules.specs.declared.ReleaseToken.{ReleaseToken}
+use Rattle.rules.specs.declared.Resource.{Resource}
 use Rattle.rules.specs.declared.Verdict.the-variants.{Fine, Broken}
 use Rattle.rules.specs.declared.Frame.the-variants.{Whole}
 use Rattle.rules.specs.declared.Packet.{Packet}
-use Rattle.rules.specs.declared.Packet.the-variants.{Destroy, Target, Viewport, Scissor, Clear, NotANumber}
+use Rattle.rules.specs.declared.Packet.the-variants.{Destroy, Target, Viewport, Scissor, Clear, NotANumber, Export, Import, Release}
 use Rattle.rules.specs.declared.Opening.{Opening}
 use Rattle.rules.specs.declared.Opened.{Opened}
 use Rattle.rules.specs.declared.Fault.{Fault}
@@ -55,7 +59,7 @@ use Rattle.promises_of_units.specs.Acts.Led.{stays, spends, writes-one, takes}
 use Rattle.promises.specs.Courses.{clash}
 use Rattle.promises_of_submissions.specs.Slices.{waiting-stands-still}
 use Rattle.promises_of_units.specs.Fences.{good-settles, failed-settles}
-use Rattle.promises_of_units.specs.Units.{Breaks, Unit, unit}
+use Rattle.promises_of_units.specs.Units.{Breaks, Unit, unit, unit-keeps-belongings}
 use Rattle.promises.specs.Chains.{submitted-under, Stands}
 use Rattle.promises.specs.ChainsStand.{calls-stand, same-acts}
 use Rattle.promises.specs.Slicing.{NoWrite, same-units-same-answers}
@@ -69,11 +73,17 @@ use Rattle.promises.specs.Places.{OfAnEntry, OfAPacket, sizes-fit, settl
 use Rattle.promises.specs.UnslicedPlaces.{unsliced-tells-where}
 use Rattle.promises_of_units.specs.Bytes.{WrittenBy, calls-write}
 use Rattle.promises_of_units.specs.Ranges.{InOneEntry, ranges-at-the-record-call, kinds-at-the-record-call}
-use Rattle.packet_apply.specs.Held.{Every, OfAKind, LiveTexture, TargetLives, refused-packet-keeps-progress}
+use Rattle.packet_apply.specs.Held.{Every, OfAKind, LiveTexture, TargetLives, refused-packet-keeps-progress, SoundProgress}
 use Rattle.promises_of_submissions.specs.LocalPackets.{framed-is-read}
 use Rattle.promises_of_submissions.specs.FloatBits.{judged-state, ViewportCarried, ClearCarried, bad-viewport-words, bad-clear-words, not-finite-viewport, not-finite-clear, viewport-is-carried, clear-is-carried, viewport-judged-by-its-words, clear-judged-by-its-words}
 use Rattle.promises_of_submissions.specs.FloatOrder.{TheBounds, below-is-the-order, the-bounds}
 use Rattle.promises.specs.Targets.{target-is-set, target-is-refused, other-packets-keep-the-target, destroyed-ends-the-target, another-destroyed-keeps-the-target, held-after, ended-target-stays-ended, scissor-without-a-target, scissor-with-negative-sides, scissor-past-the-last-record, scissor-is-accepted, called-target-lives, first-packet-finds-no-target}
+use Rattle.promises_of_units.specs.Writes.{resets}
+use Rattle.promises.specs.Shared.{OneResource, OneMipOneLayer, IsBound, Destroyed, SecondName, destroying-a-name-leaves-the-others, an-import-is-a-second-name}
+use Rattle.promises.specs.SharedTokens.{TokensGoOn, TokensStay, tokens-stay}
+use Rattle.promises.specs.BoundTokens.{BoundUnless, a-bound-token-is-spent-only-by-its-release-or-with-its-last-name}
+use Rattle.promises.specs.SharedPackets.{ExportPacket, ImportPacket, ReleasePacket, when-an-export-is-accepted, when-an-import-is-accepted, when-a-release-is-accepted}
+use Rattle.promises.specs.TokensOverCalls.{CalledOn, tokens-go-on-between-resets, a-reset-forgets-the-tokens, a-failed-submission-leaves-the-tokens, at-most-256-tokens, shared-is-one-mip-one-layer, bound-is-one-mip-one-layer, what-is-held-is-sound}
 use Rattle.promises_of_submissions.specs.Clipping.{Scissored, accepted-scissor-is-clipped}
 use Rattle.promises_of_submissions.specs.Locality.{lent, SameWhereRead, SameRun, run-of-one-reads-only}
 
@@ -155,15 +165,15 @@ refused-at-the-opening w q j r opened = rw opened
 pub record Accepted (w : World) : Type 0 where
   pub what : Opened
   pub opened : opening-of (w .mem) (w .state .regs .ring) (w .state .regs .ringsize) ≡ Started what
-  pub finding : submission (w .mem) what (at-first (w .state .resources)) .finding ≡ fine
+  pub finding : submission (w .mem) what (at-first (w .state .belongings)) .finding ≡ fine
 
 pub only-accepted-waits : (w : World) (q : Registers) → w .state .work ≡ resting → waits (submitted-under q w .state .state) ≡ true → Accepted w
 unfolding settled
 only-accepted-waits w q rest = by-opening (opening-of (w .mem) (w .state .regs .ring) (w .state .regs .ringsize)) refl
   where
     by-finding : (o : Opened) → opening-of (w .mem) (w .state .regs .ring) (w .state .regs .ringsize) ≡ Started o
-        → (v : Finding) → submission (w .mem) o (at-first (w .state .resources)) .finding ≡ v
-        → waits (finished (registering q w) (o .job) (entries-of (w .mem) (o .table)) (submission (w .mem) o (at-first (w .state .resources)) .held) v .state) ≡ true
+        → (v : Finding) → submission (w .mem) o (at-first (w .state .belongings)) .finding ≡ v
+        → waits (finished (registering q w) (o .job) (entries-of (w .mem) (o .table)) (submission (w .mem) o (at-first (w .state .belongings)) .held) v .state) ≡ true
         → Accepted w
     by-finding o e fine h k = record { what = o; opened = e; finding = h }
     by-finding o e (broken f) h k = absurd (let z : _≡_ {A = ℕ} 0 1 = cc in omega arith)
@@ -173,13 +183,13 @@ only-accepted-waits w q rest = by-opening (opening-of (w .mem) (w .state .regs .
     by-opening BadRing e k = absurd (let f : waits (w .state) ≡ false = rw rest in let z : _≡_ {A = ℕ} 0 1 = cc in omega arith)
     by-opening NoWork e k = absurd (let f : waits (w .state) ≡ false = rw rest in let z : _≡_ {A = ℕ} 0 1 = cc in omega arith)
     by-opening (Refused j r) e k = absurd (let z : _≡_ {A = ℕ} 0 1 = cc in omega arith)
-    by-opening (Started o) e k = by-finding o e (submission (w .mem) o (at-first (w .state .resources)) .finding) refl k
+    by-opening (Started o) e k = by-finding o e (submission (w .mem) o (at-first (w .state .belongings)) .finding) refl k
 
 -- a submission that was opened at w and settled or accepted with the registers q
 module _ (w : World) (q : Registers) (o : Opened) (opened : opening-of (w .mem) (w .state .regs .ring) (w .state .regs .ringsize) ≡ Started o) where
   -- the unsliced rules' word on it
   abbrev pub judged : Submission
-  judged = submission (w .mem) o (at-first (w .state .resources))
+  judged = submission (w .mem) o (at-first (w .state .belongings))
 
   -- 4. "An accepted one's fence waits for the host's answer": it waits, and its units have changed nothing but the work: no byte, no
   -- resource, and of the registers only what was written meanwhile, which q are.
@@ -197,8 +207,8 @@ module _ (w : World) (q : Registers) (o : Opened) (opened : opening-of (w .mem) 
     pub refused-tells-where : OfBytes (w .mem)
         → (submitted-under q w .state .state .regs .error ≡ told (o .job) f (q .error)) × (OfAnEntry (o .table) f ⊎ OfAPacket (o .stream) f)
     refused-tells-where b = (
-      ap (λ (x : World). x .state .regs .error) refused-completes ∙ settling-tells (o .job) f (w .state .resources) (registering q w),
-      unsliced-tells-where (w .mem) (w .state .regs .ring) (w .state .regs .ringsize) o opened b (at-first (w .state .resources)) f e,
+      ap (λ (x : World). x .state .regs .error) refused-completes ∙ settling-tells (o .job) f (w .state .belongings) (registering q w),
+      unsliced-tells-where (w .mem) (w .state .regs .ring) (w .state .regs .ringsize) o opened b (at-first (w .state .belongings)) f e,
     )
 
     -- "hands out nothing and keeps every resource as it was"
@@ -206,9 +216,9 @@ module _ (w : World) (q : Registers) (o : Opened) (opened : opening-of (w .mem) 
     unfolding settled call-record nth
     refused-hands-out-nothing i = rw refused-completes
 
-    pub refused-keeps-resources : submitted-under q w .state .state .resources ≡ w .state .resources
+    pub refused-keeps-belongings : submitted-under q w .state .state .belongings ≡ w .state .belongings
     unfolding settled
-    refused-keeps-resources = rw refused-completes
+    refused-keeps-belongings = rw refused-completes
 
 -- Wish 9 at every unit that settles: the entry's index, the packet's offset, "else 0". Of any device made and called, over any bytes.
 pub every-settling-tells-where : (s : State) (k : Called s) → EachLent OfBytes s k → (m : List ℕ) (j : Job) (f : Fault) → Breaks (lent s m) (s .work) j f
@@ -233,9 +243,9 @@ pub record Settles (w : World) (good : Bool) (v : World) : Type 0 where
   pub alone : call-answer w good 0 ≡ record { answer = done; units = 0; ended = ending (v .state); world = v }
   pub runs-on : (n : ℕ) → (call-answer w good n ≡ call-run v n) × (call-answer w good n .answer ≡ done)
 
--- and an answer that is lent the device's memory is taken: it settles the submission, with its resources or with error 27 and place 0
+-- and an answer that is lent the device's memory is taken: it settles the submission, with its resources and tokens or with error 27 and place 0
 pub an-answer-settles : (w : World) (j : Job) (es : List Entry) (h : Progress) → w .state .work ≡ waiting j es h → lent-another w ≡ false
-    → Settles w true (settled j fine (h .holdings .resources) w) × Settles w false (settled-keeping j (broken (without-place (refusal host-failed))) w)
+    → Settles w true (settled j fine (left-by h) w) × Settles w false (settled-keeping j (broken (without-place (refusal host-failed))) w)
 an-answer-settles w j es h e l = (settles true _ (good-settles w j es h e), settles false _ (failed-settles w j es h e))
   where
     settles : (good : Bool) (v : World) → answered good w ≡ v → Settles w good v
@@ -262,10 +272,10 @@ pub ranges-lie-in-their-one-entry : (s : State) → Called s → (i : ℕ) → c
     → InOneEntry s i (call-record s i .range)
 ranges-lie-in-their-one-entry = ranges-at-the-record-call
 
--- 7. Completed fence, last error and resources are what settlings, bad rings and resets make of them, and change by nothing else.
-pub fence-error-and-resources : (cs : List Call) (w : World)
+-- 7. Completed fence, last error, resources and tokens are what settlings, bad rings and resets make of them, and change by nothing else.
+pub fence-error-and-belongings : (cs : List Call) (w : World)
     → (es : List Event) × (History w cs es (after-all cs w) × Says (w .state) es (after-all cs w .state))
-fence-error-and-resources cs w =
+fence-error-and-belongings cs w =
     let h = calls-have-events cs w in
     (h .0, (h .1, calls-say w cs (h .0) (after-all cs w) (h .1)))
 
@@ -380,7 +390,7 @@ the-rules-bounds-are-0-and-1 = the-bounds
 
 -- "The target is a live texture, else 18": a target packet that names one is accepted, and that is the target from then on; else nothing changes
 pub record TargetPacket (es : List Entry) (h : Progress) (c : SetTarget) : Type 0 where
-  pub set : LiveTexture (c .handle) (h .holdings) → pass es h (Target c) ≡ record { verdict = Fine; held = record { holdings = h .holdings; target = c .handle } }
+  pub set : LiveTexture (c .handle) (h .holdings) → pass es h (Target c) ≡ record { verdict = Fine; held = record { holdings = h .holdings; target = c .handle; tokens = h .tokens } }
   pub refused : live-texture (c .handle) (h .holdings) ≡ none → pass es h (Target c) ≡ record { verdict = Broken (refusal bad-handle); held = h }
 
 pub a-target-is-a-live-texture : (es : List Entry) (h : Progress) (c : SetTarget) → TargetPacket es h c
@@ -435,3 +445,77 @@ a-scissor-is-clipped-to-its-target = accepted-scissor-is-clipped
 -- a record is of kind 1, 2, 3 or 4: of any device made and called
 pub records-are-of-four-kinds : (s : State) → Called s → (i : ℕ) → call-record s i .answer ≡ done → OfAKind (call-record s i .range)
 records-are-of-four-kinds = kinds-at-the-record-call
+
+-- ---- wish 5, "two programs, one surface"
+
+-- "1808 export and 1809 import, 24 bytes, handle at 8 and token at 16; 1810 release, 16 bytes, token at 8"
+pub record SharedAs (b : List ℕ) : Type 0 where
+  pub export : packet-of export-surface b ≡ Export (record { handle = word b 8; token = long b 16 })
+  pub import : packet-of import-surface b ≡ Import (record { handle = word b 8; token = long b 16 })
+  pub release : packet-of release-token b ≡ Release (record { token = long b 8 })
+  -- the least bytes of each
+  pub export-bytes : least-size 1808 ≡ 24
+  pub import-bytes : least-size 1809 ≡ 24
+  pub release-bytes : least-size 1810 ≡ 16
+
+pub shared-packets-are-read : (b : List ℕ) → SharedAs b
+unfolding packet-of least-size known export-fields import-fields release-fields
+shared-packets-are-read b = record { export = refl; import = refl; release = refl; export-bytes = refl; import-bytes = refl; release-bytes = refl }
+
+-- "The handle check (18, create's rule for import) comes first, then shape, token, room": each refusal and each acceptance, over any progress
+pub record ByTheirRules (es : List Entry) (h : Progress) : Type 0 where
+  pub exports : (c : ExportSurface) → ExportPacket es h c
+  pub imports : (c : ImportSurface) → ImportPacket es h c
+  pub releases : (c : ReleaseToken) → ReleasePacket es h c
+
+pub exports-imports-and-releases : (es : List Entry) (h : Progress) → ByTheirRules es h
+exports-imports-and-releases es h = record { exports = when-an-export-is-accepted es h; imports = when-an-import-is-accepted es h; releases = when-a-release-is-accepted es h }
+
+-- what a submission of any device made and called holds, over any memories: so what follows is said of it
+pub any-submission-is-sound : (s : State) → Called s → (j : Job) (t : Stream) (at : ℕ) (es : List Entry) (h : Progress) → s .work ≡ packets j t at es h → SoundProgress es h
+any-submission-is-sound = what-is-held-is-sound
+
+-- "destroying one name leaves the others, and destroying the last frees the room"
+pub destroying-one-name-leaves-the-others : (es : List Entry) (h : Progress) → SoundProgress es h
+    → (c : DestroyResource) → pass es h (Destroy c) .verdict ≡ Fine → Destroyed (c .handle) h (pass es h (Destroy c) .held)
+destroying-one-name-leaves-the-others = destroying-a-name-leaves-the-others
+
+-- "Import makes the handle a second name for the exported resource"
+pub an-import-makes-a-second-name : (es : List Entry) (h : Progress) → SoundProgress es h
+    → (c : ImportSurface) → pass es h (Import c) .verdict ≡ Fine → SecondName (c .token) (c .handle) h (pass es h (Import c) .held)
+an-import-makes-a-second-name = an-import-is-a-second-name
+
+-- from packet to packet, whatever they are, a token stays used, or spent, or with its resource
+pub tokens-from-packet-to-packet : (es : List Entry) (h : Progress) → SoundProgress es h → (p : Packet) → TokensStay h (pass es h p .held)
+tokens-from-packet-to-packet = tokens-stay
+
+-- "destroying one name leaves the others": whatever the packet, a bound token stays bound, unless it is that token's release or a destroy of the last
+-- name of its resource
+pub only-its-release-or-its-last-name-spends-a-token : (es : List Entry) (h : Progress) → SoundProgress es h → (token : ℕ) → IsBound token (h .tokens)
+    → (p : Packet) → BoundUnless token h p (pass es h p .held .tokens)
+only-its-release-or-its-last-name-spends-a-token = a-bound-token-is-spent-only-by-its-release-or-with-its-last-name
+
+-- and so over any calls, between resets: "a token ever bound to another resource or one released" is found so
+pub tokens-between-resets : (s t : State) → Called s → CalledOn s t → TokensGoOn (s .belongings .tokens) (t .belongings .tokens)
+tokens-between-resets = tokens-go-on-between-resets
+
+-- "Only textures with one mip and one layer may be exported": of any device made and called, no other resource has two names or a token. "At most
+-- 256 tokens"
+pub record SharesOnly (s : State) : Type 0 where
+  pub two-names : (a b : ℕ) (o : OneResource (s .belongings .resources) a b) → (a ≡ b → ⊥) → OneMipOneLayer (o .first .kind)
+  pub a-token : (token : ℕ) (r : Resource) → bound token (s .belongings .tokens) (s .belongings .resources) ≡ found r → OneMipOneLayer (r .kind)
+  pub few : length (s .belongings .tokens) ≤ 256
+
+pub only-such-textures-are-shared : (s : State) → Called s → SharesOnly s
+only-such-textures-are-shared s k = record { two-names = shared-is-one-mip-one-layer s k; a-token = bound-is-one-mip-one-layer s k; few = at-most-256-tokens s k }
+
+-- "forgotten at reset"; "A submission refused or answered failed leaves the tokens, too, as they were before it"
+pub record Leaves (w : World) : Type 0 where
+  pub forgotten : (offset v : ℕ) → resets offset v ≡ true → call-write (w .state) offset v .state .belongings ≡ nothing-owned
+  -- a unit never changes them, so none that refuses does
+  pub refused : step w .state .belongings ≡ w .state .belongings
+  pub failed : answered false w .state .belongings ≡ w .state .belongings
+
+pub when-tokens-are-left-and-when-forgotten : (w : World) → Leaves w
+when-tokens-are-left-and-when-forgotten w =
+    record { forgotten = a-reset-forgets-the-tokens (w .state); refused = unit-keeps-belongings w; failed = a-failed-submission-leaves-the-tokens w }

@@ -14,7 +14,7 @@ use Rattle.rules.specs.Table.{entry-rules}
 use Rattle.rules.specs.Ring.{power-of-two, pending, slot, good-header, good-ring, opening-of}
 use Rattle.rules.specs.Shapes.{block-bytes, block-side, halvings, full-chain, mip-side, blocks, tight, rows, mip-bytes, offset-of, good-shape, good-backed, texture-bytes, packed-size, index-of, start-of}
 use Rattle.rules.specs.Packets.{at-first, on-texture-packet, create, create-backed}
-use Rattle.rules.specs.State.{World, made, with-regs, registers-of, no-error}
+use Rattle.rules.specs.State.{World, made, with-regs, registers-of, no-error, nothing-owned}
 use Rattle.rules.specs.Settle.{ended-by, signalled, faulted, doorbell-cleared, next-head}
 use Rattle.rules.specs.Registers.{status}
 use Rattle.rules.specs.Steps.{step, open-step}
@@ -46,7 +46,7 @@ roomy = record { id = 5; flags = 0; gpa = 0; size = 1099511627776 }
 -- the error that creating such a texture gives; 0 for none
 unfoldable pub creating : Shape → ℕ → ℕ
 creating s pitch =
-    number (at-place no-place (on-texture-packet (roomy ∷ []) (at-first [] .holdings) (record { handle = 1; shape = s; pitch = pitch; backing = 5; offset = 0 }) .verdict))
+    number (at-place no-place (on-texture-packet (roomy ∷ []) (at-first nothing-owned .holdings) (record { handle = 1; shape = s; pitch = pitch; backing = 5; offset = 0 }) .verdict))
 
 unfoldable pub start : Start → ℕ
 start (At n) = n

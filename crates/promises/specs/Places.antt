@@ -18,7 +18,7 @@ use Rattle.rules.specs.Judging.Finding.{broken}
 use Rattle.rules.specs.Layouts.{entry, stream-header-size}
 use Rattle.rules.specs.Table.{matching, is-found, entry-place, entry-rules, keep, in-reach, take-entry}
 use Rattle.rules.specs.Stream.{left}
-use Rattle.rules.specs.Packets.{Progress, at-first, take-packet}
+use Rattle.rules.specs.Packets.{Progress, at-first, take-packet, Belongings}
 use Rattle.rules.specs.State.{Work, State, World}
 use Rattle.rules.specs.State.Work.{resting, entries, packets, waiting}
 use Rattle.rules.specs.Settle.{faulted, signalled, doorbell-cleared, ended-by, settled, settled-keeping, ring-refused}
@@ -28,7 +28,6 @@ use Rattle.rules.specs.declared.Fault.{Fault}
 use Rattle.rules.specs.declared.Job.{Job}
 use Rattle.rules.specs.declared.Opened.{Opened}
 use Rattle.rules.specs.declared.Refusal.{Refusal}
-use Rattle.rules.specs.declared.Resource.{Resource}
 use Rattle.rules.specs.declared.Stream.{Stream}
 use Rattle.rules.specs.declared.Table.{Table}
 use Rattle.rules.specs.declared.Verdict.{Verdict}
@@ -148,18 +147,18 @@ packets-fit j t at es h fits = by-test (ltb at (t .size))
     by-test true = fits
     by-test false = omega arith
 
-entries-fit : (o : Opened) (kept : List Entry) (rs : List Resource) → o .stream .size < 2 ^ 32 → SizeFits (entries-at o kept rs)
-entries-fit o kept rs fits = by-test (ltb (length kept) (o .table .count))
+entries-fit : (o : Opened) (kept : List Entry) (owned : Belongings) → o .stream .size < 2 ^ 32 → SizeFits (entries-at o kept owned)
+entries-fit o kept owned fits = by-test (ltb (length kept) (o .table .count))
   where
-    by-test : (b : Bool) → SizeFits (pick b (entries o kept) (packets-at (o .job) (o .stream) stream-header-size kept (at-first rs)))
+    by-test : (b : Bool) → SizeFits (pick b (entries o kept) (packets-at (o .job) (o .stream) stream-header-size kept (at-first owned)))
     by-test true = fits
-    by-test false = packets-fit (o .job) (o .stream) stream-header-size kept (at-first rs) fits
+    by-test false = packets-fit (o .job) (o .stream) stream-header-size kept (at-first owned) fits
 
 next-fits : (w : World) → OfBytes (w .mem) → (k next : Work) → Next w k next → SizeFits k → SizeFits next
 next-fits w b resting next h fits =
     let lies : Lies (w .mem) (h .what) = subst (LiesOn (w .mem)) (h .here) (opening-lies (w .mem) (w .state .regs .ring) (w .state .regs .ringsize)) in
-    subst SizeFits (sym (h .first)) (entries-fit (h .what) [] (w .state .resources) (lies .short b))
-next-fits w b (entries o kept) next h fits = subst SizeFits (sym (h .1)) (entries-fit o (take-entry (w .mem) (o .table) kept .kept) (w .state .resources) fits)
+    subst SizeFits (sym (h .first)) (entries-fit (h .what) [] (w .state .belongings) (lies .short b))
+next-fits w b (entries o kept) next h fits = subst SizeFits (sym (h .1)) (entries-fit o (take-entry (w .mem) (o .table) kept .kept) (w .state .belongings) fits)
 next-fits w b (packets j t at es held) next h fits = subst SizeFits (sym (h .1)) (packets-fit j t _ es _ fits)
 next-fits w b (waiting j es held) next h fits = subst SizeFits (sym h) fits
 
@@ -171,9 +170,9 @@ sizes-fit s k b = called-keeps kept s k b
     kept = record { rests = λ n. omega arith; works-on = λ w l c. next-fits w c; marks = marked-bytes }
 
 -- "set with the code"
-pub settling-tells : (j : Job) (f : Fault) (rs : List Resource) (w : World) → settled j (broken f) rs w .state .regs .error ≡ told j f (w .state .regs .error)
+pub settling-tells : (j : Job) (f : Fault) (owned : Belongings) (w : World) → settled j (broken f) owned w .state .regs .error ≡ told j f (w .state .regs .error)
 unfolding settled ended-by signalled faulted
-settling-tells j f rs w = refl
+settling-tells j f owned w = refl
 
 -- a unit that finds a rule broken settles with it, and tells its number and its place
 pub record TellsWhere (w : World) (j : Job) (f : Fault) : Type 0 where
@@ -187,7 +186,7 @@ each-settling-tells-where s k fits m j f h =
     let is : step (lent s m) ≡ settled-keeping j (broken f) (lent s m) = unit-is-step (lent s m) _ (settles j f h) in
     record {
       settles = is;
-      tells = ap (λ (w : World). w .state .regs .error) is ∙ settling-tells j f (s .resources) (lent s m);
+      tells = ap (λ (w : World). w .state .regs .error) is ∙ settling-tells j f (s .belongings) (lent s m);
       place = unit-placed (lent s m) (s .memory) (s .work) (called-has-its-own-table s k) fits j f h;
     }
 

@@ -17,17 +17,18 @@ use Rattle.rules.specs.Layouts.{ring-header, descriptor, stream-header, texture
 use Rattle.rules.specs.Floats.{is-nan, not-finite, key, below}
 use Rattle.rules.specs.Shapes.{block-bytes, halvings, full-chain, good-shape}
 use Rattle.rules.specs.StatePackets.{bad-bounds, bad-viewport, bad-values, bad-clear, bad-sides, common, clip-of}
-use Rattle.rules.specs.Packets.{at-first, create-hosted, create, on-texture-packet, on-destroy-packet, live-texture, on-target-packet, on-viewport-packet, on-scissor-packet, on-clear-packet, apply, Progress, target-after, pass, take-packet}
+use Rattle.rules.specs.Packets.{at-first, create-hosted, create, on-texture-packet, on-destroy-packet, live-texture, on-target-packet, on-viewport-packet, on-scissor-packet, on-clear-packet, apply, Progress, target-after, pass, take-packet, tokens-after}
 use Rattle.rules.specs.Stream.{stream-rules, known, least-size, frame-rules, frame-of, packet-of, cut, packets-of}
 use Rattle.rules.specs.Headers.{wrong-header}
 use Rattle.rules.specs.Table.{entries-from, judge-entries}
 use Rattle.rules.specs.Ring.{descriptor-rules, range-rules, submission-rules, submission-opening, power-of-two, good-header, good-ring, ring-opening, opening-of}
-use Rattle.rules.specs.State.{World, made, with-regs, registers-of, no-error, working}
+use Rattle.rules.specs.State.{World, made, with-regs, registers-of, no-error, working, nothing-owned}
 use Rattle.rules.specs.State.Work.{packets, waiting}
 use Rattle.rules.specs.Steps.{open-step, packet-step, step, go}
 use Rattle.rules.specs.Unsliced.{Reckoned, judge-packets, submission, submitted}
 use Rattle.rules.specs.Registers.{controlled, write-of}
 use Rattle.rules.specs.Calls.{RecordRead, call-write, call-run, call-record}
+use Rattle.rules.specs.Names.{rename}
 use Rattle.rules.specs.declared.Job.{Job}
 use Rattle.rules.specs.declared.Stream.{Stream}
 use Rattle.rules.specs.declared.Shape.{Shape}
@@ -75,7 +76,7 @@ stream-with words = in-bytes (stream-magic ∷ version ∷ (24 + 4 * length word
 
 -- judged by the unsliced rules, with no table and nothing held
 unfoldable pub judged-words : List ℕ → Reckoned
-judged-words words = judge-packets [] (at-first []) (packets-of (stream-with words) (record { gpa = 0; size = 24 + 4 * length words }))
+judged-words words = judge-packets [] (at-first nothing-owned) (packets-of (stream-with words) (record { gpa = 0; size = 24 + 4 * length words }))
 
 abbrev pub the-shape : Shape
 the-shape = record { format = 1; width = 64; height = 32; mips = 1; layers = 1 }
@@ -85,10 +86,11 @@ abbrev pub drawn : Progress
 drawn =
     record {
       holdings = record {
-        resources = record { handle = 1; kind = Texture the-shape; bytes = 0; pitch = 0; backing = 0; offset = 0 } ∷ [];
+        resources = record { handle = 1; kind = Texture the-shape; bytes = 0; pitch = 0; backing = 0; offset = 0; lowest = 1 } ∷ [];
         records = record { kind = 4; handle = 0; id = 3; gpa = 15; length = 29 } ∷ [];
       };
       target = 1;
+      tokens = [];
     }
 
 unfoldable pub drawing : List ℕ
@@ -108,7 +110,7 @@ pub record StateStreams : Type 0 where
   pub target-0 : judged-words (textured 1 ++ targeted 0) .finding ≡ broken (record { code = 18; place = 80 })
 
 pub state-streams : StateStreams
-unfolding textured targeted destroyed viewed scissored cleared stream-with judged-words drawing in-bytes le bytesOf lookup indexOf removed over texture-fields target-fields destroy-fields viewport-fields signed scissor-fields clear-fields known least-size frame-rules frame-of packet-of cut is-nan not-finite key below bad-bounds bad-viewport bad-values bad-clear bad-sides common clip-of block-bytes halvings full-chain good-shape create-hosted create on-texture-packet on-destroy-packet live-texture on-target-packet on-viewport-packet on-scissor-packet on-clear-packet apply target-after pass judge-packets ofBits toBits
+unfolding textured targeted destroyed viewed scissored cleared stream-with judged-words drawing in-bytes le bytesOf lookup indexOf removed over rename texture-fields target-fields destroy-fields viewport-fields signed scissor-fields clear-fields known least-size frame-rules frame-of packet-of cut is-nan not-finite key below bad-bounds bad-viewport bad-values bad-clear bad-sides common clip-of block-bytes halvings full-chain good-shape create-hosted create on-texture-packet on-destroy-packet live-texture on-target-packet on-viewport-packet on-scissor-packet on-clear-packet apply target-after tokens-after pass judge-packets ofBits toBits
 state-streams =
     record {
       all-are-fine = refl;
@@ -148,12 +150,12 @@ pub record DrawingGuest : Type 0 where
   -- the clipped rectangle is the record that the host reads
   pub handed-out : call-record (drawing-waits .state) 0 ≡ record { answer = 0; range = record { kind = 4; handle = 0; id = 3; gpa = 15; length = 29 } }
   -- after one unit the first packet is due, and there is no target
-  pub opened : after (runs 1) drawing-asked .state .work ≡ packets the-job the-stream 24 [] (at-first [])
+  pub opened : after (runs 1) drawing-asked .state .work ≡ packets the-job the-stream 24 [] (at-first nothing-owned)
   -- after three the viewport is, and there is one
-  pub targeted-at : after (runs 3) drawing-asked .state .work ≡ packets the-job the-stream 96 [] (record { holdings = record { resources = drawn .holdings .resources; records = [] }; target = 1 })
+  pub targeted-at : after (runs 3) drawing-asked .state .work ≡ packets the-job the-stream 96 [] (record { holdings = record { resources = drawn .holdings .resources; records = [] }; target = 1; tokens = [] })
 
 pub drawing-guest-is : DrawingGuest
-unfolding textured targeted viewed scissored cleared stream-with drawing drawing-guest drawing-asked drawing-waits zeros ring-words in-bytes le bytesOf over lookup nth ring-header descriptor stream-header power-of-two good-header good-ring ring-opening opening-of descriptor-rules range-rules submission-rules submission-opening wrong-header stream-rules texture-fields target-fields viewport-fields signed scissor-fields clear-fields entries-from judge-entries known least-size frame-rules frame-of packet-of cut is-nan not-finite key below bad-bounds bad-viewport bad-values bad-clear bad-sides common clip-of block-bytes halvings full-chain good-shape create-hosted create on-texture-packet live-texture on-target-packet on-viewport-packet on-scissor-packet on-clear-packet apply target-after pass take-packet judge-packets submission submitted open-step packet-step step go runFor call-run call-record after ofBits toBits
+unfolding textured targeted viewed scissored cleared stream-with drawing drawing-guest drawing-asked drawing-waits zeros ring-words in-bytes le bytesOf over lookup nth ring-header descriptor stream-header power-of-two good-header good-ring ring-opening opening-of descriptor-rules range-rules submission-rules submission-opening wrong-header stream-rules texture-fields target-fields viewport-fields signed scissor-fields clear-fields entries-from judge-entries known least-size frame-rules frame-of packet-of cut is-nan not-finite key below bad-bounds bad-viewport bad-values bad-clear bad-sides common clip-of block-bytes halvings full-chain good-shape create-hosted create on-texture-packet live-texture on-target-packet on-viewport-packet on-scissor-packet on-clear-packet apply target-after tokens-after pass take-packet judge-packets submission submitted open-step packet-step step go runFor call-run call-record after ofBits toBits
 drawing-guest-is = record { accepted = refl; run-accepted = refl; handed-out = refl; opened = refl; targeted-at = refl }
 
 -- ---- so the theorems speak of them
@@ -166,8 +168,8 @@ run-is-called : (n : ℕ) → Called (after (runs n) drawing-asked .state)
 run-is-called n = calls (runs n) (drawing-asked .mem) asked-is-called
 
 -- the first packet finds no target
-pub begins-with-none : at-first [] .target ≡ 0
-begins-with-none = first-packet-finds-no-target (after (runs 1) drawing-asked .state) (run-is-called 1) the-job the-stream 24 [] (at-first []) (drawing-guest-is .opened) refl
+pub begins-with-none : at-first nothing-owned .target ≡ 0
+begins-with-none = first-packet-finds-no-target (after (runs 1) drawing-asked .state) (run-is-called 1) the-job the-stream 24 [] (at-first nothing-owned) (drawing-guest-is .opened) refl
 
 -- and the one that was set is a live texture
 pub its-target-lives : LiveTexture 1 (record { resources = drawn .holdings .resources; records = [] })

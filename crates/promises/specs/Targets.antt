@@ -16,12 +16,11 @@ use Rattle.rules.specs.Layouts.{stream-header-size, packet-header-size}
 use Rattle.rules.specs.Table.{take-entry}
 use Rattle.rules.specs.Stream.{frame-of, size-of, left}
 use Rattle.rules.specs.StatePackets.{bad-sides}
-use Rattle.rules.specs.Packets.{Outcome, at-first, live-texture, on-target-packet, on-scissor-packet, apply, Progress, if-fine, target-after, pass, pass-frame, take-packet}
+use Rattle.rules.specs.Packets.{Outcome, at-first, live-texture, on-target-packet, on-scissor-packet, apply, Progress, if-fine, target-after, pass, pass-frame, take-packet, Belongings, tokens-after}
 use Rattle.rules.specs.State.{Work, State, World}
 use Rattle.rules.specs.State.Work.{resting, entries, packets, waiting}
 use Rattle.rules.specs.Steps.{packets-at, entries-at}
 use Rattle.rules.specs.declared.Entry.{Entry}
-use Rattle.rules.specs.declared.Resource.{Resource}
 use Rattle.rules.specs.declared.Shape.{Shape}
 use Rattle.rules.specs.declared.SetTarget.{SetTarget}
 use Rattle.rules.specs.declared.SetScissor.{SetScissor}
@@ -34,7 +33,7 @@ use Rattle.rules.specs.declared.Verdict.the-variants.{Fine, Broken}
 use Rattle.rules.specs.declared.Frame.{Frame}
 use Rattle.rules.specs.declared.Frame.the-variants.{Whole, Misframed}
 use Rattle.rules.specs.declared.Packet.{Packet}
-use Rattle.rules.specs.declared.Packet.the-variants.{Buffer, Texture, Destroy, Dirty, Copy, Target, Viewport, Scissor, Clear, NotANumber, Unknown}
+use Rattle.rules.specs.declared.Packet.the-variants.{Buffer, Texture, Destroy, Dirty, Copy, Target, Viewport, Scissor, Clear, Export, Import, Release, NotANumber, Unknown}
 use Rattle.stream_packets.specs.Framing.{frame-sound}
 use Rattle.packet_apply.specs.Effects.{target-or}
 use Rattle.packet_apply.specs.Held.{Every, LiveTexture, TargetLives}
@@ -49,12 +48,12 @@ use Rattle.promises_of_units.specs.Ranges.{called-sound}
 -- "The target is a live texture": one that is accepted names one, and is the target from then on; "else 18", and nothing changes
 module _ (es : List Entry) (h : Progress) (c : SetTarget) where
   pub target-is-set : (s : Shape) → live-texture (c .handle) (h .holdings) ≡ found s
-      → pass es h (Target c) ≡ record { verdict = Fine; held = record { holdings = h .holdings; target = c .handle } }
-  unfolding pass apply on-target-packet target-after
+      → pass es h (Target c) ≡ record { verdict = Fine; held = record { holdings = h .holdings; target = c .handle; tokens = h .tokens } }
+  unfolding pass apply on-target-packet target-after tokens-after
   target-is-set s e = rw e
 
   pub target-is-refused : live-texture (c .handle) (h .holdings) ≡ none → pass es h (Target c) ≡ record { verdict = Broken (refusal bad-handle); held = h }
-  unfolding pass apply on-target-packet target-after
+  unfolding pass apply on-target-packet target-after tokens-after
   target-is-refused e = rw e
 
   pub accepted-target-is-live : pass es h (Target c) .verdict ≡ Fine → LiveTexture (c .handle) (h .holdings)
@@ -69,7 +68,7 @@ module _ (es : List Entry) (h : Progress) where
   -- a packet that is neither a target nor a destroy leaves it, accepted or refused: so making a handle leaves it too
   pub other-packets-keep-the-target : (p : Packet) → ((c : SetTarget) → p ≡ Target c → ⊥) → ((c : DestroyResource) → p ≡ Destroy c → ⊥)
       → pass es h p .held .target ≡ h .target
-  unfolding pass target-after
+  unfolding pass target-after tokens-after
   other-packets-keep-the-target (Buffer c) t d = refl
   other-packets-keep-the-target (Texture c) t d = refl
   other-packets-keep-the-target (Destroy c) t d = absurd (d c refl)
@@ -79,18 +78,21 @@ module _ (es : List Entry) (h : Progress) where
   other-packets-keep-the-target (Viewport v) t d = refl
   other-packets-keep-the-target (Scissor c) t d = refl
   other-packets-keep-the-target (Clear c) t d = refl
+  other-packets-keep-the-target (Export c) t d = refl
+  other-packets-keep-the-target (Import c) t d = refl
+  other-packets-keep-the-target (Release c) t d = refl
   other-packets-keep-the-target NotANumber t d = refl
   other-packets-keep-the-target Unknown t d = refl
 
   module _ (c : DestroyResource) where
     -- "until .. that handle is destroyed"
     pub destroyed-ends-the-target : pass es h (Destroy c) .verdict ≡ Fine → c .handle ≡ h .target → pass es h (Destroy c) .held .target ≡ 0
-    unfolding pass target-after
+    unfolding pass target-after tokens-after
     destroyed-ends-the-target e same = rw (e, eq-eqb (c .handle) (h .target) same)
 
     pub another-destroyed-keeps-the-target : (c .handle ≡ h .target → ⊥) → pass es h (Destroy c) .held .target ≡ h .target
-    unfolding pass target-after
-    another-destroyed-keeps-the-target other = by-verdict (apply es (h .target) (h .holdings) (Destroy c) .verdict)
+    unfolding pass target-after tokens-after
+    another-destroyed-keeps-the-target other = by-verdict (apply es (h .target) (h .tokens) (h .holdings) (Destroy c) .verdict)
       where
         by-verdict : (v : Verdict) → if-fine v (pick (eqb (c .handle) (h .target)) 0 (h .target)) (h .target) ≡ h .target
         by-verdict Fine = rw (ne-eqb (c .handle) (h .target) other)
@@ -98,10 +100,10 @@ module _ (es : List Entry) (h : Progress) where
 
   -- where there is none, there is none after it, unless it is a target packet
   none-stays-none : (p : Packet) → ((c : SetTarget) → p ≡ Target c → ⊥) → h .target ≡ 0 → pass es h p .held .target ≡ 0
-  unfolding pass target-after
+  unfolding pass target-after tokens-after
   none-stays-none (Buffer c) t z = z
   none-stays-none (Texture c) t z = z
-  none-stays-none (Destroy c) t z = by-verdict (apply es (h .target) (h .holdings) (Destroy c) .verdict) (eqb (c .handle) (h .target))
+  none-stays-none (Destroy c) t z = by-verdict (apply es (h .target) (h .tokens) (h .holdings) (Destroy c) .verdict) (eqb (c .handle) (h .target))
     where
       by-verdict : (v : Verdict) (b : Bool) → if-fine v (pick b 0 (h .target)) (h .target) ≡ 0
       by-verdict Fine true = refl
@@ -113,6 +115,9 @@ module _ (es : List Entry) (h : Progress) where
   none-stays-none (Viewport v) t z = z
   none-stays-none (Scissor c) t z = z
   none-stays-none (Clear c) t z = z
+  none-stays-none (Export c) t z = z
+  none-stays-none (Import c) t z = z
+  none-stays-none (Release c) t z = z
   none-stays-none NotANumber t z = z
   none-stays-none Unknown t z = z
 
@@ -133,22 +138,22 @@ ended-target-stays-ended es h (p ∷ ps) k z = ended-target-stays-ended es (pass
 module _ (es : List Entry) (h : Progress) (c : SetScissor) where
   -- "scissor without a target": 30
   pub scissor-without-a-target : h .target ≡ 0 → pass es h (Scissor c) ≡ record { verdict = Broken (refusal bad-state); held = h }
-  unfolding pass apply on-scissor-packet live-texture target-after
+  unfolding pass apply on-scissor-packet live-texture target-after tokens-after
   scissor-without-a-target z = rw z
 
   module _ (s : Shape) (e : live-texture (h .target) (h .holdings) ≡ found s) where
     -- "scissor sides negative": 30
     pub scissor-with-negative-sides : bad-sides c ≡ true → pass es h (Scissor c) ≡ record { verdict = Broken (refusal bad-state); held = h }
-    unfolding pass apply on-scissor-packet target-after
+    unfolding pass apply on-scissor-packet target-after tokens-after
     scissor-with-negative-sides b = rw (e, b)
 
     -- its record "counts toward the 64": 19. "Order: 18, 30, 19"
     pub scissor-past-the-last-record : bad-sides c ≡ false → most ≤ length (h .holdings .records) → pass es h (Scissor c) ≡ record { verdict = Broken (refusal too-many); held = h }
-    unfolding pass apply on-scissor-packet target-after
+    unfolding pass apply on-scissor-packet target-after tokens-after
     scissor-past-the-last-record b f = rw (e, b, le-leb most (length (h .holdings .records)) f)
 
     pub scissor-is-accepted : bad-sides c ≡ false → length (h .holdings .records) < most → pass es h (Scissor c) .verdict ≡ Fine
-    unfolding pass apply on-scissor-packet target-after
+    unfolding pass apply on-scissor-packet target-after tokens-after
     scissor-is-accepted b f = rw (e, b, lt-leb most (length (h .holdings .records)) f)
 
 -- ---- of any device that was made and called
@@ -171,12 +176,12 @@ packets-begin j t at es h past first = by-test (ltb at (t .size))
     by-test true = (past, first)
     by-test false = omega arith
 
-entries-begin : (o : Opened) (kept : List Entry) (rs : List Resource) → BeginsWithNone (entries-at o kept rs)
-entries-begin o kept rs = by-test (ltb (length kept) (o .table .count))
+entries-begin : (o : Opened) (kept : List Entry) (owned : Belongings) → BeginsWithNone (entries-at o kept owned)
+entries-begin o kept owned = by-test (ltb (length kept) (o .table .count))
   where
-    by-test : (b : Bool) → BeginsWithNone (pick b (entries o kept) (packets-at (o .job) (o .stream) stream-header-size kept (at-first rs)))
+    by-test : (b : Bool) → BeginsWithNone (pick b (entries o kept) (packets-at (o .job) (o .stream) stream-header-size kept (at-first owned)))
     by-test true = omega arith
-    by-test false = packets-begin (o .job) (o .stream) stream-header-size kept (at-first rs) (omega arith) (λ _. refl)
+    by-test false = packets-begin (o .job) (o .stream) stream-header-size kept (at-first owned) (omega arith) (λ _. refl)
 
 -- a packet that is accepted has a header, so the next one stands behind it
 goes-on : (es : List Entry) (h : Progress) (b : List ℕ) → take-packet es h b .verdict ≡ Fine → packet-header-size ≤ size-of (frame-of b)
@@ -188,8 +193,8 @@ goes-on es h b = by-frame (frame-of b) refl
     by-frame (Misframed r) e v = absurd (let z : _≡_ {A = ℕ} 0 1 = cc in omega arith)
 
 next-begins : (w : World) (k next : Work) → Next w k next → BeginsWithNone k → BeginsWithNone next
-next-begins w resting next h b = subst BeginsWithNone (sym (h .first)) (entries-begin (h .what) [] (w .state .resources))
-next-begins w (entries o kept) next h b = subst BeginsWithNone (sym (h .1)) (entries-begin o (take-entry (w .mem) (o .table) kept .kept) (w .state .resources))
+next-begins w resting next h b = subst BeginsWithNone (sym (h .first)) (entries-begin (h .what) [] (w .state .belongings))
+next-begins w (entries o kept) next h b = subst BeginsWithNone (sym (h .1)) (entries-begin o (take-entry (w .mem) (o .table) kept .kept) (w .state .belongings))
 next-begins w (packets j t at es held) next h b =
     let more : packet-header-size ≤ size-of (frame-of (left (w .mem) t at)) = goes-on es held (left (w .mem) t at) (h .0) in
     subst BeginsWithNone (sym (h .1)) (packets-begin j t _ es _ (omega (arith, b .0)) (λ z. absurd (omega (arith, b .0))))

@@ -16,8 +16,8 @@ use Rattle.rules.specs.Headers.{wrong-header}
 use Rattle.rules.specs.Table.{header-rules, entry-id, entry-rules, take-entry, entries-from, entries-of, judge-entries}
 use Rattle.rules.specs.Stream.{known, stream-rules, least-size, frame-rules, frame-of, packet-of, cut, packets-of}
 use Rattle.rules.specs.Ring.{descriptor-rules, range-rules, submission-rules, submission-opening, power-of-two, good-header, good-ring, ring-opening, opening-of}
-use Rattle.rules.specs.Packets.{Progress, at-first, create-backed, create, on-buffer-packet, on-destroy-packet, apply, target-after, pass, take-packet}
-use Rattle.rules.specs.State.{World, made, with-regs, registers-of, no-error, working, registering}
+use Rattle.rules.specs.Packets.{Progress, at-first, create-backed, create, on-buffer-packet, on-destroy-packet, apply, target-after, pass, take-packet, tokens-after}
+use Rattle.rules.specs.State.{World, made, with-regs, registers-of, no-error, working, registering, nothing-owned}
 use Rattle.rules.specs.State.Work.{waiting}
 use Rattle.rules.specs.Settle.{faulted, signalled, ended-by, written, head-written, page-written, marked, settled, settled-keeping}
 use Rattle.rules.specs.Registers.{controlled, write-of, register}
@@ -98,10 +98,11 @@ unfoldable pub held : Progress
 held =
     record {
       holdings = record {
-        resources = record { handle = 1; kind = Buffer; bytes = 32; pitch = 0; backing = 5; offset = 16 } ∷ [];
+        resources = record { handle = 1; kind = Buffer; bytes = 32; pitch = 0; backing = 5; offset = 16; lowest = 1 } ∷ [];
         records = record { kind = 1; handle = 1; id = 5; gpa = 80; length = 32 } ∷ [];
       };
       target = 0;
+      tokens = [];
     }
 
 unfoldable pub the-entry : Entry
@@ -128,12 +129,12 @@ rewritten = registers-of 4096 128 true 32 0 false false 0 no-error true
 pub record TwoGuests : Type 0 where
   -- with one entry: opened, judged fine after 3 units, and so it waits with one resource and one record
   pub one-starts : opening-of (guest 1) 0 128 ≡ Started (begun 1)
-  pub one-is-fine : submission (guest 1) (begun 1) (at-first []) ≡ record { finding = fine; held = held; units = 3 }
+  pub one-is-fine : submission (guest 1) (begun 1) (at-first nothing-owned) ≡ record { finding = fine; held = held; units = 3 }
   pub accepted : submitted (asking 1) ≡ record { state = awaiting; units = 3 }
   pub handed-out : call-record (awaiting .state) 0 ≡ record { answer = 0; range = record { kind = 1; handle = 1; id = 5; gpa = 80; length = 32 } }
   -- with the same entry twice: opened, and refused with 15 after 3 units: error, fence and head are settled
   pub two-start : opening-of (guest 2) 0 128 ≡ Started (begun 2)
-  pub two-are-refused : submission (guest 2) (begun 2) (at-first []) ≡ record { finding = broken (record { code = 15; place = 1 }); held = at-first []; units = 3 }
+  pub two-are-refused : submission (guest 2) (begun 2) (at-first nothing-owned) ≡ record { finding = broken (record { code = 15; place = 1 }); held = at-first nothing-owned; units = 3 }
   pub refused : submitted (asking 2) .units ≡ 3
   pub refused-registers : submitted (asking 2) .state .state .regs ≡ registers-of 0 128 true 0 7 true true 0 (record { code = 15; fence = 7; count = 1; detail = 1 }) true
   pub refused-head : word (submitted (asking 2) .state .mem) 24 ≡ 1
@@ -152,7 +153,7 @@ pub record TwoGuests : Type 0 where
   pub by-units : over-moving (guest 1 ∷ guest 1 ∷ guest 1 ∷ []) (asking 1 .state) ≡ awaiting .state
 
 pub two-guests : TwoGuests
-unfolding zeros in-bytes ring-words slot-words table-words entry-words stream-words guest asking begun held the-entry awaiting ringing rewriting rewritten le bytesOf over lookup nth ring-header descriptor table-header entry stream-header buffer-fields page-bytes power-of-two good-header good-ring ring-opening opening-of descriptor-rules range-rules submission-rules submission-opening wrong-header header-rules stream-rules entry-rules take-entry entries-from judge-entries known least-size frame-rules frame-of packet-of cut apply target-after pass take-packet on-buffer-packet create create-backed judge-packets submission submitted faulted signalled ended-by written head-written page-written marked settled write-of open-step entry-step packet-step step go runFor call-write call-read register call-run call-record after after-all units-of units-of-all over-moving
+unfolding zeros in-bytes ring-words slot-words table-words entry-words stream-words guest asking begun held the-entry awaiting ringing rewriting rewritten le bytesOf over lookup nth ring-header descriptor table-header entry stream-header buffer-fields page-bytes power-of-two good-header good-ring ring-opening opening-of descriptor-rules range-rules submission-rules submission-opening wrong-header header-rules stream-rules entry-rules take-entry entries-from judge-entries known least-size frame-rules frame-of packet-of cut apply target-after tokens-after pass take-packet on-buffer-packet create create-backed judge-packets submission submitted faulted signalled ended-by written head-written page-written marked settled write-of open-step entry-step packet-step step go runFor call-write call-read register call-run call-record after after-all units-of units-of-all over-moving
 two-guests =
     record {
       one-starts = refl;
@@ -180,13 +181,13 @@ two-guests =
 pub record TwoMore : Type 0 where
   -- the packet's offset in the stream: the first stands behind the header
   pub none-starts : opening-of (guest 0) 0 128 ≡ Started (begun 0)
-  pub none-is-refused : submission (guest 0) (begun 0) (at-first []) ≡ record { finding = broken (record { code = 21; place = 24 }); held = at-first []; units = 2 }
+  pub none-is-refused : submission (guest 0) (begun 0) (at-first nothing-owned) ≡ record { finding = broken (record { code = 21; place = 24 }); held = at-first nothing-owned; units = 2 }
   pub none-detail : call-read (submitted (asking 0) .state .state) 0x320 ≡ record { answer = 0; value = 24 }
   -- 19 of the table's count has no place
   pub many-are-refused : submitted (asking 65) .state .state .regs .error ≡ record { code = 19; fence = 7; count = 1; detail = 0 }
 
 pub two-more : TwoMore
-unfolding zeros in-bytes ring-words slot-words table-words entry-words stream-words guest asking begun le bytesOf over lookup ring-header descriptor table-header stream-header buffer-fields power-of-two good-header good-ring ring-opening opening-of descriptor-rules range-rules submission-rules submission-opening wrong-header header-rules stream-rules entries-from judge-entries known least-size frame-rules frame-of packet-of cut apply target-after pass on-buffer-packet create create-backed judge-packets submission submitted faulted signalled ended-by written head-written page-written marked settled register call-read
+unfolding zeros in-bytes ring-words slot-words table-words entry-words stream-words guest asking begun le bytesOf over lookup ring-header descriptor table-header stream-header buffer-fields power-of-two good-header good-ring ring-opening opening-of descriptor-rules range-rules submission-rules submission-opening wrong-header header-rules stream-rules entries-from judge-entries known least-size frame-rules frame-of packet-of cut apply target-after tokens-after pass on-buffer-packet create create-backed judge-packets submission submitted faulted signalled ended-by written head-written page-written marked settled register call-read
 two-more = record { none-starts = refl; none-is-refused = refl; none-detail = refl; many-are-refused = refl }
 
 -- ---- so the theorems speak of them
@@ -205,7 +206,7 @@ awaiting-is-sound : SoundState (awaiting .state)
 unfolding after asking
 awaiting-is-sound =
     subst (λ (w : World). SoundState (w .state)) (two-guests .run-accepted)
-    (run-call-keeps-sound (asking 1) 65535 (record { resources = made-sound 248 .resources; work = made-sound 248 .work }))
+    (run-call-keeps-sound (asking 1) 65535 (record { belongings = made-sound 248 .belongings; work = made-sound 248 .work }))
 
 awaiting-lies : Lies (awaiting .state)
 unfolding after asking
@@ -221,8 +222,8 @@ its-record-lies-in-memory = waiting-ranges-in-memory (awaiting .state) (begun 1 
 
 -- the two units after the opening, each under any registers: what the unsliced rules say, by the registers of the last
 module _ (r q : Registers) (on : q .enabled ≡ true) where
-  under-registers : (n : ℕ) (s : Submission) → opening-of (guest n) 0 128 ≡ Started (begun n) → submission (guest n) (begun n) (at-first []) ≡ s → s .units ≡ 3
-      → under (r ∷ []) q (working (entries-at (begun n) [] []) (asking n))
+  under-registers : (n : ℕ) (s : Submission) → opening-of (guest n) 0 128 ≡ Started (begun n) → submission (guest n) (begun n) (at-first nothing-owned) ≡ s → s .units ≡ 3
+      → under (r ∷ []) q (working (entries-at (begun n) [] nothing-owned) (asking n))
       ≡ finished (registering q (asking n)) (begun n .job) (entries-of (guest n) (begun n .table)) (s .held) (s .finding)
   unfolding asking
   under-registers n s starts judged three =
@@ -230,11 +231,11 @@ module _ (r q : Registers) (on : q .enabled ≡ true) where
       (sym (ap (λ (x : Submission). x .units) judged ∙ three))
       ∙ ap (λ (x : Submission). finished (registering q (asking n)) (begun n .job) (entries-of (guest n) (begun n .table)) (x .held) (x .finding)) judged
 
-  pub any-registers-accepted : under (r ∷ []) q (working (entries-at (begun 1) [] []) (asking 1)) ≡ registering q awaiting
+  pub any-registers-accepted : under (r ∷ []) q (working (entries-at (begun 1) [] nothing-owned) (asking 1)) ≡ registering q awaiting
   unfolding awaiting the-entry begun guest in-bytes ring-words slot-words table-words entry-words stream-words zeros le bytesOf entry entries-from
   any-registers-accepted = under-registers 1 _ (two-guests .one-starts) (two-guests .one-is-fine) refl
 
-  pub any-registers-refused : under (r ∷ []) q (working (entries-at (begun 2) [] []) (asking 2))
+  pub any-registers-refused : under (r ∷ []) q (working (entries-at (begun 2) [] nothing-owned) (asking 2))
       ≡ settled-keeping (begun 2 .job) (broken (record { code = 15; place = 1 })) (registering q (asking 2))
   any-registers-refused = under-registers 2 _ (two-guests .two-start) (two-guests .two-are-refused) refl
 
@@ -270,9 +271,9 @@ moved-and-accepted =
 unfoldable pub second-broken : List ℕ
 second-broken = in-bytes (stream-magic ∷ version ∷ 80 ∷ 0 ∷ 0 ∷ 0 ∷ create-buffer ∷ 40 ∷ 1 ∷ 0 ∷ 32 ∷ 0 ∷ 5 ∷ 16 ∷ 0 ∷ 0 ∷ destroy ∷ 16 ∷ 2 ∷ 0 ∷ [])
 
-pub second-packet-is-refused : judge-packets (the-entry ∷ []) (at-first []) (packets-of second-broken (record { gpa = 0; size = 80 }))
+pub second-packet-is-refused : judge-packets (the-entry ∷ []) (at-first nothing-owned) (packets-of second-broken (record { gpa = 0; size = 80 }))
     ≡ record { finding = broken (record { code = 18; place = 64 }); held = held; count = 2 }
-unfolding second-broken held the-entry in-bytes le bytesOf lookup buffer-fields destroy-fields known least-size frame-rules frame-of packet-of cut apply target-after pass on-buffer-packet on-destroy-packet create create-backed judge-packets
+unfolding second-broken held the-entry in-bytes le bytesOf lookup buffer-fields destroy-fields known least-size frame-rules frame-of packet-of cut apply target-after tokens-after pass on-buffer-packet on-destroy-packet create create-backed judge-packets
 second-packet-is-refused = refl
 
 -- ---- its packet once more, 8 bytes longer than its row: whatever two words are appended, the same record is made
@@ -284,7 +285,7 @@ abbrev pub longer : Stream
 longer = record { gpa = 0; size = 72 }
 
 pub appended-and-accepted : (a b : ℕ)
-    → judge-packets (the-entry ∷ []) (at-first []) (packets-of (longer-stream a b) longer) ≡ record { finding = fine; held = held; count = 1 }
-unfolding longer-stream held the-entry in-bytes le bytesOf lookup buffer-fields known least-size frame-rules frame-of packet-of cut apply target-after pass on-buffer-packet create create-backed judge-packets
+    → judge-packets (the-entry ∷ []) (at-first nothing-owned) (packets-of (longer-stream a b) longer) ≡ record { finding = fine; held = held; count = 1 }
+unfolding longer-stream held the-entry in-bytes le bytesOf lookup buffer-fields known least-size frame-rules frame-of packet-of cut apply target-after tokens-after pass on-buffer-packet create create-backed judge-packets
 appended-and-accepted a b =
-    appended-bytes-cannot-matter (longer-stream a b) (longer-stream 0 0) longer longer refl (packet create-buffer 48 refl refl refl stream-ends) (the-entry ∷ []) (at-first [])
+    appended-bytes-cannot-matter (longer-stream a b) (longer-stream 0 0) longer longer refl (packet create-buffer 48 refl refl refl stream-ends) (the-entry ∷ []) (at-first nothing-owned)

@@ -15,7 +15,7 @@ use Rattle.rules.specs.Headers.{wrong-header}
 use Rattle.rules.specs.Table.{header-rules, entry-rules, take-entry, entries-from, judge-entries}
 use Rattle.rules.specs.Stream.{known, stream-rules, least-size, frame-rules, frame-of, packet-of, cut}
 use Rattle.rules.specs.Ring.{descriptor-rules, range-rules, submission-rules, submission-opening, power-of-two, good-header, good-ring, ring-opening, opening-of}
-use Rattle.rules.specs.Packets.{create-backed, create, on-buffer-packet, apply, target-after, pass, take-packet}
+use Rattle.rules.specs.Packets.{create-backed, create, on-buffer-packet, apply, target-after, tokens-after, pass, take-packet}
 use Rattle.rules.specs.State.{State}
 use Rattle.rules.specs.Settle.{faulted, signalled, ended-by, written, head-written, page-written, marked, settled}
 use Rattle.rules.specs.Registers.{controlled, write-of}
@@ -23,7 +23,7 @@ use Rattle.rules.specs.Steps.{open-step, entry-step, packet-step, step, go, ans
 use Rattle.rules.specs.Unsliced.{judge-packets, submission, submitted}
 use Rattle.rules.specs.Calls.{ending, call-write, call-run, call-record, answer-alone, call-answer}
 use Rattle.rows.specs.Rows.{tab, rowAt, table}
-use Rattle.run_state.specs.Views.{countIn, worldIn, rested}
+use Rattle.run_state.specs.Views.{countIn, tokenCountIn, worldIn, rested}
 use Rattle.device.specs.Views.{stateOf, worldOf}
 use Rattle.device.specs.declared.Device.{Device}
 use Rattle.promises.specs.NightLog.{zeros}
@@ -60,20 +60,20 @@ words-of n size enabled completed fenced failed code fence count rung tag more =
 
 -- with empty tables
 abbrev bare : List ℕ → Device
-bare s = record { words = s; entries = zeros 256; first = zeros 704; second = zeros 704; records = zeros 320 }
+bare s = record { words = s; entries = zeros 256; first = zeros 768; second = zeros 768; firsttokens = zeros 512; secondtokens = zeros 512; records = zeros 320 }
 
 -- just made, and after each of three register writes; the last is a device that the submission is asked of
 unfoldable pub new-device : ℕ → Device
-new-device n = bare (words-of n 0 0 0 0 0 0 0 0 0 0 (zeros 18))
+new-device n = bare (words-of n 0 0 0 0 0 0 0 0 0 0 (zeros 22))
 
 unfoldable pub sized-device : ℕ → Device
-sized-device n = bare (words-of n 128 0 0 0 0 0 0 0 0 0 (zeros 18))
+sized-device n = bare (words-of n 128 0 0 0 0 0 0 0 0 0 (zeros 22))
 
 unfoldable pub enabled-device : ℕ → Device
-enabled-device n = bare (words-of n 128 1 0 0 0 0 0 0 0 0 (zeros 18))
+enabled-device n = bare (words-of n 128 1 0 0 0 0 0 0 0 0 (zeros 22))
 
 unfoldable pub asking-device : ℕ → Device
-asking-device n = bare (words-of n 128 1 0 0 0 0 0 0 1 0 (zeros 18))
+asking-device n = bare (words-of n 128 1 0 0 0 0 0 0 1 0 (zeros 22))
 
 -- its entry's row, its resource's in a table of its own, and its record's
 abbrev with-rows : List ℕ → Device
@@ -81,73 +81,75 @@ with-rows s =
     record {
       words = s;
       entries = 5 ∷ 0 ∷ 64 ∷ 192 ∷ zeros 252;
-      first = zeros 704;
-      second = 1 ∷ 0 ∷ 32 ∷ 0 ∷ 0 ∷ 0 ∷ 0 ∷ 0 ∷ 0 ∷ 5 ∷ 16 ∷ zeros 693;
+      first = zeros 768;
+      second = 1 ∷ 0 ∷ 32 ∷ 0 ∷ 0 ∷ 0 ∷ 0 ∷ 0 ∷ 0 ∷ 5 ∷ 16 ∷ 1 ∷ zeros 756;
+      firsttokens = zeros 512;
+      secondtokens = zeros 512;
       records = 1 ∷ 1 ∷ 5 ∷ 80 ∷ 32 ∷ zeros 315;
     }
 
 -- it waits: its fence, and how many rows are live of its entry, its resource and its record
 unfoldable pub waiting-device : Device
-waiting-device = with-rows (words-of 1 128 1 0 0 0 0 0 0 1 3 (0 ∷ 0 ∷ 7 ∷ 0 ∷ 0 ∷ 0 ∷ 0 ∷ 0 ∷ 0 ∷ 0 ∷ 1 ∷ 0 ∷ 1 ∷ 1 ∷ 0 ∷ 1 ∷ 0 ∷ 0 ∷ []))
+waiting-device = with-rows (words-of 1 128 1 0 0 0 0 0 0 1 3 (0 ∷ 0 ∷ 7 ∷ 0 ∷ 0 ∷ 0 ∷ 0 ∷ 0 ∷ 0 ∷ 0 ∷ 1 ∷ 0 ∷ 1 ∷ 1 ∷ 0 ∷ 1 ∷ 0 ∷ 0 ∷ 0 ∷ 0 ∷ 0 ∷ 0 ∷ []))
 
 -- it was answered: fence 7 is completed, the resource is the device's, and no word is left of the work
 unfoldable pub answered-device : Device
-answered-device = with-rows (words-of 1 128 1 7 1 0 0 0 0 1 0 (0 ∷ 0 ∷ 0 ∷ 0 ∷ 0 ∷ 0 ∷ 0 ∷ 0 ∷ 0 ∷ 0 ∷ 0 ∷ 1 ∷ 0 ∷ 0 ∷ 1 ∷ 0 ∷ 0 ∷ 0 ∷ []))
+answered-device = with-rows (words-of 1 128 1 7 1 0 0 0 0 1 0 (0 ∷ 0 ∷ 0 ∷ 0 ∷ 0 ∷ 0 ∷ 0 ∷ 0 ∷ 0 ∷ 0 ∷ 0 ∷ 1 ∷ 0 ∷ 0 ∷ 1 ∷ 0 ∷ 0 ∷ 0 ∷ 0 ∷ 0 ∷ 0 ∷ 0 ∷ []))
 
 -- the guest with its entry twice was refused with 15, at entry 1
 unfoldable pub refused-device : Device
-refused-device = bare (words-of 2 128 1 7 1 1 15 7 1 1 0 (0 ∷ 0 ∷ 0 ∷ 0 ∷ 0 ∷ 0 ∷ 0 ∷ 0 ∷ 0 ∷ 0 ∷ 0 ∷ 0 ∷ 0 ∷ 0 ∷ 0 ∷ 0 ∷ 1 ∷ 0 ∷ []))
+refused-device = bare (words-of 2 128 1 7 1 1 15 7 1 1 0 (0 ∷ 0 ∷ 0 ∷ 0 ∷ 0 ∷ 0 ∷ 0 ∷ 0 ∷ 0 ∷ 0 ∷ 0 ∷ 0 ∷ 0 ∷ 0 ∷ 0 ∷ 0 ∷ 1 ∷ 0 ∷ 0 ∷ 0 ∷ 0 ∷ 0 ∷ []))
 
 -- the asking device and the waiting one are those of the promises' witness
 pub asks : (n : ℕ) → worldOf (asking-device n) (guest n) ≡ asking n
-unfolding asking-device asking worldIn countIn tab rowAt table zeros
+unfolding asking-device asking worldIn countIn tokenCountIn tab rowAt table zeros
 asks n = refl
 
 pub awaits : worldOf waiting-device (guest 1) ≡ awaiting
-unfolding waiting-device awaiting asking begun held the-entry worldIn countIn tab rowAt table zeros
+unfolding waiting-device awaiting asking begun held the-entry worldIn countIn tokenCountIn tab rowAt table zeros
 awaits = refl
 
 pub has-answered : worldOf answered-device (answered true awaiting .mem) ≡ answered true awaiting
-unfolding answered-device awaiting asking begun held the-entry worldIn countIn tab rowAt table zeros answered settled ended-by signalled
+unfolding answered-device awaiting asking begun held the-entry worldIn countIn tokenCountIn tab rowAt table zeros answered settled ended-by signalled
 has-answered = refl
 
 -- ---- each call that is made of them
 
 module _ (n : ℕ) where
   pub is-made : Makes (216 + n * 32) (new-device n .words)
-  unfolding new-device worldIn countIn tab rowAt table zeros rested
-  is-made = record { new = λ e a b c. refl; rests = refl }
+  unfolding new-device worldIn countIn tokenCountIn tab rowAt table zeros rested
+  is-made = record { new = λ e a b ft st c. refl; rests = refl }
 
   pub writes-size : Writes (new-device n .words) 0x108 128 0 (sized-device n .words)
-  unfolding new-device sized-device worldIn countIn tab rowAt table zeros call-write write-of lookup
-  writes-size = record { wrote = λ e x y c. refl; still = λ z. absurd (z refl) }
+  unfolding new-device sized-device worldIn countIn tokenCountIn tab rowAt table zeros call-write write-of lookup
+  writes-size = record { wrote = λ e x y ft st c. refl; still = λ z. absurd (z refl) }
 
   pub writes-control : Writes (sized-device n .words) 0x10c 1 0 (enabled-device n .words)
-  unfolding sized-device enabled-device worldIn countIn tab rowAt table zeros call-write write-of lookup controlled
-  writes-control = record { wrote = λ e x y c. refl; still = λ z. absurd (z refl) }
+  unfolding sized-device enabled-device worldIn countIn tokenCountIn tab rowAt table zeros call-write write-of lookup controlled
+  writes-control = record { wrote = λ e x y ft st c. refl; still = λ z. absurd (z refl) }
 
   pub writes-doorbell : Writes (enabled-device n .words) 0x200 0 0 (asking-device n .words)
-  unfolding enabled-device asking-device worldIn countIn tab rowAt table zeros call-write write-of lookup
-  writes-doorbell = record { wrote = λ e x y c. refl; still = λ z. absurd (z refl) }
+  unfolding enabled-device asking-device worldIn countIn tokenCountIn tab rowAt table zeros call-write write-of lookup
+  writes-doorbell = record { wrote = λ e x y ft st c. refl; still = λ z. absurd (z refl) }
 
 -- a run of up to 65535 units ends waiting (1) after 3
 pub runs-to-waiting : SaysRun 65535 (lent-of (asking-device 1) (guest 1)) (0 + (256 * 1 + 65536 * 3)) (lent-of waiting-device (guest 1))
-unfolding asking-device waiting-device worldIn countIn tab rowAt table zeros in-bytes ring-words slot-words table-words entry-words stream-words guest le bytesOf over lookup nth ring-header descriptor table-header entry stream-header buffer-fields page-bytes power-of-two good-header good-ring ring-opening opening-of descriptor-rules range-rules submission-rules submission-opening wrong-header header-rules stream-rules entry-rules take-entry known least-size frame-rules frame-of packet-of apply target-after pass take-packet on-buffer-packet create create-backed open-step entry-step packet-step step go runFor call-run ending
+unfolding asking-device waiting-device worldIn countIn tokenCountIn tab rowAt table zeros in-bytes ring-words slot-words table-words entry-words stream-words guest le bytesOf over lookup nth ring-header descriptor table-header entry stream-header buffer-fields page-bytes power-of-two good-header good-ring ring-opening opening-of descriptor-rules range-rules submission-rules submission-opening wrong-header header-rules stream-rules entry-rules take-entry known least-size frame-rules frame-of packet-of apply target-after tokens-after pass take-packet on-buffer-packet create create-backed open-step entry-step packet-step step go runFor call-run ending
 runs-to-waiting = record { spent = refl; world = refl; still = λ z. absurd (z refl) }
 
 -- and one of 3 units over the guest with its entry twice ends paused (2), having refused it
 pub runs-to-refusal : SaysRun 3 (lent-of (asking-device 2) (guest 2)) (0 + (256 * 2 + 65536 * 3)) (lent-of refused-device (submitted (asking 2) .state .mem))
-unfolding asking asking-device refused-device worldIn countIn tab rowAt table zeros in-bytes ring-words slot-words table-words entry-words stream-words guest le bytesOf over lookup nth ring-header descriptor table-header entry stream-header buffer-fields page-bytes power-of-two good-header good-ring ring-opening opening-of descriptor-rules range-rules submission-rules submission-opening wrong-header header-rules stream-rules entry-rules take-entry known least-size frame-rules frame-of packet-of apply target-after pass take-packet on-buffer-packet create create-backed open-step entry-step packet-step step go runFor call-run ending faulted signalled ended-by written head-written page-written marked settled submitted submission judge-entries entries-from judge-packets cut
+unfolding asking asking-device refused-device worldIn countIn tokenCountIn tab rowAt table zeros in-bytes ring-words slot-words table-words entry-words stream-words guest le bytesOf over lookup nth ring-header descriptor table-header entry stream-header buffer-fields page-bytes power-of-two good-header good-ring ring-opening opening-of descriptor-rules range-rules submission-rules submission-opening wrong-header header-rules stream-rules entry-rules take-entry known least-size frame-rules frame-of packet-of apply target-after tokens-after pass take-packet on-buffer-packet create create-backed open-step entry-step packet-step step go runFor call-run ending faulted signalled ended-by written head-written page-written marked settled submitted submission judge-entries entries-from judge-packets cut
 runs-to-refusal = record { spent = refl; world = refl; still = λ z. absurd (z refl) }
 
 -- the record
 pub says-the-record : SaysRecord (waiting-device .words) (waiting-device .records) 0 0 (1 ∷ 1 ∷ 5 ∷ 80 ∷ 32 ∷ [])
-unfolding waiting-device worldIn countIn tab rowAt table zeros call-record nth
-says-the-record = record { answer = λ e a b. refl; range = λ e a b. refl }
+unfolding waiting-device worldIn countIn tokenCountIn tab rowAt table zeros call-record nth
+says-the-record = record { answer = λ e a b ft st. refl; range = λ e a b ft st. refl }
 
 -- a good answer with an allowance of 0: it ends paused (2), since the doorbell flag is still set
 pub takes-the-answer : SaysAnswer true 0 (lent-of waiting-device (guest 1)) (0 + (256 * 2 + 65536 * 0)) (lent-of answered-device (answered true awaiting .mem))
-unfolding waiting-device answered-device worldIn countIn tab rowAt table zeros awaiting asking begun in-bytes ring-words slot-words table-words entry-words stream-words guest bytesOf answer-alone call-answer answered settled ended-by signalled marked head-written page-written written over call-run runFor ending
+unfolding waiting-device answered-device worldIn countIn tokenCountIn tab rowAt table zeros awaiting asking begun in-bytes ring-words slot-words table-words entry-words stream-words guest bytesOf answer-alone call-answer answered settled ended-by signalled marked head-written page-written written over call-run runFor ending
 takes-the-answer = record { spent = refl; world = refl; still = λ z. absurd (z refl) }
 
 -- ---- chains of them
@@ -224,15 +226,17 @@ refused-night = chain-is-unsliced some-refusal (refl, omega arith) refl refl
 unfoldable pub scrawled-device : Device
 scrawled-device =
     record {
-      words = words-of 1 128 1 0 0 0 0 0 0 1 0 (7 ∷ 7 ∷ 7 ∷ 7 ∷ 7 ∷ 7 ∷ 7 ∷ 7 ∷ 7 ∷ 7 ∷ 7 ∷ 0 ∷ 7 ∷ 7 ∷ 0 ∷ 7 ∷ 0 ∷ 7 ∷ []);
+      words = words-of 1 128 1 0 0 0 0 0 0 1 0 (7 ∷ 7 ∷ 7 ∷ 7 ∷ 7 ∷ 7 ∷ 7 ∷ 7 ∷ 7 ∷ 7 ∷ 7 ∷ 0 ∷ 7 ∷ 7 ∷ 0 ∷ 7 ∷ 0 ∷ 7 ∷ 0 ∷ 7 ∷ 0 ∷ 7 ∷ []);
       entries = 7 ∷ zeros 255;
-      first = 7 ∷ zeros 703;
-      second = 7 ∷ zeros 703;
+      first = 7 ∷ zeros 767;
+      second = 7 ∷ zeros 767;
+      firsttokens = 7 ∷ zeros 511;
+      secondtokens = 7 ∷ zeros 511;
       records = 7 ∷ zeros 319;
     }
 
 pub one-state-of-two : stateOf scrawled-device ≡ stateOf (asking-device 1)
-unfolding scrawled-device asking-device worldIn countIn tab rowAt table zeros
+unfolding scrawled-device asking-device worldIn countIn tokenCountIn tab rowAt table zeros
 one-state-of-two = refl
 
 pub and-they-are-two : scrawled-device ≡ asking-device 1 → ⊥
@@ -242,41 +246,43 @@ and-they-are-two e = let z : _≡_ {A = ℕ} 7 0 = ap (λ (d : Device). getD (d 
 -- ---- one unit of each, over two memories that differ: the second holds no byte but those that the opening reads
 
 unfoldable pub opened-device : Device
-opened-device = bare (words-of 1 128 1 0 0 0 0 0 0 1 1 (0 ∷ 0 ∷ 7 ∷ 0 ∷ 128 ∷ 1 ∷ 32 ∷ 184 ∷ 64 ∷ zeros 9))
+opened-device = bare (words-of 1 128 1 0 0 0 0 0 0 1 1 (0 ∷ 0 ∷ 7 ∷ 0 ∷ 128 ∷ 1 ∷ 32 ∷ 184 ∷ 64 ∷ zeros 13))
 
 pub opens : SaysRun 1 (lent-of (asking-device 1) (guest 1)) (0 + (256 * 2 + 65536 * 1)) (lent-of opened-device (guest 1))
-unfolding asking-device opened-device worldIn countIn tab rowAt table zeros in-bytes ring-words slot-words table-words entry-words stream-words guest le bytesOf ring-header descriptor table-header stream-header power-of-two good-header good-ring ring-opening opening-of descriptor-rules range-rules submission-rules submission-opening wrong-header header-rules stream-rules open-step step go runFor call-run ending
+unfolding asking-device opened-device worldIn countIn tokenCountIn tab rowAt table zeros in-bytes ring-words slot-words table-words entry-words stream-words guest le bytesOf ring-header descriptor table-header stream-header power-of-two good-header good-ring ring-opening opening-of descriptor-rules range-rules submission-rules submission-opening wrong-header header-rules stream-rules open-step step go runFor call-run ending
 opens = record { spent = refl; world = refl; still = λ z. absurd (z refl) }
 
 pub opens-alone : SaysRun 1 (lent-of scrawled-device opening-alone) (0 + (256 * 2 + 65536 * 1)) (lent-of opened-device opening-alone)
-unfolding scrawled-device opened-device worldIn countIn tab rowAt table zeros in-bytes ring-words slot-words table-words entry-words stream-words opening-alone le bytesOf ring-header descriptor table-header stream-header power-of-two good-header good-ring ring-opening opening-of descriptor-rules range-rules submission-rules submission-opening wrong-header header-rules stream-rules open-step step go runFor call-run ending
+unfolding scrawled-device opened-device worldIn countIn tokenCountIn tab rowAt table zeros in-bytes ring-words slot-words table-words entry-words stream-words opening-alone le bytesOf ring-header descriptor table-header stream-header power-of-two good-header good-ring ring-opening opening-of descriptor-rules range-rules submission-rules submission-opening wrong-header header-rules stream-rules open-step step go runFor call-run ending
 opens-alone = record { spent = refl; world = refl; still = λ z. absurd (z refl) }
 
 the-first : {s : State} {m m′ : List ℕ} {ms ms′ : List (List ℕ)} → SameWhenRead s (m ∷ ms) (m′ ∷ ms′) → go (lent s m) ≡ true → SameWhereRead s m m′
 the-first (unit m m′ len same later) = same
 
 pub opening-reads-only-there : SameEnd (guest 1) opening-alone (worldOf opened-device (guest 1)) (worldOf opened-device opening-alone)
-unfolding guest opening-alone in-bytes ring-words slot-words table-words entry-words stream-words zeros bytesOf asking-device asking worldIn countIn tab rowAt table
+unfolding guest opening-alone in-bytes ring-words slot-words table-words entry-words stream-words zeros bytesOf asking-device asking worldIn countIn tokenCountIn tab rowAt table
 opening-reads-only-there =
     export-run-reads-only-there (asking-device 1) scrawled-device opened-device opened-device (guest 1) opening-alone (guest 1) opening-alone
     (sym one-state-of-two) refl (the-first read-alone) (0 + (256 * 2 + 65536 * 1)) (0 + (256 * 2 + 65536 * 1)) opens opens-alone .1
 
--- ---- a device that waits with a clipped rectangle: its target stands in the last word
+-- ---- a device that waits with a clipped rectangle: its target stands in word 31
 
 unfoldable pub drawing-device : Device
 drawing-device =
     record {
-      words = 316 ∷ 0 ∷ 128 ∷ 1 ∷ 0 ∷ 0 ∷ 0 ∷ 0 ∷ 0 ∷ 0 ∷ 0 ∷ 0 ∷ 1 ∷ 3 ∷ 0 ∷ 0 ∷ 7 ∷ 0 ∷ 0 ∷ 0 ∷ 0 ∷ 128 ∷ 188 ∷ 188 ∷ 0 ∷ 0 ∷ 1 ∷ 1 ∷ 0 ∷ 1 ∷ 0 ∷ 1 ∷ [];
+      words = 316 ∷ 0 ∷ 128 ∷ 1 ∷ 0 ∷ 0 ∷ 0 ∷ 0 ∷ 0 ∷ 0 ∷ 0 ∷ 0 ∷ 1 ∷ 3 ∷ 0 ∷ 0 ∷ 7 ∷ 0 ∷ 0 ∷ 0 ∷ 0 ∷ 128 ∷ 188 ∷ 188 ∷ 0 ∷ 0 ∷ 1 ∷ 1 ∷ 0 ∷ 1 ∷ 0 ∷ 1 ∷ 0 ∷ 0 ∷ 0 ∷ 0 ∷ [];
       entries = zeros 256;
-      first = zeros 704;
-      second = 1 ∷ 1 ∷ 0 ∷ 1 ∷ 64 ∷ 32 ∷ 1 ∷ 1 ∷ zeros 696;
+      first = zeros 768;
+      second = 1 ∷ 1 ∷ 0 ∷ 1 ∷ 64 ∷ 32 ∷ 1 ∷ 1 ∷ 0 ∷ 0 ∷ 0 ∷ 1 ∷ zeros 756;
+      firsttokens = zeros 512;
+      secondtokens = zeros 512;
       records = 4 ∷ 0 ∷ 3 ∷ 15 ∷ 29 ∷ zeros 315;
     }
 
 pub draws : worldOf drawing-device drawing-guest ≡ drawing-waits
-unfolding drawing-device drawing-waits drawing-asked worldIn countIn tab rowAt table zeros
+unfolding drawing-device drawing-waits drawing-asked worldIn countIn tokenCountIn tab rowAt table zeros
 draws = refl
 
 pub says-the-clip : SaysRecord (drawing-device .words) (drawing-device .records) 0 0 (4 ∷ 0 ∷ 3 ∷ 15 ∷ 29 ∷ [])
-unfolding drawing-device worldIn countIn tab rowAt table zeros call-record nth
-says-the-clip = record { answer = λ e a b. refl; range = λ e a b. refl }
+unfolding drawing-device worldIn countIn tokenCountIn tab rowAt table zeros call-record nth
+says-the-clip = record { answer = λ e a b ft st. refl; range = λ e a b ft st. refl }

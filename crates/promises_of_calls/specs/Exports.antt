@@ -98,11 +98,11 @@ pub gives-reply : (d : Device) (m : List ℕ) (c : Call) (x : Said) (d′ : Devi
 unfolding reply-to worldIn
 gives-reply d m c x d′ m′ (zelezmut-write offset v answer s′ k) =
     ap (λ (r : Reply). returning (r .answer)) (over-lent .gives-reply d m _ _ _ _ (lent-write offset v answer s′ k))
-gives-reply d m c x d′ m′ (zelezmut-read offset n k) = ap returning (k .value (d .entries) (d .first) (d .second) (d .records))
+gives-reply d m c x d′ m′ (zelezmut-read offset n k) = ap returning (k .value (d .entries) (d .first) (d .second) (d .firsttokens) (d .secondtokens) (d .records))
 gives-reply d m c x d′ m′ (zelezmut-run allowance n e n′ k) = ap returning (k .spent)
 gives-reply d m c x d′ m′ (zelezmut-record i n words k) =
-    ap (λ (a : ℕ). record { number = a; words = words }) (k .answer (d .entries) (d .first) (d .second))
-    ∙ ap (λ (l : List ℕ). record { number = call-record (stateOf d) i .answer; words = l }) (k .range (d .entries) (d .first) (d .second))
+    ap (λ (a : ℕ). record { number = a; words = words }) (k .answer (d .entries) (d .first) (d .second) (d .firsttokens) (d .secondtokens))
+    ∙ ap (λ (l : List ℕ). record { number = call-record (stateOf d) i .answer; words = l }) (k .range (d .entries) (d .first) (d .second) (d .firsttokens) (d .secondtokens))
 gives-reply d m c x d′ m′ (zelezmut-answer good allowance n e n′ k) = ap returning (k .spent)
 
 -- and it leaves what the rules' call leaves
@@ -130,7 +130,7 @@ exports =
       units-read = units-read;
       answered-as = answered-read;
       record-read-as = λ i r. refl;
-      makes-made = λ memory d k. is-made memory (d .words) (d .entries) (d .first) (d .second) (d .records) k;
+      makes-made = λ memory d k. is-made memory (d .words) (d .entries) (d .first) (d .second) (d .firsttokens) (d .secondtokens) (d .records) k;
       gives-reply = gives-reply;
       gives-world = gives-world;
     }

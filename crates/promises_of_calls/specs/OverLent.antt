@@ -20,11 +20,11 @@ use Rattle.promises_of_calls.specs.ByValue.Gives.{write-gives, read-give
 
 -- the same tables under other words
 abbrev pub with-words : List ℕ → Device → Device
-with-words s d = record { words = s; entries = d .entries; first = d .first; second = d .second; records = d .records }
+with-words s d = record { words = s; entries = d .entries; first = d .first; second = d .second; firsttokens = d .firsttokens; secondtokens = d .secondtokens; records = d .records }
 
 -- all that a run or an answer is lent
 abbrev pub lent-of : Device → List ℕ → Lent
-lent-of d m = lending (d .words) (d .entries) (d .first) (d .second) (d .records) m
+lent-of d m = lending (d .words) (d .entries) (d .first) (d .second) (d .firsttokens) (d .secondtokens) (d .records) m
 
 -- the words and tables of a host with memory m beside them, a call that was lent them, its reply, and what stands after it
 pub data Gives (d : Device) (m : List ℕ) : Call → Reply → Device → List ℕ → Type 0 where
@@ -41,14 +41,14 @@ is-by-value {d} {m} (lent-write offset v answer s′ k) = write-gives offset v (
 is-by-value {d} {m} (lent-read offset x k) = read-gives offset x (read d offset x k)
 is-by-value {d} {m} (lent-run n x d′ m′ k) =
     run-gives n (record { answer = x .answer; units = x .units; ended = x .ended; device = d′ }) m′
-    (ran d m n x (d′ .words) (d′ .entries) (d′ .first) (d′ .second) (d′ .records) m′ k)
+    (ran d m n x (d′ .words) (d′ .entries) (d′ .first) (d′ .second) (d′ .firsttokens) (d′ .secondtokens) (d′ .records) m′ k)
 is-by-value {d} {m} (lent-record i x k) = record-gives i x (record-read d i x k)
 is-by-value {d} {m} (lent-answer good n x d′ m′ k) =
     answer-gives good n (record { answer = x .answer; units = x .units; ended = x .ended; device = d′ }) m′
-    (answered d m good n x (d′ .words) (d′ .entries) (d′ .first) (d′ .second) (d′ .records) m′ k)
+    (answered d m good n x (d′ .words) (d′ .entries) (d′ .first) (d′ .second) (d′ .firsttokens) (d′ .secondtokens) (d′ .records) m′ k)
 
 -- the layer
 abbrev pub over-lent : Layer
 over-lent =
     layer-of (λ memory d. Makes memory (d .words)) Gives
-    (λ memory d k. is-made memory (d .words) (d .entries) (d .first) (d .second) (d .records) k) (λ d m c r d′ m′ k. is-by-value k)
+    (λ memory d k. is-made memory (d .words) (d .entries) (d .first) (d .second) (d .firsttokens) (d .secondtokens) (d .records) k) (λ d m c r d′ m′ k. is-by-value k)

@@ -97,14 +97,14 @@ module _ (q : Registers) (on : q .enabled ≡ true) where
 -- what the unsliced rules give, settled by the registers that stand at the last one
 
 pub writes-between-units : (w : World) (o : Opened) → Lies (w .mem) o → (rs : List Registers) (q : Registers) → q .enabled ≡ true
-    → suc (suc (length rs)) ≡ submission (w .mem) o (at-first (w .state .resources)) .units
-    → under rs q (working (entries-at o [] (w .state .resources)) w)
-    ≡ finished (registering q w) (o .job) (entries-of (w .mem) (o .table)) (submission (w .mem) o (at-first (w .state .resources)) .held) (submission (w .mem) o (at-first (w .state .resources)) .finding)
+    → suc (suc (length rs)) ≡ submission (w .mem) o (at-first (w .state .belongings)) .units
+    → under rs q (working (entries-at o [] (w .state .belongings)) w)
+    ≡ finished (registering q w) (o .job) (entries-of (w .mem) (o .table)) (submission (w .mem) o (at-first (w .state .belongings)) .held) (submission (w .mem) o (at-first (w .state .belongings)) .finding)
 writes-between-units w o lies rs q on e = by-count (later-units (table-judged (registering q w) on o lies .finding) (table-judged (registering q w) on o lies .count) (packets-judged (registering q w) on o lies .count)) (course-started (registering q w) on o lies) (e ∙ submission-units (registering q w) on o lies)
   where
-    by-count : (n : ℕ) {v : World} → Course n (registering q (working (entries-at o [] (w .state .resources)) w)) v → suc (suc (length rs)) ≡ suc n
-        → under rs q (working (entries-at o [] (w .state .resources)) w) ≡ v
+    by-count : (n : ℕ) {v : World} → Course n (registering q (working (entries-at o [] (w .state .belongings)) w)) v → suc (suc (length rs)) ≡ suc n
+        → under rs q (working (entries-at o [] (w .state .belongings)) w) ≡ v
     by-count n {v} c p =
         let units : suc (length rs) ≡ n = omega arith in
-        under-any-registers q on rs (working (entries-at o [] (w .state .resources)) w) (λ i h. c .inside i (omega arith))
-        ∙ (ap (λ k. run-for k (registering q (working (entries-at o [] (w .state .resources)) w)) .state) units ∙ ap (λ (x : Out World). x .state) (c .ends))
+        under-any-registers q on rs (working (entries-at o [] (w .state .belongings)) w) (λ i h. c .inside i (omega arith))
+        ∙ (ap (λ k. run-for k (registering q (working (entries-at o [] (w .state .belongings)) w)) .state) units ∙ ap (λ (x : Out World). x .state) (c .ends))

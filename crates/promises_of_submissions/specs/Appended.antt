@@ -1,5 +1,5 @@
 -- Wish 2: appended bytes cannot matter. Two streams that are the same packet by packet, in opcode, size and the bytes that the table of
--- opcodes gives the packet, come to the same finding, records and resources, whatever stands past those bytes. Assumes nothing.
+-- opcodes gives the packet, come to the same finding, records, resources and tokens, whatever stands past those bytes. Assumes nothing.
 use mathlib.Core.Path.{_≡_, refl, sym, ap, _∙_}
 use mathlib.Core.List.{List, [], _++_}
 use Prim.Native.Nat.{ℕ, zero, suc, _+_, _≤_, _<_}
@@ -48,7 +48,7 @@ same-pieces (suc k) at b b′ (packet op size e e′ same later) =
     (rw (same-packet b b′ op size (frame-sound b op size e .known) same, same-pieces k (at + size) (drop size b) (drop size b′) later))
 same-pieces (suc k) at b b′ (misframed r len e e′) = rw (len, e, e′)
 
--- and so is what they come to: the first broken rule and its place, the resources and records held, and how many were judged. The streams may stand in
+-- and so is what they come to: the first broken rule and its place, the resources, records and tokens held, and how many were judged. The streams may stand in
 -- two memories, and at two places.
 pub appended-bytes-cannot-matter : (m m′ : List ℕ) (s s′ : Stream) → s .size ≡ s′ .size
     → SameButAppended (left m s stream-header-size) (left m′ s′ stream-header-size)
@@ -75,7 +75,7 @@ module _ (m m′ : List ℕ) (len : length m ≡ length m′) (o : Opened) (same
   pub same-table : entries-of m (o .table) ≡ entries-of m′ (o .table)
   same-table = same-entries m m′ (o .table) (o .table .count) 0 (λ k h l. same .table k h (omega arith))
 
-  -- the unsliced rules come to the same finding, resources, records and units
+  -- the unsliced rules come to the same finding, resources, records, tokens and units
   pub appended-bytes-same-submission : (h : Progress) → submission m o h ≡ submission m′ o h
   unfolding submission
   appended-bytes-same-submission h =

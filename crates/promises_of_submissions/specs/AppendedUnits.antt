@@ -1,5 +1,5 @@
 -- Wish 2, unit by unit: over two memories that differ only in bytes appended to a submission's packets, each unit comes to the same state,
--- with the same resources, records and place kept, and writes the same. Assumes nothing.
+-- with the same resources, records, tokens and place kept, and writes the same. Assumes nothing.
 use mathlib.Core.Path.{_≡_, refl, sym, ap, subst, _∙_}
 use mathlib.Core.Bool.{Bool, true, false}
 use mathlib.Core.List.{List, []}
@@ -17,7 +17,7 @@ use Rattle.rules.specs.Numbers.{bad-entry, other-memory}
 use Rattle.rules.specs.Table.{entry-place, entry-rules, entries-of, keep, in-reach, take-entry}
 use Rattle.rules.specs.Stream.{least-size, frame-rules, frame-of, size-of, left, stream-bytes}
 use Rattle.rules.specs.Ring.{opening-of}
-use Rattle.rules.specs.Packets.{Progress, at-first, pass-frame, take-packet}
+use Rattle.rules.specs.Packets.{Progress, at-first, pass-frame, take-packet, Belongings}
 use Rattle.rules.specs.State.{Work, State, World, working}
 use Rattle.rules.specs.State.Work.{resting, entries, packets, waiting}
 use Rattle.rules.specs.Settle.{settled, settled-keeping}
@@ -29,7 +29,6 @@ use Rattle.rules.specs.declared.Job.{Job}
 use Rattle.rules.specs.declared.Fault.{Fault}
 use Rattle.rules.specs.declared.Refusal.{Refusal}
 use Rattle.rules.specs.declared.Registers.{Registers}
-use Rattle.rules.specs.declared.Resource.{Resource}
 use Rattle.rules.specs.declared.Stream.{Stream}
 use Rattle.rules.specs.declared.Opened.{Opened}
 use Rattle.rules.specs.declared.Frame.{Frame}
@@ -113,25 +112,25 @@ module _ (s : State) (m m′ : List ℕ) where
       by-test true = same
       by-test false = omega arith
 
-  entries-ahead : (o : Opened) (kept : List Entry) (resources : List Resource) → SameSubmission m m′ o (length kept)
-      → SameAhead (s .regs) (entries-at o kept resources) m m′
-  entries-ahead o kept resources same = by-test (ltb (length kept) (o .table .count)) refl
+  entries-ahead : (o : Opened) (kept : List Entry) (owned : Belongings) → SameSubmission m m′ o (length kept)
+      → SameAhead (s .regs) (entries-at o kept owned) m m′
+  entries-ahead o kept owned same = by-test (ltb (length kept) (o .table .count)) refl
     where
       by-test : (b : Bool) → ltb (length kept) (o .table .count) ≡ b
-          → SameAhead (s .regs) (pick b (entries o kept) (packets-at (o .job) (o .stream) stream-header-size kept (at-first resources))) m m′
+          → SameAhead (s .regs) (pick b (entries o kept) (packets-at (o .job) (o .stream) stream-header-size kept (at-first owned))) m m′
       by-test true e = (ltb-true (length kept) (o .table .count) e, same)
-      by-test false e = packets-ahead (o .job) (o .stream) stream-header-size kept (at-first resources) (same .stream)
+      by-test false e = packets-ahead (o .job) (o .stream) stream-header-size kept (at-first owned) (same .stream)
 
   opening-onward : s .work ≡ resting → (v : Opening) → ((o : Opened) → v ≡ Started o → SameSubmission m m′ o 0)
       → Onward m m′ (after-opening (lent s m) v) (after-opening (lent s m′) v)
   opening-onward rest BadRing same = at-rest m m′ _ _ (ap midst rest) (same-unwritten m m′ _)
   opening-onward rest NoWork same = at-rest m m′ _ _ (ap midst rest) (same-unwritten m m′ _)
   opening-onward rest (Refused j r) same = stops j (without-place r)
-  opening-onward rest (Started o) same = goes-on (entries-at o [] (s .resources)) (entries-ahead o [] (s .resources) (same o refl))
+  opening-onward rest (Started o) same = goes-on (entries-at o [] (s .belongings)) (entries-ahead o [] (s .belongings) (same o refl))
 
   entry-onward : (o : Opened) (kept : List Entry) (v : Finding) → SameSubmission m m′ o (length kept)
       → Onward m m′ (after-entry (lent s m) o kept v) (after-entry (lent s m′) o kept v)
-  entry-onward o kept fine same = goes-on (entries-at o kept (s .resources)) (entries-ahead o kept (s .resources) same)
+  entry-onward o kept fine same = goes-on (entries-at o kept (s .belongings)) (entries-ahead o kept (s .belongings) same)
   entry-onward o kept (broken f) same = stops (o .job) f
 
   packet-onward : (j : Job) (t : Stream) (at next : ℕ) (es : List Entry) (h : Progress) (v : Verdict) → (v ≡ Fine → SameButAppended (left m t next) (left m′ t next))
@@ -249,7 +248,7 @@ module _ (m m′ : List ℕ) (len : length m ≡ length m′) where
       by-test false run = record { answer = refl; units = run .units; ended = ap ending (run .end .state); end = run .end }
 
   module _ (s : State) (same : SameAhead (s .regs) resting m m′) where
-    -- a whole submission by the unsliced rules: as many units, and the same error, place and fence, or the same resources and records that wait
+    -- a whole submission by the unsliced rules: as many units, and the same error, place and fence, or the same resources, tokens and records that wait
     pub appended-bytes-same-outcome : SameOut m m′ (submitted (lent s m)) (submitted (lent s m′))
     unfolding submitted settled
     appended-bytes-same-outcome =
@@ -262,9 +261,9 @@ module _ (m m′ : List ℕ) (len : length m ≡ length m′) where
         by-opening : (v : Opening) → ((o : Opened) → v ≡ Started o → SameSubmission m m′ o 0) → SameOut m m′ (submitted-on (lent s m) v) (submitted-on (lent s m′) v)
         by-opening BadRing ahead = record { units = refl; end = same-unwritten m m′ _ }
         by-opening NoWork ahead = record { units = refl; end = same-unwritten m m′ _ }
-        by-opening (Refused j r) ahead = record { units = refl; end = finished-same j [] (at-first (s .resources)) (broken (without-place r)) }
+        by-opening (Refused j r) ahead = record { units = refl; end = finished-same j [] (at-first (s .belongings)) (broken (without-place r)) }
         by-opening (Started o) ahead =
-            let held : Progress = at-first (s .resources) in
+            let held : Progress = at-first (s .belongings) in
             let judged : Submission = submission m o held in
             rw (← same-table m m′ len o (ahead o refl), ← appended-bytes-same-submission m m′ len o (ahead o refl) held)
             (record { units = refl; end = finished-same (o .job) (entries-of m (o .table)) (judged .held) (judged .finding) })

@@ -15,7 +15,7 @@ use Rattle.rules.specs.Numbers.{clips}
 use Rattle.rules.specs.Lists.Found.{found}
 use Rattle.rules.specs.Layouts.{signed}
 use Rattle.rules.specs.StatePackets.{negative, bad-sides, begins, common, rectangle, clip-of}
-use Rattle.rules.specs.Packets.{Outcome, live-texture, recorded, apply, target-after, Progress, Passed, passed, pass}
+use Rattle.rules.specs.Packets.{Outcome, live-texture, recorded, apply, target-after, Progress, Passed, passed, pass, tokens-after}
 use Rattle.rules.specs.declared.Entry.{Entry}
 use Rattle.rules.specs.declared.Record.{Record}
 use Rattle.rules.specs.declared.Shape.{Shape}
@@ -210,11 +210,11 @@ pub record Scissored (h : Progress) (c : SetScissor) (o : Passed) : Type 0 where
   pub its-target : live-texture (h .target) (h .holdings) ≡ found texture
   pub clip : Record
   pub is-clipped : ClippedTo texture c clip
-  pub held : o .held ≡ record { holdings = recorded clip (h .holdings); target = h .target }
+  pub held : o .held ≡ record { holdings = recorded clip (h .holdings); target = h .target; tokens = h .tokens }
 
 pub accepted-scissor-is-clipped : (es : List Entry) (h : Progress) (c : SetScissor) → pass es h (Scissor c) .verdict ≡ Fine → Scissored h c (pass es h (Scissor c))
-unfolding pass apply target-after
+unfolding pass apply target-after tokens-after
 accepted-scissor-is-clipped es h c =
-    scissor-or (λ (o : Outcome). o .verdict ≡ Fine → Scissored h c (passed (Scissor c) (h .target) o)) (h .holdings)
+    scissor-or (λ (o : Outcome). o .verdict ≡ Fine → Scissored h c (passed (Scissor c) h o)) (h .holdings)
     (λ r e. absurd (let z : _≡_ {A = ℕ} 0 1 = cc in omega arith)) (h .target) c
     (λ s k e. record { texture = s; its-target = k .texture; clip = clip-of s c; is-clipped = clip-is-the-common-part s c (k .sides); held = refl })

@@ -15,7 +15,7 @@ use Rattle.rules.specs.Layouts.{word, viewport-floats, viewport-fields, clear-f
 use Rattle.rules.specs.Floats.{float-of, bits-of, infinity, sign-bit, is-nan, not-finite, nan-among, not-finite-among}
 use Rattle.rules.specs.StatePackets.{bad-bounds, bad-viewport, bad-values, bad-clear}
 use Rattle.rules.specs.Stream.{known, frame-of, packet-of}
-use Rattle.rules.specs.Packets.{accepted, refuse, on-viewport-packet, on-clear-packet, apply, Progress, Passed, passed, target-after, pass, take-packet}
+use Rattle.rules.specs.Packets.{accepted, refuse, on-viewport-packet, on-clear-packet, apply, Progress, Passed, passed, target-after, pass, take-packet, tokens-after}
 use Rattle.rules.specs.declared.Entry.{Entry}
 use Rattle.rules.specs.declared.SetViewport.{SetViewport}
 use Rattle.rules.specs.declared.ClearValues.{ClearValues}
@@ -71,23 +71,23 @@ judged-state h bad = pick bad (record { verdict = Broken (refusal bad-state); he
 
 module _ (es : List Entry) (h : Progress) where
   viewport-comes-to : (v : SetViewport) → pass es h (Viewport v) ≡ judged-state h (bad-viewport v)
-  unfolding pass apply on-viewport-packet target-after
+  unfolding pass apply on-viewport-packet target-after tokens-after
   viewport-comes-to v = by-test (bad-viewport v)
     where
-      by-test : (t : Bool) → passed (Viewport v) (h .target) (refuse bad-state t (h .holdings) (accepted (h .holdings))) ≡ judged-state h t
+      by-test : (t : Bool) → passed (Viewport v) h (refuse bad-state t (h .holdings) (accepted (h .holdings))) ≡ judged-state h t
       by-test true = refl
       by-test false = refl
 
   clear-comes-to : (c : ClearValues) → pass es h (Clear c) ≡ judged-state h (bad-clear c)
-  unfolding pass apply on-clear-packet target-after
+  unfolding pass apply on-clear-packet target-after tokens-after
   clear-comes-to c = by-test (bad-clear c)
     where
-      by-test : (t : Bool) → passed (Clear c) (h .target) (refuse bad-state t (h .holdings) (accepted (h .holdings))) ≡ judged-state h t
+      by-test : (t : Bool) → passed (Clear c) h (refuse bad-state t (h .holdings) (accepted (h .holdings))) ≡ judged-state h t
       by-test true = refl
       by-test false = refl
 
   pub nan-comes-to : pass es h NotANumber ≡ judged-state h true
-  unfolding pass apply target-after
+  unfolding pass apply target-after tokens-after
   nan-comes-to = refl
 
 -- ---- a packet's own bytes

@@ -10,13 +10,13 @@ use lib.Dec.{eqb}
 use lib.ListN.{take, drop}
 use lib.Seq.{drop-drop, take-take}
 use Rattle.machine.specs.Machine.{pick}
-use Rattle.rules.specs.Numbers.{create-buffer, create-texture, destroy, dirty-range, copy-buffer, set-target, set-viewport, set-scissor, clear, create-buffer-size, create-texture-size, destroy-size, dirty-range-size, copy-buffer-size, set-target-size, set-viewport-size, set-scissor-size, clear-size}
+use Rattle.rules.specs.Numbers.{create-buffer, create-texture, destroy, dirty-range, copy-buffer, set-target, set-viewport, set-scissor, clear, export-surface, import-surface, release-token, create-buffer-size, create-texture-size, destroy-size, dirty-range-size, copy-buffer-size, set-target-size, set-viewport-size, set-scissor-size, clear-size, export-surface-size, import-surface-size, release-token-size}
 use Rattle.rules.specs.Bytes.{le, field}
-use Rattle.rules.specs.Layouts.{ring-header, ring-header-size, descriptor, descriptor-size, table-header, table-header-size, entry, entry-size, stream-header, stream-header-size, buffer-fields, texture-fields, destroy-fields, dirty-fields, copy-fields, target-fields, viewport-floats, viewport-fields, scissor-fields, clear-floats, clear-fields}
+use Rattle.rules.specs.Layouts.{ring-header, ring-header-size, descriptor, descriptor-size, table-header, table-header-size, entry, entry-size, stream-header, stream-header-size, buffer-fields, texture-fields, destroy-fields, dirty-fields, copy-fields, target-fields, viewport-floats, viewport-fields, scissor-fields, clear-floats, clear-fields, export-fields, import-fields, release-fields}
 use Rattle.rules.specs.Lists.{Found}
 use Rattle.rules.specs.Lists.Found.{none}
 use Rattle.rules.specs.Stream.{Known, row, unless-nan, known, bytes-in, says-in, least-size, packet-of}
-use Rattle.rules.specs.declared.Packet.the-variants.{Buffer, Texture, Destroy, Dirty, Copy, Target, Viewport, Scissor, Clear}
+use Rattle.rules.specs.declared.Packet.the-variants.{Buffer, Texture, Destroy, Dirty, Copy, Target, Viewport, Scissor, Clear, Export, Import, Release}
 
 -- m and m′ hold the same n bytes from `at` on
 abbrev pub Agree : List ℕ → List ℕ → ℕ → ℕ → Type 0
@@ -154,6 +154,28 @@ clear-within =
           rw (offset 8 (omega arith), offset 12 (omega arith), offset 16 (omega arith), offset 20 (omega arith), offset 24 (omega arith), offset 28 (omega arith), offset 32 (omega arith));
     }
 
+export-within : WithinRow (row export-surface-size (λ b. Export (export-fields b)))
+unfolding export-fields
+export-within =
+    record {
+      same = λ b b′ s.
+          let offset = same-field b b′ 0 export-surface-size s in
+          rw (offset 4 8 (omega arith), offset 8 16 (omega arith));
+    }
+
+import-within : WithinRow (row import-surface-size (λ b. Import (import-fields b)))
+unfolding import-fields
+import-within =
+    record {
+      same = λ b b′ s.
+          let offset = same-field b b′ 0 import-surface-size s in
+          rw (offset 4 8 (omega arith), offset 8 16 (omega arith));
+    }
+
+release-within : WithinRow (row release-token-size (λ b. Release (release-fields b)))
+unfolding release-fields
+release-within = record { same = λ b b′ s. rw (same-field b b′ 0 release-token-size s 8 8 (omega arith)) }
+
 none-within : WithinRow none
 none-within = record { same = λ b b′ s. refl }
 
@@ -168,7 +190,10 @@ known-within op =
     (within-pick (eqb op set-target) target-within
     (within-pick (eqb op set-viewport) viewport-within
     (within-pick (eqb op set-scissor) scissor-within
-    (within-pick (eqb op clear) clear-within none-within))))))))
+    (within-pick (eqb op clear) clear-within
+    (within-pick (eqb op export-surface) export-within
+    (within-pick (eqb op import-surface) import-within
+    (within-pick (eqb op release-token) release-within none-within)))))))))))
 
 -- a packet says the same whatever stands past its row's bytes, and an unknown one whatever its bytes are
 pub packet-reads-only : (op : ℕ) (b b′ : List ℕ) → Agree b b′ 0 (least-size op) → packet-of op b ≡ packet-of op b′

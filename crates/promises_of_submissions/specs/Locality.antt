@@ -49,7 +49,7 @@ SameFor r (waiting j es h) m m′ = 0 ≤ 0
 abbrev pub SameWhereRead : State → List ℕ → List ℕ → Type 0
 SameWhereRead s = SameFor (s .regs) (s .work)
 
--- two worlds that were lent m and m′ have come to the same registers, resources and work, and to the same writes
+-- two worlds that were lent m and m′ have come to the same registers, resources, tokens and work, and to the same writes
 pub record SameEnd (m m′ : List ℕ) (x x′ : World) : Type 0 where
   pub state : x .state ≡ x′ .state
   pub writes : SameWrites (x .state .regs) m m′ (x .mem) (x′ .mem)

@@ -52,7 +52,7 @@ submitted-on-clear w BadRing c = c
 submitted-on-clear w NoWork c = c
 submitted-on-clear w (Refused j r) c = refl
 submitted-on-clear w (Started o) c =
-    finished-clear w (o .job) (entries-of (w .mem) (o .table)) (submission-of (w .mem) o (at-first (w .state .resources)) .held) (submission-of (w .mem) o (at-first (w .state .resources)) .finding)
+    finished-clear w (o .job) (entries-of (w .mem) (o .table)) (submission-of (w .mem) o (at-first (w .state .belongings)) .held) (submission-of (w .mem) o (at-first (w .state .belongings)) .finding)
 
 submitted-clear : (w : World) → Clear w → Clear (submitted w .state)
 unfolding submitted

@@ -176,7 +176,7 @@ module _ (w : World) (on : w .state .regs .enabled ≡ true) (o : Opened) (lies 
   all = entries-of (w .mem) (o .table)
 
   abbrev pub first : Progress
-  first = at-first (w .state .resources)
+  first = at-first (w .state .belongings)
 
   -- what the table and the packets are judged to be
   abbrev pub table-judged : Judged

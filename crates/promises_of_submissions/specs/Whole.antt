@@ -80,11 +80,11 @@ course-join a b w x v p q =
 
 module _ (w : World) (on : w .state .regs .enabled ≡ true) (o : Opened) where
   abbrev pub reading : List Entry → World
-  reading kept = working (entries-at o kept (w .state .resources)) w
+  reading kept = working (entries-at o kept (w .state .belongings)) w
 
   -- what the table's judgement comes to
   abbrev pub after-table : Finding → List Entry → World
-  after-table fine all = working (packets-at (o .job) (o .stream) stream-header-size all (at-first (w .state .resources))) w
+  after-table fine all = working (packets-at (o .job) (o .stream) stream-header-size all (at-first (w .state .belongings))) w
   after-table (broken f) all = settled-keeping (o .job) (broken f) w
 
   -- the entry after those that were kept

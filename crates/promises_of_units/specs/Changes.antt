@@ -1,4 +1,4 @@
--- What events say: the completed fence, the error registers and the device's resources after any run and any calls are what the events
+-- What events say: the completed fence, the error registers and the device's resources and tokens after any run and any calls are what the events
 -- make of those before, one after the other. Nothing else changes them. Assumes nothing.
 use mathlib.Core.Path.{_≡_, refl, sym, ap, _∙_}
 use mathlib.Core.Bool.{Bool, true, false}
@@ -8,8 +8,8 @@ use Rattle.rules.specs.Numbers.{bad-ring, host-failed, no-place}
 use Rattle.rules.specs.Judging.{refusal, without-place}
 use Rattle.rules.specs.Judging.Finding.{fine, broken}
 use Rattle.rules.specs.Shapes.{larger}
-use Rattle.rules.specs.Packets.{Progress}
-use Rattle.rules.specs.State.{Work, State, World, with-state, working, registering}
+use Rattle.rules.specs.Packets.{Progress, Belongings, left-by}
+use Rattle.rules.specs.State.{Work, State, World, with-state, working, registering, nothing-owned}
 use Rattle.rules.specs.State.Work.{waiting}
 use Rattle.rules.specs.Registers.{bit-of, reset-registers, reset}
 use Rattle.rules.specs.Settle.{one-more, faulted, signalled, doorbell-cleared, ended-by, settled, settled-keeping, ring-refused, found-no-work}
@@ -19,7 +19,6 @@ use Rattle.rules.specs.declared.Job.{Job}
 use Rattle.rules.specs.declared.Fault.{Fault}
 use Rattle.rules.specs.declared.LastError.{LastError}
 use Rattle.rules.specs.declared.Registers.{Registers}
-use Rattle.rules.specs.declared.Resource.{Resource}
 use Rattle.promises_of_units.specs.Fences.{good-settles, failed-settles}
 use Rattle.promises_of_units.specs.Called.{Call}
 use Rattle.promises_of_units.specs.Units.{Unit}
@@ -47,9 +46,9 @@ pub record ChangedBy {A : Type 0} (by : Event → A → A) (part : World → A) 
   pub works : (k : Work) (w : World) → part (working k w) ≡ part w
   pub finds-nothing : (w : World) → part (found-no-work w) ≡ part w
   pub refuses-ring : (w : World) → part (ring-refused w) ≡ by ring-refusal (part w)
-  pub settles-good : (j : Job) (rs : List Resource) (w : World) → part (settled j fine rs w) ≡ by (settling j fine rs (settled j fine rs w .state)) (part w)
-  pub settles-broken : (j : Job) (f : Fault) (rs : List Resource) (w : World)
-      → part (settled-keeping j (broken f) w) ≡ by (settling j (broken f) rs (settled-keeping j (broken f) w .state)) (part w)
+  pub settles-good : (j : Job) (owned : Belongings) (w : World) → part (settled j fine owned w) ≡ by (settling j fine owned (settled j fine owned w .state)) (part w)
+  pub settles-broken : (j : Job) (f : Fault) (owned : Belongings) (w : World)
+      → part (settled-keeping j (broken f) w) ≡ by (settling j (broken f) owned (settled-keeping j (broken f) w .state)) (part w)
   pub writes : (r : Registers) (w : World) → r .completed ≡ w .state .regs .completed → r .error ≡ w .state .regs .error → part (registering r w) ≡ part w
   pub resets : (enabled : Bool) (w : World) → part (with-state (reset enabled (w .state)) w) ≡ by resetting (part w)
 
@@ -59,7 +58,7 @@ module _ {A : Type 0} {by : Event → A → A} {part : World → A} (c : Changed
   unit-through w w′ (works-on next h) = c .works next w
   unit-through w w′ (finds-bad-ring e h) = c .refuses-ring w
   unit-through w w′ (finds-no-work e h) = c .finds-nothing w
-  unit-through w w′ (settles j f h) = c .settles-broken j f (w .state .resources) w
+  unit-through w w′ (settles j f h) = c .settles-broken j f (w .state .belongings) w
 
   pub units-through : (w : World) (es : List Event) (w′ : World) → Units w es w′ → part w′ ≡ through by es (part w)
   unfolding through
@@ -68,9 +67,9 @@ module _ {A : Type 0} {by : Event → A → A} {part : World → A} (c : Changed
       units-through v fs w′ q ∙ (ap (through by fs) (unit-through w v u) ∙ sym (through-both by (events-of-unit u) fs (part w)))
 
   answer-through : (good : Bool) (w : World) (j : Job) (es : List Entry) (h : Progress) → w .state .work ≡ waiting j es h
-      → part (answered good w) ≡ by (settling j (finding-of good) (h .holdings .resources) (answered good w .state)) (part w)
-  answer-through true w j es h e = rw (good-settles w j es h e) (c .settles-good j (h .holdings .resources) w)
-  answer-through false w j es h e = rw (failed-settles w j es h e) (c .settles-broken j (without-place (refusal host-failed)) (h .holdings .resources) w)
+      → part (answered good w) ≡ by (settling j (finding-of good) (left-by h) (answered good w .state)) (part w)
+  answer-through true w j es h e = rw (good-settles w j es h e) (c .settles-good j (left-by h) w)
+  answer-through false w j es h e = rw (failed-settles w j es h e) (c .settles-broken j (without-place (refusal host-failed)) (left-by h) w)
 
   call-through : (w : World) (k : Call) (es : List Event) (w′ : World) → Happens w k es w′ → part w′ ≡ through by es (part w)
   unfolding through
@@ -102,7 +101,7 @@ module _ {A : Type 0} (by : Event → A → A) (part : State → A) (c : Changed
 
 -- "Completed = larger of completed and signal fence"; a reset makes it zero; nothing else changes it
 abbrev pub completed-by : Event → ℕ → ℕ
-completed-by (settling j v rs s) completed = larger completed (j .signal)
+completed-by (settling j v owned s) completed = larger completed (j .signal)
 completed-by ring-refusal completed = completed
 completed-by resetting completed = 0
 
@@ -112,17 +111,17 @@ told j f error = record { code = f .code; fence = j .signal; count = one-more (e
 
 -- a broken rule tells itself, and a bad ring with fence and place 0; a reset lets the last error stay
 abbrev pub error-by : Event → LastError → LastError
-error-by (settling j fine rs s) error = error
-error-by (settling j (broken f) rs s) error = told j f error
+error-by (settling j fine owned s) error = error
+error-by (settling j (broken f) owned s) error = told j f error
 error-by ring-refusal error = record { code = bad-ring; fence = 0; count = one-more (error .count); detail = no-place }
 error-by resetting error = error
 
--- the device's resources: a good answer gives it the submission's, a reset empties them; nothing else changes them
-abbrev pub resources-by : Event → List Resource → List Resource
-resources-by (settling j fine rs s) resources = rs
-resources-by (settling j (broken f) rs s) resources = resources
-resources-by ring-refusal resources = resources
-resources-by resetting resources = []
+-- the device's resources and tokens: a good answer gives it the submission's, a reset leaves none; nothing else changes them
+abbrev pub belongings-by : Event → Belongings → Belongings
+belongings-by (settling j fine owned s) before = owned
+belongings-by (settling j (broken f) owned s) before = before
+belongings-by ring-refusal before = before
+belongings-by resetting before = nothing-owned
 
 completed-changed : ChangedBy completed-by (λ w. w .state .regs .completed)
 unfolding settled ended-by signalled faulted doorbell-cleared reset reset-registers
@@ -131,8 +130,8 @@ completed-changed =
       works = λ k w. refl;
       finds-nothing = λ w. refl;
       refuses-ring = λ w. refl;
-      settles-good = λ j rs w. refl;
-      settles-broken = λ j f rs w. refl;
+      settles-good = λ j owned w. refl;
+      settles-broken = λ j f owned w. refl;
       writes = λ r w d e. d;
       resets = λ enabled w. refl;
     }
@@ -144,21 +143,21 @@ error-changed =
       works = λ k w. refl;
       finds-nothing = λ w. refl;
       refuses-ring = λ w. refl;
-      settles-good = λ j rs w. refl;
-      settles-broken = λ j f rs w. refl;
+      settles-good = λ j owned w. refl;
+      settles-broken = λ j f owned w. refl;
       writes = λ r w d e. e;
       resets = λ enabled w. refl;
     }
 
-resources-changed : ChangedBy resources-by (λ w. w .state .resources)
+belongings-changed : ChangedBy belongings-by (λ w. w .state .belongings)
 unfolding settled reset
-resources-changed =
+belongings-changed =
     record {
       works = λ k w. refl;
       finds-nothing = λ w. refl;
       refuses-ring = λ w. refl;
-      settles-good = λ j rs w. refl;
-      settles-broken = λ j f rs w. refl;
+      settles-good = λ j owned w. refl;
+      settles-broken = λ j f owned w. refl;
       writes = λ r w d e. refl;
       resets = λ enabled w. refl;
     }
@@ -167,7 +166,7 @@ resources-changed =
 pub record Says (s : State) (es : List Event) (s′ : State) : Type 0 where
   pub completed : s′ .regs .completed ≡ through completed-by es (s .regs .completed)
   pub error : s′ .regs .error ≡ through error-by es (s .regs .error)
-  pub resources : s′ .resources ≡ through resources-by es (s .resources)
+  pub belongings : s′ .belongings ≡ through belongings-by es (s .belongings)
 
 module _ (s : State) (es : List Event) (s′ : State) where
   say : ((A : Type 0) (by : Event → A → A) (part : State → A) → ChangedBy by (λ w. part (w .state)) → part s′ ≡ through by es (part s)) → Says s es s′
@@ -175,7 +174,7 @@ module _ (s : State) (es : List Event) (s′ : State) where
       record {
         completed = follows ℕ completed-by (λ t. t .regs .completed) completed-changed;
         error = follows LastError error-by (λ t. t .regs .error) error-changed;
-        resources = follows (List Resource) resources-by (λ t. t .resources) resources-changed;
+        belongings = follows Belongings belongings-by (λ t. t .belongings) belongings-changed;
       }
 
 -- of the units of a run

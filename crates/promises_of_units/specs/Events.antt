@@ -11,14 +11,13 @@ use Rattle.rules.specs.Lists.{Found, pushed}
 use Rattle.rules.specs.Lists.Found.{none, found}
 use Rattle.rules.specs.Judging.{refusal, Finding, without-place}
 use Rattle.rules.specs.Judging.Finding.{fine, broken}
-use Rattle.rules.specs.Packets.{Progress}
+use Rattle.rules.specs.Packets.{Progress, Belongings, left-by}
 use Rattle.rules.specs.State.{Work, State, World, made, with-regs, with-state, registering}
 use Rattle.rules.specs.State.Work.{resting, entries, packets, waiting}
 use Rattle.rules.specs.Registers.{Write, bit-of, reset, write-of}
 use Rattle.rules.specs.Steps.{step, go, run-for, waits-on, waits, answered}
 use Rattle.rules.specs.Calls.{lent-another, wrote, call-write, Ran, call-run, call-answer}
 use Rattle.rules.specs.declared.Entry.{Entry}
-use Rattle.rules.specs.declared.Resource.{Resource}
 use Rattle.rules.specs.declared.Job.{Job}
 use Rattle.rules.specs.declared.Registers.{Registers}
 use Rattle.promises_of_units.specs.Writes.{resets, Written, write-keeps-or-drops}
@@ -32,9 +31,9 @@ use Rattle.promises_of_units.specs.Units.{Unit, unit}
 use Rattle.promises_of_units.specs.Units.Unit.{works-on, finds-bad-ring, finds-no-work, settles}
 
 pub data Event : Type 0 where
-  -- a submission was settled with what was found; these resources were the submission's, where the host answered, and the device's before it,
+  -- a submission was settled with what was found; these resources and tokens were the submission's, where the host answered, and the device's before it,
   -- where a unit refused it; and this state stood after it
-  settling : Job → Finding → List Resource → State → Event
+  settling : Job → Finding → Belongings → State → Event
   -- an opening found a bad ring
   ring-refusal : Event
   -- the guest reset the device
@@ -50,7 +49,7 @@ abbrev pub events-of-unit : {w w′ : World} → Unit w w′ → List Event
 events-of-unit (works-on next h) = []
 events-of-unit (finds-bad-ring e h) = ring-refusal ∷ []
 events-of-unit (finds-no-work e h) = []
-events-of-unit {w} {w′} (settles j f h) = settling j (broken f) (w .state .resources) (w′ .state) ∷ []
+events-of-unit {w} {w′} (settles j f h) = settling j (broken f) (w .state .belongings) (w′ .state) ∷ []
 
 -- units one after the other, each of a device that goes on, and their events
 pub data Units : World → List Event → World → Type 0 where
@@ -76,7 +75,7 @@ pub data Happens (w : World) : Call → List Event → World → Type 0 where
   -- the submission that waits is answered, and settled with the host's word; then units are spent
   settles-answered : (good : Bool) (n : ℕ) (j : Job) (es : List Entry) (h : Progress) {fs : List Event} → lent-another w ≡ false → w .state .work ≡ waiting j es h
       → Units (answered good w) fs (run-for n (answered good w) .state)
-      → Happens w (answers good n) (settling j (finding-of good) (h .holdings .resources) (answered good w .state) ∷ fs) (run-for n (answered good w) .state)
+      → Happens w (answers good n) (settling j (finding-of good) (left-by h) (answered good w .state) ∷ fs) (run-for n (answered good w) .state)
 
 -- calls one after the other over still memory, and their events
 pub data History : World → List Call → List Event → World → Type 0 where

@@ -17,7 +17,7 @@ use Rattle.rules.specs.Judging.Finding.{fine, broken}
 use Rattle.rules.specs.Layouts.{entry}
 use Rattle.rules.specs.Table.{matching, entry-place, entry-rules, keep, in-reach, take-entry}
 use Rattle.rules.specs.Ring.{opening-of}
-use Rattle.rules.specs.Packets.{Progress, at-first, take-packet}
+use Rattle.rules.specs.Packets.{Progress, at-first, take-packet, Belongings}
 use Rattle.rules.specs.Stream.{left}
 use Rattle.rules.specs.State.{Work, State, World, made}
 use Rattle.rules.specs.State.Work.{resting, entries, packets, waiting}
@@ -27,7 +27,6 @@ use Rattle.rules.specs.Steps.{packets-at, entries-at, after-opening, open-step,
 use Rattle.rules.specs.Calls.{lent-another, Ran, call-run, call-answer, call-write}
 use Rattle.rules.specs.declared.Entry.{Entry}
 use Rattle.rules.specs.declared.Record.{Record}
-use Rattle.rules.specs.declared.Resource.{Resource}
 use Rattle.rules.specs.declared.Job.{Job}
 use Rattle.rules.specs.declared.Table.{Table}
 use Rattle.rules.specs.declared.Stream.{Stream}
@@ -86,12 +85,12 @@ packets-lie n j s at es h e = by-test (ltb at (s .size))
     by-test true = e
     by-test false = e
 
-entries-lie : (n : ℕ) (o : Opened) (kept : List Entry) (rs : List Resource) → Every (EndsIn n) kept → LiesIn n (entries-at o kept rs)
-entries-lie n o kept rs e = by-test (ltb (length kept) (o .table .count))
+entries-lie : (n : ℕ) (o : Opened) (kept : List Entry) (owned : Belongings) → Every (EndsIn n) kept → LiesIn n (entries-at o kept owned)
+entries-lie n o kept owned e = by-test (ltb (length kept) (o .table .count))
   where
-    by-test : (b : Bool) → LiesIn n (pick b (entries o kept) (packets-at (o .job) (o .stream) 24 kept (at-first rs)))
+    by-test : (b : Bool) → LiesIn n (pick b (entries o kept) (packets-at (o .job) (o .stream) 24 kept (at-first owned)))
     by-test true = e
-    by-test false = packets-lie n (o .job) (o .stream) 24 kept (at-first rs) e
+    by-test false = packets-lie n (o .job) (o .stream) 24 kept (at-first owned) e
 
 module _ (w : World) where
   abbrev bytes : ℕ
@@ -102,11 +101,11 @@ module _ (w : World) where
   opening-lies-in BadRing k = k
   opening-lies-in NoWork k = k
   opening-lies-in (Refused j r) k = omega arith
-  opening-lies-in (Started o) k = entries-lie bytes o [] (w .state .resources) (every-none (EndsIn bytes))
+  opening-lies-in (Started o) k = entries-lie bytes o [] (w .state .belongings) (every-none (EndsIn bytes))
 
   entry-lies-in : (o : Opened) (kept : List Entry) (v : Finding) → Every (EndsIn bytes) kept → LiesIn bytes (after-entry w o kept v .state .work)
   unfolding settled
-  entry-lies-in o kept fine e = entries-lie bytes o kept (w .state .resources) e
+  entry-lies-in o kept fine e = entries-lie bytes o kept (w .state .belongings) e
   entry-lies-in o kept (broken f) e = omega arith
 
   packet-lies-in : (j : Job) (t : Stream) (next : ℕ) (es : List Entry) (h : Progress) (v : Finding) → Every (EndsIn bytes) es → LiesIn bytes (after-packet w j t next es h v .state .work)

@@ -11,14 +11,13 @@ use Rattle.rules.specs.Judging.Finding.{fine, broken}
 use Rattle.rules.specs.Ring.{opening-of}
 use Rattle.rules.specs.Table.{take-entry}
 use Rattle.rules.specs.Stream.{left}
-use Rattle.rules.specs.Packets.{Progress, take-packet}
+use Rattle.rules.specs.Packets.{Progress, take-packet, Belongings, left-by}
 use Rattle.rules.specs.State.{Work, World}
 use Rattle.rules.specs.State.Work.{resting, entries, packets, waiting}
 use Rattle.rules.specs.Settle.{ended-by, marked, settled}
 use Rattle.rules.specs.Steps.{after-opening, open-step, after-entry, entry-step, after-packet, next-place, packet-step, step-on, step, go, run-for, answer-on, answered}
 use Rattle.rules.specs.declared.Refusal.{Refusal}
 use Rattle.rules.specs.declared.Entry.{Entry}
-use Rattle.rules.specs.declared.Resource.{Resource}
 use Rattle.rules.specs.declared.Job.{Job}
 use Rattle.rules.specs.declared.Stream.{Stream}
 use Rattle.rules.specs.declared.Opened.{Opened}
@@ -45,23 +44,23 @@ pub data Touched (w : World) (k : Work) : List ℕ → Type 0 where
   settles : (j : Job) (v : Finding) → JobOf w k j → Touched w k (marked j (ended-by j v (w .state .regs)) (w .mem))
 
 module _ (w : World) where
-  settled-touches : (k : Work) (j : Job) (v : Finding) (rs : List Resource) → JobOf w k j → Touched w k (settled j v rs w .mem)
+  settled-touches : (k : Work) (j : Job) (v : Finding) (owned : Belongings) → JobOf w k j → Touched w k (settled j v owned w .mem)
   unfolding settled
-  settled-touches k j v rs own = settles j v own
+  settled-touches k j v owned own = settles j v own
 
   opening-touches : (v : Opening) → opening-of (w .mem) (w .state .regs .ring) (w .state .regs .ringsize) ≡ v → Touched w resting (after-opening w v .mem)
   opening-touches BadRing e = untouched
   opening-touches NoWork e = untouched
-  opening-touches (Refused j r) e = settled-touches resting j (broken (without-place r)) (w .state .resources) (record { why = r; here = e })
+  opening-touches (Refused j r) e = settled-touches resting j (broken (without-place r)) (w .state .belongings) (record { why = r; here = e })
   opening-touches (Started o) e = untouched
 
   entry-touches : (o : Opened) (kept kept′ : List Entry) (v : Finding) → Touched w (entries o kept) (after-entry w o kept′ v .mem)
   entry-touches o kept kept′ fine = untouched
-  entry-touches o kept kept′ (broken f) = settled-touches (entries o kept) (o .job) (broken f) (w .state .resources) refl
+  entry-touches o kept kept′ (broken f) = settled-touches (entries o kept) (o .job) (broken f) (w .state .belongings) refl
 
   packet-touches : (j : Job) (s : Stream) (at next : ℕ) (es : List Entry) (h h′ : Progress) (v : Finding) → Touched w (packets j s at es h) (after-packet w j s next es h′ v .mem)
   packet-touches j s at next es h h′ fine = untouched
-  packet-touches j s at next es h h′ (broken f) = settled-touches (packets j s at es h) j (broken f) (w .state .resources) refl
+  packet-touches j s at next es h h′ (broken f) = settled-touches (packets j s at es h) j (broken f) (w .state .belongings) refl
 
   on-touches : (k : Work) → Touched w k (step-on w k .mem)
   unfolding open-step entry-step packet-step
@@ -75,8 +74,8 @@ module _ (w : World) where
   answer-touches good resting = untouched
   answer-touches good (entries o kept) = untouched
   answer-touches good (packets j s at es h) = untouched
-  answer-touches true (waiting j es h) = settled-touches (waiting j es h) j fine (h .holdings .resources) refl
-  answer-touches false (waiting j es h) = settled-touches (waiting j es h) j _ (w .state .resources) refl
+  answer-touches true (waiting j es h) = settled-touches (waiting j es h) j fine (left-by h) refl
+  answer-touches false (waiting j es h) = settled-touches (waiting j es h) j _ (w .state .belongings) refl
 
 -- one unit writes memory only by settling, and so does an answer
 pub unit-writes-by-settling : (w : World) → Touched w (w .state .work) (step w .mem)

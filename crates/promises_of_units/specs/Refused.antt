@@ -44,8 +44,8 @@ answer-call-keeps-sound w good n s =
 -- a write keeps it: it changes registers alone, or drops everything
 written-sound : (s s′ : State) (offset v : ℕ) → SoundState s → Written s offset v s′ → SoundState s′
 unfolding reset
-written-sound s s′ offset v k (keeps r n c e) = record { resources = k .resources; work = k .work }
-written-sound s s′ offset v k (drops h) = record { resources = made-sound 0 .resources; work = made-sound 0 .work }
+written-sound s s′ offset v k (keeps r n c e) = record { belongings = k .belongings; work = k .work }
+written-sound s s′ offset v k (drops h) = record { belongings = made-sound 0 .belongings; work = made-sound 0 .work }
 
 pub write-call-keeps-sound : (s : State) (offset v : ℕ) → SoundState s → SoundState (call-write s offset v .state)
 write-call-keeps-sound s offset v k = written-sound s (call-write s offset v .state) offset v k (write-keeps-or-drops s offset v)

@@ -18,13 +18,12 @@ use Rattle.rules.specs.Layouts.{entry}
 use Rattle.rules.specs.Table.{entry-id, matching, is-found, entry-place, entry-rules, keep, in-reach, take-entry}
 use Rattle.rules.specs.Ring.{opening-of}
 use Rattle.rules.specs.Stream.{left}
-use Rattle.rules.specs.Packets.{Progress, at-first, take-packet}
+use Rattle.rules.specs.Packets.{Progress, at-first, take-packet, Belongings}
 use Rattle.rules.specs.State.{Work, State, World, made}
 use Rattle.rules.specs.State.Work.{resting, entries, packets, waiting}
 use Rattle.rules.specs.Settle.{settled}
 use Rattle.rules.specs.Steps.{packets-at, entries-at, after-opening, open-step, after-entry, entry-step, after-packet, next-place, packet-step, step-on, step, go, run-for, answer-on, answered}
 use Rattle.rules.specs.declared.Entry.{Entry}
-use Rattle.rules.specs.declared.Resource.{Resource}
 use Rattle.rules.specs.declared.Job.{Job}
 use Rattle.rules.specs.declared.Table.{Table}
 use Rattle.rules.specs.declared.Stream.{Stream}
@@ -35,7 +34,7 @@ use Rattle.rules.specs.declared.Opening.{Opening}
 use Rattle.rules.specs.declared.Opening.the-variants.{BadRing, NoWork, Refused, Started}
 use Rattle.rows.specs.Keys.{Once, once-nil, once-pushed}
 use Rattle.packet_apply.specs.Effects.{KeepsBytes}
-use Rattle.packet_apply.specs.Held.{Every, Inside, OfAKind, SoundResources, none-sound, SoundProgress, first-sound, take-sound}
+use Rattle.packet_apply.specs.Held.{Every, Inside, OfAKind, SoundBelongings, nothing-sound, SoundProgress, first-sound, left-sound, take-sound}
 use Rattle.rule_laws.specs.Fine.{fine-later, kept-rule, both-left}
 
 -- ---- the entries of a table: at most 64, each id once
@@ -85,12 +84,12 @@ SoundWork (packets j s at es h) = SoundEntries es × SoundProgress es h
 SoundWork (waiting j es h) = SoundEntries es × SoundProgress es h
 
 pub record SoundState (s : State) : Type 0 where
-  pub resources : SoundResources (s .resources)
+  pub belongings : SoundBelongings (s .belongings)
   pub work : SoundWork (s .work)
 
 -- a new device is sound
 pub made-sound : (memory : ℕ) → SoundState (made memory)
-made-sound memory = record { resources = none-sound; work = omega arith }
+made-sound memory = record { belongings = nothing-sound; work = omega arith }
 
 -- ---- kept by a step
 
@@ -101,30 +100,30 @@ packets-at-sound j s at es h e k = by-test (ltb at (s .size))
     by-test true = (e, k)
     by-test false = (e, k)
 
-entries-at-sound : (o : Opened) (kept : List Entry) (rs : List Resource) → SoundEntries kept → SoundResources rs → SoundWork (entries-at o kept rs)
-entries-at-sound o kept rs e r = by-test (ltb (length kept) (o .table .count))
+entries-at-sound : (o : Opened) (kept : List Entry) (owned : Belongings) → SoundEntries kept → SoundBelongings owned → SoundWork (entries-at o kept owned)
+entries-at-sound o kept owned e r = by-test (ltb (length kept) (o .table .count))
   where
-    by-test : (b : Bool) → SoundWork (pick b (entries o kept) (packets-at (o .job) (o .stream) 24 kept (at-first rs)))
+    by-test : (b : Bool) → SoundWork (pick b (entries o kept) (packets-at (o .job) (o .stream) 24 kept (at-first owned)))
     by-test true = e
-    by-test false = packets-at-sound (o .job) (o .stream) 24 kept (at-first rs) e (first-sound kept rs r)
+    by-test false = packets-at-sound (o .job) (o .stream) 24 kept (at-first owned) e (first-sound kept owned r)
 
-settled-sound : (j : Job) (v : Finding) (rs : List Resource) (w : World) → SoundResources rs → SoundState (settled j v rs w .state)
+settled-sound : (j : Job) (v : Finding) (owned : Belongings) (w : World) → SoundBelongings owned → SoundState (settled j v owned w .state)
 unfolding settled
-settled-sound j v rs w r = record { resources = r; work = omega arith }
+settled-sound j v owned w r = record { belongings = r; work = omega arith }
 
-module _ (w : World) (s : SoundResources (w .state .resources)) where
+module _ (w : World) (s : SoundBelongings (w .state .belongings)) where
   opening-sound : (v : Opening) → SoundWork (w .state .work) → SoundState (after-opening w v .state)
-  opening-sound BadRing k = record { resources = s; work = k }
-  opening-sound NoWork k = record { resources = s; work = k }
+  opening-sound BadRing k = record { belongings = s; work = k }
+  opening-sound NoWork k = record { belongings = s; work = k }
   opening-sound (Refused j r) k = settled-sound j (broken (without-place r)) _ w s
-  opening-sound (Started o) k = record { resources = s; work = entries-at-sound o [] (w .state .resources) no-entries s }
+  opening-sound (Started o) k = record { belongings = s; work = entries-at-sound o [] (w .state .belongings) no-entries s }
 
   after-entry-sound : (o : Opened) (kept : List Entry) (v : Finding) → SoundEntries kept → SoundState (after-entry w o kept v .state)
-  after-entry-sound o kept fine e = record { resources = s; work = entries-at-sound o kept (w .state .resources) e s }
+  after-entry-sound o kept fine e = record { belongings = s; work = entries-at-sound o kept (w .state .belongings) e s }
   after-entry-sound o kept (broken f) e = settled-sound (o .job) (broken f) _ w s
 
   after-packet-sound : (j : Job) (t : Stream) (next : ℕ) (es : List Entry) (h : Progress) (v : Finding) → SoundEntries es → SoundProgress es h → SoundState (after-packet w j t next es h v .state)
-  after-packet-sound j t next es h fine e k = record { resources = s; work = packets-at-sound j t next es h e k }
+  after-packet-sound j t next es h fine e k = record { belongings = s; work = packets-at-sound j t next es h e k }
   after-packet-sound j t next es h (broken f) e k = settled-sound j (broken f) _ w s
 
   step-on-sound : (k : Work) → w .state .work ≡ k → SoundWork k → SoundState (step-on w k .state)
@@ -136,19 +135,19 @@ module _ (w : World) (s : SoundResources (w .state .resources)) where
   step-on-sound (packets j t at es held) e h =
       after-packet-sound j t (next-place at (left (w .mem) t at)) es (take-packet es held (left (w .mem) t at) .held) (at-place at (take-packet es held (left (w .mem) t at) .verdict)) (h .0)
       (take-sound es held (h .1) (left (w .mem) t at))
-  step-on-sound (waiting j es held) e h = record { resources = s; work = subst SoundWork (sym e) h }
+  step-on-sound (waiting j es held) e h = record { belongings = s; work = subst SoundWork (sym e) h }
 
   answer-sound : (good : Bool) (k : Work) → w .state .work ≡ k → SoundWork k → SoundState (answer-on good w k .state)
-  answer-sound good resting e h = record { resources = s; work = subst SoundWork (sym e) h }
-  answer-sound good (entries o kept) e h = record { resources = s; work = subst SoundWork (sym e) h }
-  answer-sound good (packets j t at es held) e h = record { resources = s; work = subst SoundWork (sym e) h }
-  answer-sound true (waiting j es held) e h = settled-sound j fine _ w (h .1 .holdings .resources)
+  answer-sound good resting e h = record { belongings = s; work = subst SoundWork (sym e) h }
+  answer-sound good (entries o kept) e h = record { belongings = s; work = subst SoundWork (sym e) h }
+  answer-sound good (packets j t at es held) e h = record { belongings = s; work = subst SoundWork (sym e) h }
+  answer-sound true (waiting j es held) e h = settled-sound j fine _ w (left-sound es held (h .1))
   answer-sound false (waiting j es held) e h = settled-sound j _ _ w s
 
 -- one unit keeps it, over any memory
 pub step-keeps-sound : (w : World) → SoundState (w .state) → SoundState (step w .state)
 unfolding step
-step-keeps-sound w s = step-on-sound w (s .resources) (w .state .work) refl (s .work)
+step-keeps-sound w s = step-on-sound w (s .belongings) (w .state .work) refl (s .work)
 
 -- and so does a run
 pub run-keeps-sound : (n : ℕ) (w : World) → SoundState (w .state) → SoundState (run-for n w .state .state)
@@ -162,7 +161,7 @@ run-keeps-sound (suc n) w s = by-test (go w) refl (run-keeps-sound n (step w) (s
 -- and an answer
 pub answer-keeps-sound : (good : Bool) (w : World) → SoundState (w .state) → SoundState (answered good w .state)
 unfolding answered
-answer-keeps-sound good w s = answer-sound w (s .resources) good (w .state .work) refl (s .work)
+answer-keeps-sound good w s = answer-sound w (s .belongings) good (w .state .work) refl (s .work)
 
 -- while a submission waits: every range lies inside the one entry of its table that has its id, and no other has it
 pub waiting-ranges-inside : (s : State) (j : Job) (es : List Entry) (h : Progress) → SoundState s → s .work ≡ waiting j es h → Every (Inside es) (h .holdings .records) × Once entry-id es
@@ -178,5 +177,5 @@ waiting-kinds s j es h k e =
 
 -- the bytes that a device's resource keeps are those of its kind: a buffer has some, a backed texture its packed size, a
 -- host-backed one none
-pub resources-keep-bytes : (s : State) → SoundState s → Every KeepsBytes (s .resources)
-resources-keep-bytes s k = k .resources .bytes
+pub resources-keep-bytes : (s : State) → SoundState s → Every KeepsBytes (s .belongings .resources)
+resources-keep-bytes s k = k .belongings .resources .bytes

@@ -16,14 +16,13 @@ use Rattle.rules.specs.Judging.{refusal}
 use Rattle.rules.specs.Layouts.{entry, stream-header-size}
 use Rattle.rules.specs.Table.{Taken, entry-place, entry-rules, keep, in-reach, take-entry}
 use Rattle.rules.specs.Ring.{opening-of}
-use Rattle.rules.specs.Packets.{Progress, at-first}
+use Rattle.rules.specs.Packets.{Progress, at-first, Belongings}
 use Rattle.rules.specs.State.{Work, State, World}
 use Rattle.rules.specs.State.Work.{resting, entries, packets, waiting}
 use Rattle.rules.specs.Steps.{packets-at, entries-at}
 use Rattle.rules.specs.declared.Entry.{Entry}
 use Rattle.rules.specs.declared.Job.{Job}
 use Rattle.rules.specs.declared.Opened.{Opened}
-use Rattle.rules.specs.declared.Resource.{Resource}
 use Rattle.rules.specs.declared.Stream.{Stream}
 use Rattle.rules.specs.declared.Table.{Table}
 use Rattle.rules.specs.declared.Verdict.{Verdict}
@@ -103,27 +102,27 @@ packets-own n j t at es h own its past = by-test (ltb at (t .size)) refl
     by-test true e = record { table = own; its-stream = its; past-header = past; in-stream = ltb-true at (t .size) e }
     by-test false e = own
 
-entries-own : (n : ℕ) (o : Opened) (kept : List Entry) (rs : List Resource) → StartedOnce n o → TakenFrom n (o .table) kept → length kept ≤ o .table .count → OwnTable n (entries-at o kept rs)
-entries-own n o kept rs a t l = by-test (ltb (length kept) (o .table .count)) refl
+entries-own : (n : ℕ) (o : Opened) (kept : List Entry) (owned : Belongings) → StartedOnce n o → TakenFrom n (o .table) kept → length kept ≤ o .table .count → OwnTable n (entries-at o kept owned)
+entries-own n o kept owned a t l = by-test (ltb (length kept) (o .table .count)) refl
   where
-    by-test : (b : Bool) → ltb (length kept) (o .table .count) ≡ b → OwnTable n (pick b (entries o kept) (packets-at (o .job) (o .stream) stream-header-size kept (at-first rs)))
+    by-test : (b : Bool) → ltb (length kept) (o .table .count) ≡ b → OwnTable n (pick b (entries o kept) (packets-at (o .job) (o .stream) stream-header-size kept (at-first owned)))
     by-test true e = (a, t, ltb-true (length kept) (o .table .count) e)
     by-test false e =
-        packets-own n (o .job) (o .stream) stream-header-size kept (at-first rs)
+        packets-own n (o .job) (o .stream) stream-header-size kept (at-first owned)
         (record { what = o; opened = a; its-job = refl; taken = t; all = omega (arith, ltb-false (length kept) (o .table .count) e) }) refl (omega arith)
 
 module _ (w : World) (n : ℕ) (lent : length (w .mem) ≡ n) where
   next-own : (k next : Work) → Next w k next → OwnTable n k → OwnTable n next
   next-own resting next h own =
       subst (OwnTable n) (sym (h .first))
-      (entries-own n (h .what) [] (w .state .resources) (record { mem = w .mem; long = lent; ring = w .state .regs .ring; size = w .state .regs .ringsize; started = h .here }) none-kept (omega arith))
+      (entries-own n (h .what) [] (w .state .belongings) (record { mem = w .mem; long = lent; ring = w .state .regs .ring; size = w .state .regs .ringsize; started = h .here }) none-kept (omega arith))
   next-own (entries o kept) next h own =
       let x : Entry = next-entry (w .mem) (o .table) kept in
       let good : (take-entry (w .mem) (o .table) kept .kept ≡ pushed kept x) × (entry-rules (length (w .mem)) kept x ≡ Fine) = good-entry-is-kept (w .mem) (o .table) kept (h .0) in
       let more : TakenFrom n (o .table) (pushed kept x) = kept-one (own .1) (w .mem) lent (subst (λ i. entry-rules i kept x ≡ Fine) lent (good .1)) in
       subst (OwnTable n) (sym (h .1))
-      (subst (λ es. OwnTable n (entries-at o es (w .state .resources))) (sym (good .0))
-      (entries-own n o (pushed kept x) (w .state .resources) (own .0) more (simp length-append (omega (arith, own .2)))))
+      (subst (λ es. OwnTable n (entries-at o es (w .state .belongings))) (sym (good .0))
+      (entries-own n o (pushed kept x) (w .state .belongings) (own .0) more (simp length-append (omega (arith, own .2)))))
   next-own (packets j t at es held) next h own =
       subst (OwnTable n) (sym (h .1)) (packets-own n j t _ es _ (own .table) (own .its-stream) (omega (arith, own .past-header)))
   next-own (waiting j es held) next h own = subst (OwnTable n) (sym h) own

@@ -40,14 +40,14 @@ opening-here w = opening-of (w .mem) (w .state .regs .ring) (w .state .regs .rin
 pub record Opens (w : World) (next : Work) : Type 0 where
   pub what : Opened
   pub here : opening-here w ≡ Started what
-  pub first : next ≡ entries-at what [] (w .state .resources)
+  pub first : next ≡ entries-at what [] (w .state .belongings)
 
 -- the work that comes next, where the unit's opening, entry or packet is good. The submission stays the same one, and so does its
 -- table once packets are judged.
 abbrev pub Next : World → Work → Work → Type 0
 Next w resting next = Opens w next
 Next w (entries o kept) next =
-    (take-entry (w .mem) (o .table) kept .verdict ≡ Fine) × (next ≡ entries-at o (take-entry (w .mem) (o .table) kept .kept) (w .state .resources))
+    (take-entry (w .mem) (o .table) kept .verdict ≡ Fine) × (next ≡ entries-at o (take-entry (w .mem) (o .table) kept .kept) (w .state .belongings))
 Next w (packets j s at es h) next =
     (take-packet es h (left (w .mem) s at) .verdict ≡ Fine)
     × (next ≡ packets-at j s (next-place at (left (w .mem) s at)) es (take-packet es h (left (w .mem) s at) .held))
@@ -69,13 +69,13 @@ Breaks w (waiting k es h) j f = ⊥
 
 -- what one unit makes of a world
 pub data Unit (w : World) : World → Type 0 where
-  -- only the work is another: registers, resources and every byte are as they were
+  -- only the work is another: registers, resources, tokens and every byte are as they were
   works-on : (next : Work) → Next w (w .state .work) next → Unit w (working next w)
   -- nothing in work, and a ring that breaks its rules: the error is told, the doorbell flag cleared
   finds-bad-ring : w .state .work ≡ resting → opening-here w ≡ BadRing → Unit w (ring-refused w)
   -- nothing in work and nothing to open: the doorbell flag is cleared
   finds-no-work : w .state .work ≡ resting → opening-here w ≡ NoWork → Unit w (found-no-work w)
-  -- a rule is broken: the submission is settled with it and its place, and the device keeps its resources
+  -- a rule is broken: the submission is settled with it and its place, and the device keeps its resources and tokens
   settles : (j : Job) (f : Fault) → Breaks w (w .state .work) j f → Unit w (settled-keeping j (broken f) w)
 
 module _ (w : World) where
@@ -83,12 +83,12 @@ module _ (w : World) where
   by-opening e BadRing h = finds-bad-ring e h
   by-opening e NoWork h = finds-no-work e h
   by-opening e (Refused j r) h = settles j (without-place r) (subst (λ k. Breaks w k j (without-place r)) (sym e) (record { why = r; here = h; nowhere = refl }))
-  by-opening e (Started o) h = works-on _ (subst (λ k. Next w k (entries-at o [] (w .state .resources))) (sym e) (record { what = o; here = h; first = refl }))
+  by-opening e (Started o) h = works-on _ (subst (λ k. Next w k (entries-at o [] (w .state .belongings))) (sym e) (record { what = o; here = h; first = refl }))
 
   by-entry : (o : Opened) (kept : List Entry) → w .state .work ≡ entries o kept → (v : Verdict) → take-entry (w .mem) (o .table) kept .verdict ≡ v
       → Unit w (after-entry w o (take-entry (w .mem) (o .table) kept .kept) (at-place (length kept) v))
   by-entry o kept e Fine h =
-      let next : Work = entries-at o (take-entry (w .mem) (o .table) kept .kept) (w .state .resources) in
+      let next : Work = entries-at o (take-entry (w .mem) (o .table) kept .kept) (w .state .belongings) in
       works-on next (subst (λ k. Next w k next) (sym e) (h, refl))
   by-entry o kept e (Broken r) h =
       settles (o .job) (fault-at (length kept) r) (subst (λ k. Breaks w k (o .job) (fault-at (length kept) r)) (sym e) (refl, ap (at-place (length kept)) h))
@@ -146,24 +146,24 @@ broken-is-in-work w (entries o kept) j f h = h .0
 broken-is-in-work w (packets k s at es held) j f h = h .0
 broken-is-in-work w (waiting k es held) j f h = absurd h
 
--- ---- the device's resources: units never change them
+-- ---- the device's resources and tokens: units never change them
 
-resources-of-unit : (w w′ : World) → Unit w w′ → w′ .state .resources ≡ w .state .resources
+belongings-of-unit : (w w′ : World) → Unit w w′ → w′ .state .belongings ≡ w .state .belongings
 unfolding settled
-resources-of-unit w w′ (works-on next h) = refl
-resources-of-unit w w′ (finds-bad-ring e h) = refl
-resources-of-unit w w′ (finds-no-work e h) = refl
-resources-of-unit w w′ (settles j f h) = refl
+belongings-of-unit w w′ (works-on next h) = refl
+belongings-of-unit w w′ (finds-bad-ring e h) = refl
+belongings-of-unit w w′ (finds-no-work e h) = refl
+belongings-of-unit w w′ (settles j f h) = refl
 
-pub unit-keeps-resources : (w : World) → step w .state .resources ≡ w .state .resources
-unit-keeps-resources w = resources-of-unit w (step w) (unit w)
+pub unit-keeps-belongings : (w : World) → step w .state .belongings ≡ w .state .belongings
+unit-keeps-belongings w = belongings-of-unit w (step w) (unit w)
 
-pub run-keeps-resources : (n : ℕ) (w : World) → run-for n w .state .state .resources ≡ w .state .resources
-run-keeps-resources zero w = rw (run-none go step w)
-run-keeps-resources (suc n) w = by-test (go w) refl (run-keeps-resources n (step w))
+pub run-keeps-belongings : (n : ℕ) (w : World) → run-for n w .state .state .belongings ≡ w .state .belongings
+run-keeps-belongings zero w = rw (run-none go step w)
+run-keeps-belongings (suc n) w = by-test (go w) refl (run-keeps-belongings n (step w))
   where
-    by-test : (b : Bool) → go w ≡ b → run-for n (step w) .state .state .resources ≡ step w .state .resources → run-for (suc n) w .state .state .resources ≡ w .state .resources
-    by-test true g q = rw (run-go go step n w g) (q ∙ unit-keeps-resources w)
+    by-test : (b : Bool) → go w ≡ b → run-for n (step w) .state .state .belongings ≡ step w .state .belongings → run-for (suc n) w .state .state .belongings ≡ w .state .belongings
+    by-test true g q = rw (run-go go step n w g) (q ∙ unit-keeps-belongings w)
     by-test false g q = rw (run-stop go step (suc n) w g)
 
 -- ---- what does not wait hands out nothing: every record call answers 4, with zeros beside it

@@ -68,7 +68,7 @@ write-keeps-or-drops s offset v = by-control (eqb offset 0x10c) refl
     by-control false e = by-found (write-of s offset v) (rw e) (lookup-written s offset v (writable s v) (all-written s v))
 
 -- a write that is no reset leaves what is in work, and every resource
-pub write-keeps-work : (s s′ : State) (offset v : ℕ) → resets offset v ≡ false → Written s offset v s′ → (s′ .work ≡ s .work) × (s′ .resources ≡ s .resources)
+pub write-keeps-work : (s s′ : State) (offset v : ℕ) → resets offset v ≡ false → Written s offset v s′ → (s′ .work ≡ s .work) × (s′ .belongings ≡ s .belongings)
 write-keeps-work s s′ offset v n (keeps r h c e) = (refl, refl)
 write-keeps-work s s′ offset v n (drops h) = absurd (let z : _≡_ {A = ℕ} 0 1 = cc in omega arith)
 

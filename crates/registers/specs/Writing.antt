@@ -15,7 +15,7 @@ use Rattle.rules.specs.Registers.{with-low, with-high, bit-of, with-ring, with-
 use Rattle.rules.specs.Calls.{call-write}
 use Rattle.registers.specs.Laws.{Misses, keys, missed}
 use Rattle.run_state.specs.Views.{setIn, flagOf, worldIn, rested, stateIn}
-use Rattle.run_state.specs.Reading.{flag-as, small-as, none-live}
+use Rattle.run_state.specs.Reading.{flag-as, small-as, none-live, none-used}
 use Rattle.run_state.specs.Spelled.{spell}
 use Rattle.registers.specs.Views.{Controls, Acks, Writes}
 
@@ -47,32 +47,32 @@ pub ruleset bits = (lowest-bit, needs)
 
 -- ---- control, acknowledge
 
-module _ (s : List ℕ) (v : ℕ) (long : length s ≡ 32) (a b : Bool) (is-a : a ≡ bit-of 0 v) (is-b : b ≡ bit-of 1 v) where
+module _ (s : List ℕ) (v : ℕ) (long : length s ≡ 36) (a b : Bool) (is-a : a ≡ bit-of 0 v) (is-b : b ≡ bit-of 1 v) where
   pub control-keeps : (on : ℕ) → on ≡ flagOf a → b ≡ false → Controls s v (set s 3 on)
   unfolding worldIn controlled
   control-keeps on o n =
       record {
-        state = λ e r h c. spell (λ w. stateIn (set w 3 on) e r h c) s long ∙ rw (flag-as on a o, ← is-b, n, is-a);
+        state = λ e r h ft st c. spell (λ w. stateIn (set w 3 on) e r h ft st c) s long ∙ rw (flag-as on a o, ← is-b, n, is-a);
         rests = λ resets. absurd (true≢false (sym resets ∙ (sym is-b ∙ n)));
       }
 
   -- the words that a reset sets beside those of work
   abbrev reset-words : ℕ → List ℕ → List ℕ
-  reset-words on w = set (set (set (set (set (set w 3 on) 5 0) 6 0) 7 0) 12 0) 25 0
+  reset-words on w = set (set (set (set (set (set (set w 3 on) 5 0) 6 0) 7 0) 12 0) 25 0) 32 0
 
-  pub control-resets : (on : ℕ) (s′ : List ℕ) → on ≡ flagOf a → b ≡ true → s′ ≡ rested (set (set (set (set (set (set s 3 on) 5 0) 6 0) 7 0) 12 0) 25 0) → Controls s v s′
+  pub control-resets : (on : ℕ) (s′ : List ℕ) → on ≡ flagOf a → b ≡ true → s′ ≡ rested (set (set (set (set (set (set (set s 3 on) 5 0) 6 0) 7 0) 12 0) 25 0) 32 0) → Controls s v s′
   unfolding worldIn rested controlled reset reset-registers
   control-resets on s′ o n is =
       record {
-        state = λ e r h c.
+        state = λ e r h ft st c.
             rw is
-            (spell (λ w. stateIn (rested (reset-words on w)) e r h c) s long ∙ rw (flag-as on a o, ← is-b, n, is-a, none-live (pick (setIn (getD s 28 0)) h r)));
+            (spell (λ w. stateIn (rested (reset-words on w)) e r h ft st c) s long ∙ rw (flag-as on a o, ← is-b, n, is-a, none-live (pick (setIn (getD s 28 0)) h r), none-used (pick (setIn (getD s 34 0)) st ft)));
         rests = λ resets. rw is (spell (λ w. rested (reset-words on w)) s long ∙ sym (spell (λ w. rested (rested (reset-words on w))) s long));
       }
 
   pub acks : (x y : ℕ) → setIn x ≡ (setIn (getD s 6 0) && not a) → setIn y ≡ (setIn (getD s 7 0) && not b) → Acks s v (set (set s 6 x) 7 y)
   unfolding worldIn
-  acks x y p q = record { state = λ e r h c. spell (λ w. stateIn (set (set w 6 x) 7 y) e r h c) s long ∙ rw (p, q, is-a, is-b) }
+  acks x y p q = record { state = λ e r h ft st c. spell (λ w. stateIn (set (set w 6 x) 7 y) e r h ft st c) s long ∙ rw (p, q, is-a, is-b) }
 
 pub ruleset controlling = (control-keeps, control-resets, acks, needs)
 
@@ -81,10 +81,10 @@ pub ruleset controlling = (control-keeps, control-resets, acks, needs)
 module _ (s : List ℕ) (offset v : ℕ) where
   -- what is found at k
   found-at : (k : ℕ) (f : State → State) (s′ : List ℕ) → offset ≡ k → ((x : State) → call-write x k v ≡ record { answer = done; state = f x })
-      → ((e r h c : List ℕ) → stateIn s′ e r h c ≡ f (stateIn s e r h c)) → Writes s offset v done s′
+      → ((e r h ft st c : List ℕ) → stateIn s′ e r h ft st c ≡ f (stateIn s e r h ft st c)) → Writes s offset v done s′
   found-at k f s′ o w p =
       record {
-        wrote = λ e r h c. ap (λ (x : State). record { answer = done; state = x }) (p e r h c) ∙ (sym (w (stateIn s e r h c)) ∙ rw o);
+        wrote = λ e r h ft st c. ap (λ (x : State). record { answer = done; state = x }) (p e r h ft st c) ∙ (sym (w (stateIn s e r h ft st c)) ∙ rw o);
         still = λ refused. absurd (refused refl);
       }
 
@@ -100,39 +100,39 @@ module _ (s : List ℕ) (offset v : ℕ) where
   unfolding call-write write-of
   writes-nothing p =
       record {
-        wrote = λ e r h c. rw (missed write-offset offset (Unit {0}) (writable (stateIn s e r h c) v) (p (stateIn s e r h c)) .1);
+        wrote = λ e r h ft st c. rw (missed write-offset offset (Unit {0}) (writable (stateIn s e r h ft st c) v) (p (stateIn s e r h ft st c)) .1);
         still = λ refused. refl;
       }
 
-  module _ (long : length s ≡ 32) where
+  module _ (long : length s ≡ 36) where
     pub writes-doorbell : offset ≡ 0x200 → Writes s offset v done (set s 12 1)
     unfolding call-write write-of lookup worldIn
-    writes-doorbell o = found-at 0x200 (λ x. with-regs (with-doorbell (x .regs)) x) (set s 12 1) o (λ x. refl) (λ e r h c. spell (λ w. stateIn (set w 12 1) e r h c) s long)
+    writes-doorbell o = found-at 0x200 (λ x. with-regs (with-doorbell (x .regs)) x) (set s 12 1) o (λ x. refl) (λ e r h ft st c. spell (λ w. stateIn (set w 12 1) e r h ft st c) s long)
 
     module _ (x : ℕ) where
       pub writes-ring-low : offset ≡ 0x100 → x ≡ with-low v (getD s 1 0) → Writes s offset v done (set s 1 x)
       unfolding call-write write-of lookup worldIn
-      writes-ring-low o p = found-at 0x100 (λ y. with-regs (with-ring (with-low v (y .regs .ring)) (y .regs)) y) (set s 1 x) o (λ y. refl) (λ e r h c. spell (λ w. stateIn (set w 1 x) e r h c) s long ∙ rw p)
+      writes-ring-low o p = found-at 0x100 (λ y. with-regs (with-ring (with-low v (y .regs .ring)) (y .regs)) y) (set s 1 x) o (λ y. refl) (λ e r h ft st c. spell (λ w. stateIn (set w 1 x) e r h ft st c) s long ∙ rw p)
 
       pub writes-ring-high : offset ≡ 0x104 → x ≡ with-high v (getD s 1 0) → Writes s offset v done (set s 1 x)
       unfolding call-write write-of lookup worldIn
-      writes-ring-high o p = found-at 0x104 (λ y. with-regs (with-ring (with-high v (y .regs .ring)) (y .regs)) y) (set s 1 x) o (λ y. refl) (λ e r h c. spell (λ w. stateIn (set w 1 x) e r h c) s long ∙ rw p)
+      writes-ring-high o p = found-at 0x104 (λ y. with-regs (with-ring (with-high v (y .regs .ring)) (y .regs)) y) (set s 1 x) o (λ y. refl) (λ e r h ft st c. spell (λ w. stateIn (set w 1 x) e r h ft st c) s long ∙ rw p)
 
       pub writes-page-low : offset ≡ 0x120 → x ≡ with-low v (getD s 4 0) → Writes s offset v done (set s 4 x)
       unfolding call-write write-of lookup worldIn
-      writes-page-low o p = found-at 0x120 (λ y. with-regs (with-page (with-low v (y .regs .fencepage)) (y .regs)) y) (set s 4 x) o (λ y. refl) (λ e r h c. spell (λ w. stateIn (set w 4 x) e r h c) s long ∙ rw p)
+      writes-page-low o p = found-at 0x120 (λ y. with-regs (with-page (with-low v (y .regs .fencepage)) (y .regs)) y) (set s 4 x) o (λ y. refl) (λ e r h ft st c. spell (λ w. stateIn (set w 4 x) e r h ft st c) s long ∙ rw p)
 
       pub writes-page-high : offset ≡ 0x124 → x ≡ with-high v (getD s 4 0) → Writes s offset v done (set s 4 x)
       unfolding call-write write-of lookup worldIn
-      writes-page-high o p = found-at 0x124 (λ y. with-regs (with-page (with-high v (y .regs .fencepage)) (y .regs)) y) (set s 4 x) o (λ y. refl) (λ e r h c. spell (λ w. stateIn (set w 4 x) e r h c) s long ∙ rw p)
+      writes-page-high o p = found-at 0x124 (λ y. with-regs (with-page (with-high v (y .regs .fencepage)) (y .regs)) y) (set s 4 x) o (λ y. refl) (λ e r h ft st c. spell (λ w. stateIn (set w 4 x) e r h ft st c) s long ∙ rw p)
 
       pub writes-ringsize : offset ≡ 0x108 → (x ≡ v) × (x < 4294967296) → Writes s offset v done (set s 2 x)
       unfolding call-write write-of lookup worldIn
-      writes-ringsize o p = found-at 0x108 (λ y. with-regs (with-ringsize v (y .regs)) y) (set s 2 x) o (λ y. refl) (λ e r h c. spell (λ w. stateIn (set w 2 x) e r h c) s long ∙ rw (small-as x v p))
+      writes-ringsize o p = found-at 0x108 (λ y. with-regs (with-ringsize v (y .regs)) y) (set s 2 x) o (λ y. refl) (λ e r h ft st c. spell (λ w. stateIn (set w 2 x) e r h ft st c) s long ∙ rw (small-as x v p))
 
       pub writes-irqenable : offset ≡ 0x304 → (x ≡ v) × (x < 4294967296) → Writes s offset v done (set s 8 x)
       unfolding call-write write-of lookup worldIn
-      writes-irqenable o p = found-at 0x304 (λ y. with-regs (with-irqenable v (y .regs)) y) (set s 8 x) o (λ y. refl) (λ e r h c. spell (λ w. stateIn (set w 8 x) e r h c) s long ∙ rw (small-as x v p))
+      writes-irqenable o p = found-at 0x304 (λ y. with-regs (with-irqenable v (y .regs)) y) (set s 8 x) o (λ y. refl) (λ e r h ft st c. spell (λ w. stateIn (set w 8 x) e r h ft st c) s long ∙ rw (small-as x v p))
 
 pub ruleset rewriting = (
   writes-control,

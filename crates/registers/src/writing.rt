@@ -13,6 +13,7 @@ use run_state::IRQ_ENABLE;
 use run_state::LIVE;
 use run_state::RING;
 use run_state::RING_SIZE;
+use run_state::TOKENS;
 use run_state::Words;
 use run_state::flag;
 use run_state::rest;
@@ -67,6 +68,7 @@ fn control(words: &mut Words, value: u32)
         words[FAILED] = 0;
         words[DOORBELL] = 0;
         words[LIVE] = 0;
+        words[TOKENS] = 0;
         rest(words);
     }
 }

@@ -1,3 +1,4 @@
 pub mod Rows
 pub mod Keys
 pub mod Finding
+pub mod Renaming

@@ -1,4 +1,4 @@
--- 01, "Layouts", and the "House layouts" of 02, wish 7: where each field stands. Bytes not named are ignored.
+-- 01, "Layouts", and the "House layouts" of 02, wishes 5 and 7: where each field stands. Bytes not named are ignored.
 use mathlib.Core.Bool.{Bool}
 use mathlib.Core.List.{List, [], _∷_, _++_}
 use Prim.Native.Nat.{ℕ, _+_, _-_, _/_}
@@ -22,6 +22,9 @@ use Rattle.rules.specs.declared.SetTarget.{SetTarget}
 use Rattle.rules.specs.declared.SetViewport.{SetViewport}
 use Rattle.rules.specs.declared.SetScissor.{SetScissor}
 use Rattle.rules.specs.declared.ClearValues.{ClearValues}
+use Rattle.rules.specs.declared.ExportSurface.{ExportSurface}
+use Rattle.rules.specs.declared.ImportSurface.{ImportSurface}
+use Rattle.rules.specs.declared.ReleaseToken.{ReleaseToken}
 
 -- a u32 and a u64 at a byte offset
 abbrev pub word : List ℕ → ℕ → ℕ
@@ -189,6 +192,21 @@ clear-fields b =
       depth = float-of (word b 28);
       stencil = word b 32;
     }
+
+-- ---- those of 02, wish 5
+
+-- "1808 export and 1809 import, 24 bytes, handle at 8 and token at 16"
+unfoldable pub export-fields : List ℕ → ExportSurface
+export-fields b = record { handle = word b 8; token = long b 16 }
+
+unfoldable pub import-fields : List ℕ → ImportSurface
+import-fields b = record { handle = word b 8; token = long b 16 }
+
+-- "1810 release, 16 bytes, token at 8"
+unfoldable pub release-fields : List ℕ → ReleaseToken
+release-fields b = record { token = long b 8 }
+
+-- ---- the fence page
 
 -- "Fence page, 16 bytes: 0 "FENC", 4 version 65539, 8 completed fence u64."
 unfoldable pub page-bytes : ℕ → List ℕ

@@ -10,6 +10,7 @@ pub mod Stream
 pub mod Ring
 pub mod Shapes
 pub mod StatePackets
+pub mod Names
 pub mod Packets
 pub mod State
 pub mod Settle

@@ -57,21 +57,36 @@ bad-copy = 26
 abbrev pub host-failed : ℕ
 host-failed = 27
 
+-- "28 and 29 join 01's errors" (02, wish 5): what export says of a token, and what import and release say
+abbrev pub bad-token : ℕ
+bad-token = 28
+
+abbrev pub unbound-token : ℕ
+unbound-token = 29
+
 -- "Error 30" (02, wish 7)
 abbrev pub bad-state : ℕ
 bad-state = 30
 
--- ---- places
+-- ---- what stands for a place or a name that there is not
 
 -- "else 0" (02, wish 9): what stands for a place where no entry and no packet broke a rule
 abbrev pub no-place : ℕ
 no-place = 0
 
+-- what stands for a name where there is none: a token that has it is spent
+abbrev pub no-name : ℕ
+no-name = 0
+
 -- ---- limits
 
--- entries of a table, live resources, records of a submission
+-- entries of a table, names of live resources, records of a submission
 abbrev pub most : ℕ
 most = 64
+
+-- "At most 256 tokens" (02, wish 5)
+abbrev pub most-tokens : ℕ
+most-tokens = 256
 
 -- "a power of two, 1 to 1,024": 2 to the tenth at most
 abbrev pub slot-doublings : ℕ
@@ -157,6 +172,16 @@ set-scissor = 1026
 abbrev pub clear : ℕ
 clear = 1536
 
+-- those of 02, wish 5
+abbrev pub export-surface : ℕ
+export-surface = 1808
+
+abbrev pub import-surface : ℕ
+import-surface = 1809
+
+abbrev pub release-token : ℕ
+release-token = 1810
+
 -- ---- the bytes of each packet that we know
 
 abbrev pub create-buffer-size : ℕ
@@ -185,6 +210,15 @@ set-scissor-size = 24
 
 abbrev pub clear-size : ℕ
 clear-size = 36
+
+abbrev pub export-surface-size : ℕ
+export-surface-size = 24
+
+abbrev pub import-surface-size : ℕ
+import-surface-size = 24
+
+abbrev pub release-token-size : ℕ
+release-token-size = 16
 
 -- ---- kinds of record
 

@@ -6,7 +6,7 @@ use lib.Dec.{eqb}
 use Rattle.machine.specs.Machine.{pick}
 use Rattle.rules.specs.Numbers.{device-magic, version, features}
 use Rattle.rules.specs.Lists.{Found, lookup}
-use Rattle.rules.specs.State.{State, with-written, with-reported, with-regs}
+use Rattle.rules.specs.State.{State, nothing-owned, with-written, with-reported, with-regs}
 use Rattle.rules.specs.State.Work.{resting}
 use Rattle.rules.specs.declared.Registers.{Registers}
 
@@ -108,10 +108,11 @@ acknowledged v r =
 unfoldable pub reset-registers : Bool → Registers → Registers
 reset-registers enabled r = with-reported (with-enabled enabled r) 0 false false (r .error) false
 
--- "Bit 1 resets: the submission in work is dropped without fence, head or error; resources .. become empty"
+-- "Bit 1 resets: the submission in work is dropped without fence, head or error; resources .. become empty"; tokens are
+-- "forgotten at reset" (02, wish 5)
 unfoldable pub reset : Bool → State → State
 reset enabled s =
-    record { memory = s .memory; regs = reset-registers enabled (s .regs); resources = []; work = resting }
+    record { memory = s .memory; regs = reset-registers enabled (s .regs); belongings = nothing-owned; work = resting }
 
 -- "Control bit 0 enables. Bit 1 resets ..; bit 0 is taken from the same write .. Other bits are dropped."
 unfoldable pub controlled : ℕ → State → State

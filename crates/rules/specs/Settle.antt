@@ -12,10 +12,10 @@ use Rattle.rules.specs.Bytes.{bytesOf}
 use Rattle.rules.specs.Lists.{over}
 use Rattle.rules.specs.Layouts.{head-offset, page-bytes}
 use Rattle.rules.specs.Shapes.{larger}
+use Rattle.rules.specs.Packets.{Belongings}
 use Rattle.rules.specs.State.{World, with-reported, registering}
 use Rattle.rules.specs.State.Work.{resting}
 use Rattle.rules.specs.declared.Registers.{Registers}
-use Rattle.rules.specs.declared.Resource.{Resource}
 use Rattle.rules.specs.declared.Job.{Job}
 use Rattle.rules.specs.declared.Fault.{Fault}
 
@@ -70,22 +70,22 @@ marked j r m = page-written r (head-written j m)
 
 -- ---- the whole of it
 
--- a submission settled with what was found, and with these resources the device's from now on
-unfoldable pub settled : Job → Finding → List Resource → World → World
-settled j v resources w =
+-- a submission settled with what was found, and with these belongings the device's from now on
+unfoldable pub settled : Job → Finding → Belongings → World → World
+settled j v belongings w =
     record {
       state = record {
         memory = w .state .memory;
         regs = ended-by j v (w .state .regs);
-        resources = resources;
+        belongings = belongings;
         work = resting;
       };
       mem = marked j (ended-by j v (w .state .regs)) (w .mem);
     }
 
--- "otherwise those before it stay": after a refusal, and after the answer "failed"
+-- "otherwise those before it stay": after a refusal, and after the answer "failed"; it "leaves the tokens, too, as they were before it"
 abbrev pub settled-keeping : Job → Finding → World → World
-settled-keeping j v w = settled j v (w .state .resources) w
+settled-keeping j v w = settled j v (w .state .belongings) w
 
 -- ---- openings that settle nothing
 

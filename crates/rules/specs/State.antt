@@ -2,11 +2,10 @@
 use mathlib.Core.Bool.{Bool, false}
 use mathlib.Core.List.{List, []}
 use Prim.Native.Nat.{ℕ}
-use Rattle.rules.specs.Packets.{Progress}
+use Rattle.rules.specs.Packets.{Progress, Belongings}
 use Rattle.rules.specs.declared.LastError.{LastError}
 use Rattle.rules.specs.declared.Registers.{Registers}
 use Rattle.rules.specs.declared.Entry.{Entry}
-use Rattle.rules.specs.declared.Resource.{Resource}
 use Rattle.rules.specs.declared.Job.{Job}
 use Rattle.rules.specs.declared.Stream.{Stream}
 use Rattle.rules.specs.declared.Opened.{Opened}
@@ -26,7 +25,7 @@ pub record State : Type 0 where
   -- "made for one memory length"
   pub memory : ℕ
   pub regs : Registers
-  pub resources : List Resource
+  pub belongings : Belongings
   pub work : Work
 
 pub record World : Type 0 where
@@ -67,16 +66,19 @@ no-error = record { code = 0; fence = 0; count = 0; detail = 0 }
 abbrev pub fresh : Registers
 fresh = registers-of 0 0 false 0 0 false false 0 no-error false
 
+abbrev pub nothing-owned : Belongings
+nothing-owned = record { resources = []; tokens = [] }
+
 abbrev pub made : ℕ → State
-made memory = record { memory = memory; regs = fresh; resources = []; work = resting }
+made memory = record { memory = memory; regs = fresh; belongings = nothing-owned; work = resting }
 
 -- ---- a state with one part of it another
 
 abbrev pub with-regs : Registers → State → State
-with-regs r s = record { memory = s .memory; regs = r; resources = s .resources; work = s .work }
+with-regs r s = record { memory = s .memory; regs = r; belongings = s .belongings; work = s .work }
 
 abbrev pub with-work : Work → State → State
-with-work k s = record { memory = s .memory; regs = s .regs; resources = s .resources; work = k }
+with-work k s = record { memory = s .memory; regs = s .regs; belongings = s .belongings; work = k }
 
 abbrev pub with-state : State → World → World
 with-state s w = record { state = s; mem = w .mem }

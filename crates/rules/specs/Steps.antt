@@ -12,12 +12,11 @@ use Rattle.rules.specs.Layouts.{stream-header-size}
 use Rattle.rules.specs.Table.{take-entry}
 use Rattle.rules.specs.Stream.{left, frame-of, size-of}
 use Rattle.rules.specs.Ring.{opening-of}
-use Rattle.rules.specs.Packets.{Progress, at-first, take-packet}
+use Rattle.rules.specs.Packets.{Progress, Belongings, at-first, left-by, take-packet}
 use Rattle.rules.specs.State.{Work, State, World, working}
 use Rattle.rules.specs.State.Work.{resting, entries, packets, waiting}
 use Rattle.rules.specs.Settle.{settled, settled-keeping, ring-refused, found-no-work}
 use Rattle.rules.specs.declared.Entry.{Entry}
-use Rattle.rules.specs.declared.Resource.{Resource}
 use Rattle.rules.specs.declared.Job.{Job}
 use Rattle.rules.specs.declared.Stream.{Stream}
 use Rattle.rules.specs.declared.Opened.{Opened}
@@ -31,10 +30,10 @@ abbrev pub packets-at : Job → Stream → ℕ → List Entry → Progress → W
 packets-at j s at es h = pick (ltb at (s .size)) (packets j s at es h) (waiting j es h)
 
 -- the next entry, if one is left
-abbrev pub entries-at : Opened → List Entry → List Resource → Work
-entries-at o kept resources =
+abbrev pub entries-at : Opened → List Entry → Belongings → Work
+entries-at o kept belongings =
     pick (ltb (length kept) (o .table .count)) (entries o kept)
-    (packets-at (o .job) (o .stream) stream-header-size kept (at-first resources))
+    (packets-at (o .job) (o .stream) stream-header-size kept (at-first belongings))
 
 -- ---- opening
 
@@ -42,7 +41,7 @@ abbrev pub after-opening : World → Opening → World
 after-opening w BadRing = ring-refused w
 after-opening w NoWork = found-no-work w
 after-opening w (Refused j r) = settled-keeping j (broken (without-place r)) w
-after-opening w (Started o) = working (entries-at o [] (w .state .resources)) w
+after-opening w (Started o) = working (entries-at o [] (w .state .belongings)) w
 
 -- "Ring GPA and size are taken when a submission is opened"
 unfoldable pub open-step : World → World
@@ -51,7 +50,7 @@ open-step w = after-opening w (opening-of (w .mem) (w .state .regs .ring) (w .st
 -- ---- one table entry
 
 abbrev pub after-entry : World → Opened → List Entry → Finding → World
-after-entry w o kept fine = working (entries-at o kept (w .state .resources)) w
+after-entry w o kept fine = working (entries-at o kept (w .state .belongings)) w
 after-entry w o kept (broken f) = settled-keeping (o .job) (broken f) w
 
 -- "the entry index for 14 and 15" (02, wish 9): as many are kept before it
@@ -69,8 +68,7 @@ after-packet w j s next es h (broken f) = settled-keeping j (broken f) w
 abbrev pub next-place : ℕ → List ℕ → ℕ
 next-place at b = at + size-of (frame-of b)
 
--- "the packet's byte offset in the stream for packet errors" (02, wish 9): all that a packet's step raises, 17 of the last bytes and 19 of its
--- records too
+-- "the packet's byte offset in the stream for packet errors" (02, wish 9): all that a packet's step raises, 17 of the last bytes and 19 too
 unfoldable pub packet-step : World → Job → Stream → ℕ → List Entry → Progress → World
 packet-step w j s at es h =
     after-packet w j s (next-place at (left (w .mem) s at)) es (take-packet es h (left (w .mem) s at) .held)
@@ -117,7 +115,7 @@ abbrev pub answer-on : Bool → World → Work → World
 answer-on good w resting = w
 answer-on good w (entries o kept) = w
 answer-on good w (packets j s at es h) = w
-answer-on true w (waiting j es h) = settled j fine (h .holdings .resources) w
+answer-on true w (waiting j es h) = settled j fine (left-by h) w
 answer-on false w (waiting j es h) = settled-keeping j (broken (without-place (refusal host-failed))) w
 
 unfoldable pub answered : Bool → World → World

@@ -77,7 +77,7 @@ submitted-on w NoWork = record { state = found-no-work w; units = 1 }
 submitted-on w (Refused j r) = record { state = settled-keeping j (broken (without-place r)) w; units = 1 }
 submitted-on w (Started o) =
     concluding w (o .job) (entries-of (w .mem) (o .table))
-    (submission (w .mem) o (at-first (w .state .resources)))
+    (submission (w .mem) o (at-first (w .state .belongings)))
 
 -- of a device at rest, enabled and with the flag set
 unfoldable pub submitted : World → Out World

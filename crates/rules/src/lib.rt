@@ -78,7 +78,7 @@ pub struct CreateTexture {
     pub offset: u32,
 }
 
-// A resource that is to go.
+// A name that is to go; its resource goes with the last (02, wish 5).
 pub struct DestroyResource {
     pub handle: u32,
 }
@@ -134,6 +134,23 @@ pub struct ClearValues {
     pub stencil: u32,
 }
 
+// A texture that other programs may reach by a token (02, wish 5).
+pub struct ExportSurface {
+    pub handle: u32,
+    pub token: u64,
+}
+
+// Another name for the texture that a token is bound to.
+pub struct ImportSurface {
+    pub handle: u32,
+    pub token: u64,
+}
+
+// A token that nobody may use any more.
+pub struct ReleaseToken {
+    pub token: u64,
+}
+
 // What the bytes left of a stream begin with: a whole packet, by opcode and size, or none.
 pub enum Frame {
     Whole(u32, u32),
@@ -152,6 +169,9 @@ pub enum Packet {
     Viewport(SetViewport),
     Scissor(SetScissor),
     Clear(ClearValues),
+    Export(ExportSurface),
+    Import(ImportSurface),
+    Release(ReleaseToken),
     NotANumber,
     Unknown,
 }
@@ -170,7 +190,8 @@ pub enum Kind {
     Texture(Shape),
 }
 
-// A live resource. `bytes` is a buffer's size, a backed texture's packed size, and 0 for a host-backed texture, which takes
+// A live resource under one of its names, `handle`. Where it has several, each has the same numbers, and `lowest`, the lowest of them, tells which
+// resource it is. `bytes` is a buffer's size, a backed texture's packed size, and 0 for a host-backed texture, which takes
 // no guest memory. `backing` 0 is host-backed: pitch and offset are then 0.
 pub struct Resource {
     pub handle: u32,
@@ -179,6 +200,13 @@ pub struct Resource {
     pub pitch: u32,
     pub backing: u32,
     pub offset: u32,
+    pub lowest: u32,
+}
+
+// A token that was used since the last reset. `name` is the lowest name of the resource that it is bound to, or 0 once it is spent.
+pub struct Token {
+    pub name: u32,
+    pub token: u64,
 }
 
 // What is handed to the host: a range of guest memory, of kind 1 a backing, 2 to be read, 3 to be written; or, of kind 4, a clipped

@@ -37,10 +37,16 @@ pub const BAD_COPY: u32 = 26;
 
 pub const HOST_FAILED: u32 = 27;
 
+pub const BAD_TOKEN: u32 = 28;
+
+pub const UNBOUND_TOKEN: u32 = 29;
+
 pub const BAD_STATE: u32 = 30;
 
 // ---- limits
 pub const MOST_ROWS: usize = 64;
+
+pub const MOST_TOKENS: usize = 256;
 
 pub const LONGEST_SIDE: u32 = 16384;
 
@@ -100,6 +106,12 @@ pub const SET_SCISSOR: u32 = 1026;
 
 pub const CLEAR: u32 = 1536;
 
+pub const EXPORT_SURFACE: u32 = 1808;
+
+pub const IMPORT_SURFACE: u32 = 1809;
+
+pub const RELEASE_TOKEN: u32 = 1810;
+
 // ---- the bytes of each packet that we know
 pub const CREATE_BUFFER_SIZE: u32 = 40;
 
@@ -118,6 +130,12 @@ pub const SET_VIEWPORT_SIZE: u32 = 32;
 pub const SET_SCISSOR_SIZE: u32 = 24;
 
 pub const CLEAR_SIZE: u32 = 36;
+
+pub const EXPORT_SURFACE_SIZE: u32 = 24;
+
+pub const IMPORT_SURFACE_SIZE: u32 = 24;
+
+pub const RELEASE_TOKEN_SIZE: u32 = 16;
 
 // ---- kinds of record
 pub const BACKS: u32 = 1;

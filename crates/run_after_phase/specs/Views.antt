@@ -2,7 +2,7 @@
 use mathlib.Core.Path.{_≡_}
 use mathlib.Core.List.{List}
 use Prim.Native.Nat.{ℕ}
-use lib.ListN.{length, getD}
+use lib.ListN.{length}
 use Rattle.rules.specs.Judging.{fault-at}
 use Rattle.rules.specs.Judging.Finding.{broken}
 use Rattle.rules.specs.Layouts.{stream-header-size}
@@ -21,12 +21,12 @@ use Rattle.run_entries.specs.Entries.{Reading, readingOf}
 use Rattle.run_entries.specs.declared.entries.EntriesPlace.{EntriesPlace}
 use Rattle.run_packets.specs.Playing.{Playing, playingOf}
 use Rattle.run_packets.specs.declared.PacketsPlace.{PacketsPlace}
-use Rattle.run_state.specs.Views.{jobIn, streamIn, openedIn, keptIn, worldIn, bareIn}
+use Rattle.run_state.specs.Views.{jobIn, streamIn, openedIn, keptIn, worldIn, bareIn, sidesIn}
 
 -- a device whose entries have come so far
 abbrev pub laid-on : World → Opened → List Entry → Ending → World
 laid-on w o kept Going = working (entries o kept) w
-laid-on w o kept Done = working (packets-at (o .job) (o .stream) stream-header-size kept (at-first (w .state .resources))) w
+laid-on w o kept Done = working (packets-at (o .job) (o .stream) stream-header-size kept (at-first (w .state .belongings))) w
 laid-on w o kept (Broken r) = settled-keeping (o .job) (broken (fault-at (length kept) r)) w
 
 abbrev pub laid : World → Opened → Reading → World
@@ -41,12 +41,12 @@ played-on w j t es s (Broken r) = settled-keeping j (broken (fault-at (s .at) r)
 abbrev pub played : World → Job → Stream → List Entry → Playing → World
 played w j t es s = played-on w j t es s (s .ending)
 
--- ---- on the words, whatever the rows are; the same table stays the device's
+-- ---- on the words, whatever the rows are; the same tables stay the device's
 
 pub record LandsEntries (s : List ℕ) (p : EntriesPlace) (m s′ m′ : List ℕ) : Type 0 where
-  pub world : (e r h c : List ℕ) → worldIn s′ e r h c m′ ≡ laid (bareIn s r m) (openedIn s) (readingOf p e)
-  pub side : getD s′ 28 0 ≡ getD s 28 0
+  pub world : (e r h dt ot c : List ℕ) → worldIn s′ e r h dt ot c m′ ≡ laid (bareIn s r dt m) (openedIn s) (readingOf p e)
+  pub side : sidesIn s′ ≡ sidesIn s
 
 pub record LandsPackets (s : List ℕ) (p : PacketsPlace) (m s′ m′ : List ℕ) : Type 0 where
-  pub world : (e r h c : List ℕ) → worldIn s′ e r h c m′ ≡ played (bareIn s r m) (jobIn s) (streamIn s) (keptIn s e) (playingOf p r h c)
-  pub side : getD s′ 28 0 ≡ getD s 28 0
+  pub world : (e r h dt ot c : List ℕ) → worldIn s′ e r h dt ot c m′ ≡ played (bareIn s r dt m) (jobIn s) (streamIn s) (keptIn s e) (playingOf p r h dt ot c)
+  pub side : sidesIn s′ ≡ sidesIn s

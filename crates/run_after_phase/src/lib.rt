@@ -1,5 +1,5 @@
 // Where a phase has come to, on the device's words: going on, done, or broken by a rule. A refusal settles within its unit, and the
-// device's resources stay as they were.
+// device's resources and tokens stay as they were.
 use rules::Fault;
 use run_begin::begin_packets;
 use run_entries::ending::DONE;
@@ -9,6 +9,7 @@ use run_packets::PacketsPlace;
 use run_settle::settle_refused;
 use run_state::COPIED;
 use run_state::HELD;
+use run_state::HELD_TOKENS;
 use run_state::KEPT;
 use run_state::MADE;
 use run_state::PLACE;
@@ -16,16 +17,16 @@ use run_state::STREAM_GPA;
 use run_state::STREAM_SIZE;
 use run_state::TAG;
 use run_state::TARGET;
+use run_state::TOKENS_COPIED;
 use run_state::WAITING;
 use run_state::Words;
-use run_state::flag;
 use widths::u32_to_word;
 use widths::usize_to_word;
 use words::low32;
 ghost use mathlib.Core.Path.{_≡_};
 ghost use Prim.Native.Nat.{_≤_};
 ghost use Rattle.rules.specs.Judging.{refusal, fault-at};
-ghost use Rattle.rules.specs.Numbers.{most};
+ghost use Rattle.rules.specs.Numbers.{most, most-tokens};
 ghost use Rattle.run_state.specs.Views.{tagIn};
 ghost use Rattle.run_after_phase.specs.Views.{LandsEntries, LandsPackets};
 
@@ -57,15 +58,18 @@ pub fn land_entries(words: &mut Words, p: EntriesPlace, mem: &mut [u8])
 
 // The packets at a place. A submission that waits has no word of its stream left.
 pub fn land_packets(words: &mut Words, p: PacketsPlace, mem: &mut [u8])
-    requires { ⌜ (tagIn (now words) ≡ 2) × (p .held .live ≤ most) × (p .held .made ≤ most) ⌝ }
+    requires { ⌜ (tagIn (now words) ≡ 2) × (p .held .live ≤ most) × (p .held .made ≤ most) × (p .held .tokens .used ≤ most-tokens) ⌝ }
     ensures { λ _. ⌜ LandsPackets (now (words .entry)) p (now (mem .entry)) (now (words .exit)) (now (mem .exit)) ⌝ }
 {
     let held = p.held;
     let at = usize_to_word(p.at);
     let live = usize_to_word(held.live);
     let made = usize_to_word(held.made);
-    let copied = flag(held.copied);
+    let copied = u32_to_word(held.copied);
     let target = u32_to_word(held.target);
+    let tokens = held.tokens;
+    let used = u32_to_word(tokens.used);
+    let own = u32_to_word(tokens.copied);
     if p.ending == GOING {
         let all = &words[..];
         words[PLACE] = at;
@@ -73,6 +77,8 @@ pub fn land_packets(words: &mut Words, p: PacketsPlace, mem: &mut [u8])
         words[MADE] = made;
         words[COPIED] = copied;
         words[TARGET] = target;
+        words[HELD_TOKENS] = used;
+        words[TOKENS_COPIED] = own;
         return;
     }
     if p.ending == DONE {
@@ -85,6 +91,8 @@ pub fn land_packets(words: &mut Words, p: PacketsPlace, mem: &mut [u8])
         words[MADE] = made;
         words[COPIED] = copied;
         words[TARGET] = target;
+        words[HELD_TOKENS] = used;
+        words[TOKENS_COPIED] = own;
         return;
     }
     settle_refused(words, mem, fault(p.why, p.at));

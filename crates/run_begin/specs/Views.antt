@@ -2,7 +2,6 @@
 use mathlib.Core.Path.{_≡_}
 use mathlib.Core.List.{List, []}
 use Prim.Native.Nat.{ℕ}
-use lib.ListN.{getD}
 use Rattle.rules.specs.Layouts.{stream-header-size}
 use Rattle.rules.specs.Packets.{at-first}
 use Rattle.rules.specs.State.{working}
@@ -11,26 +10,26 @@ use Rattle.rules.specs.Steps.{packets-at, entries-at}
 use Rattle.rules.specs.declared.Job.{Job}
 use Rattle.rules.specs.declared.Opened.{Opened}
 use Rattle.kept_entries.specs.Views.{entriesOf}
-use Rattle.run_state.specs.Views.{jobIn, streamIn, openedIn, resourcesIn, worldIn, bareIn}
+use Rattle.run_state.specs.Views.{jobIn, streamIn, openedIn, belongingsIn, worldIn, bareIn, sidesIn}
 
 -- the packets come next, after so many entries; the same table stays the device's
 pub record Begins (s : List ℕ) (kept : ℕ) (s′ : List ℕ) : Type 0 where
-  pub world : (e r h c m : List ℕ) → worldIn s′ e r h c m ≡ working (packets-at (jobIn s) (streamIn s) stream-header-size (entriesOf kept e) (at-first (resourcesIn s r))) (bareIn s r m)
-  pub side : getD s′ 28 0 ≡ getD s 28 0
+  pub world : (e r h dt ot c m : List ℕ) → worldIn s′ e r h dt ot c m ≡ working (packets-at (jobIn s) (streamIn s) stream-header-size (entriesOf kept e) (at-first (belongingsIn s r dt))) (bareIn s r dt m)
+  pub side : sidesIn s′ ≡ sidesIn s
 
 -- the job is kept, and all else stays
 pub record StoresJob (s : List ℕ) (j : Job) (s′ : List ℕ) : Type 0 where
   pub job : jobIn s′ ≡ j
-  pub bare : (r m : List ℕ) → bareIn s′ r m ≡ bareIn s r m
-  pub side : getD s′ 28 0 ≡ getD s 28 0
+  pub bare : (r dt m : List ℕ) → bareIn s′ r dt m ≡ bareIn s r dt m
+  pub side : sidesIn s′ ≡ sidesIn s
 
 -- what was opened is kept, and its entries come next
 pub record StoresOpened (s : List ℕ) (o : Opened) (s′ : List ℕ) : Type 0 where
   pub opened : openedIn s′ ≡ o
-  pub bare : (r m : List ℕ) → bareIn s′ r m ≡ bareIn s r m
-  pub world : (e r h c m : List ℕ) → worldIn s′ e r h c m ≡ working (entries o []) (bareIn s r m)
-  pub side : getD s′ 28 0 ≡ getD s 28 0
+  pub bare : (r dt m : List ℕ) → bareIn s′ r dt m ≡ bareIn s r dt m
+  pub world : (e r h dt ot c m : List ℕ) → worldIn s′ e r h dt ot c m ≡ working (entries o []) (bareIn s r dt m)
+  pub side : sidesIn s′ ≡ sidesIn s
 
 pub record Starts (s : List ℕ) (o : Opened) (s′ : List ℕ) : Type 0 where
-  pub world : (e r h c m : List ℕ) → worldIn s′ e r h c m ≡ working (entries-at o [] (resourcesIn s r)) (bareIn s r m)
-  pub side : getD s′ 28 0 ≡ getD s 28 0
+  pub world : (e r h dt ot c m : List ℕ) → worldIn s′ e r h dt ot c m ≡ working (entries-at o [] (belongingsIn s r dt)) (bareIn s r dt m)
+  pub side : sidesIn s′ ≡ sidesIn s

@@ -6,6 +6,7 @@ use rules::numbers::STREAM_HEADER_SIZE;
 use run_state::COPIED;
 use run_state::ENTRIES;
 use run_state::HELD;
+use run_state::HELD_TOKENS;
 use run_state::JOB_HEAD;
 use run_state::JOB_RING;
 use run_state::JOB_SIGNAL;
@@ -22,6 +23,8 @@ use run_state::TABLE_GPA;
 use run_state::TABLE_STRIDE;
 use run_state::TAG;
 use run_state::TARGET;
+use run_state::TOKENS;
+use run_state::TOKENS_COPIED;
 use run_state::WAITING;
 use run_state::Words;
 use run_state::flag;
@@ -32,13 +35,14 @@ ghost use Prim.Native.Nat.{_≤_};
 ghost use Rattle.rules.specs.Numbers.{most};
 ghost use Rattle.run_begin.specs.Views.{Begins, StoresJob, StoresOpened, Starts};
 
-// The packets come next, after so many entries: the submission holds the device's resources and no record, and has no target. Of its table no
+// The packets come next, after so many entries: the submission holds the device's resources and tokens and no record, and has no target. Of its table no
 // word is left, and of its stream none where no packet comes.
 pub fn begin_packets(words: &mut Words, kept: usize)
     requires { ⌜ kept ≤ most ⌝ }
     ensures { λ _. ⌜ Begins (now (words .entry)) kept (now (words .exit)) ⌝ }
 {
     let live = words[LIVE];
+    let used = words[TOKENS];
     let size = low32(words[STREAM_SIZE]);
     let n = usize_to_word(kept);
     let all = &words[..];
@@ -50,6 +54,8 @@ pub fn begin_packets(words: &mut Words, kept: usize)
     words[MADE] = 0;
     words[COPIED] = 0;
     words[TARGET] = 0;
+    words[HELD_TOKENS] = used;
+    words[TOKENS_COPIED] = 0;
     if STREAM_HEADER_SIZE < size {
         words[PLACE] = STREAM_HEADER_SIZE as u64;
         words[TAG] = PACKETS;

@@ -68,9 +68,9 @@ pub ruleset parting = (part-none, part-short, part-fits, part-whole, needs)
 
 -- ---- play
 
-pub played-part : (m b : List ℕ) (t : Stream) (end n : ℕ) (e : List ℕ) (p : PacketsPlace) (r l c : List ℕ) (left : ℕ) (x : PacketsRun) (l′ c′ : List ℕ) → b ≡ stream-bytes m t → end ≡ t .size
-    → PacketsRan b end n (tables e r l c) p left x (tables e r l′ c′) → PacketsRan (stream-bytes m t) (t .size) n (tables e r l c) p left x (tables e r l′ c′)
-played-part m b t end n e p r l c left x l′ c′ same long h = rw (← same, ← long) h
+pub played-part : (m b : List ℕ) (t : Stream) (end n : ℕ) (e : List ℕ) (p : PacketsPlace) (r l dt ot c : List ℕ) (left : ℕ) (x : PacketsRun) (l′ ot′ c′ : List ℕ) → b ≡ stream-bytes m t → end ≡ t .size
+    → PacketsRan b end n (tables e r l dt ot c) p left x (tables e r l′ dt ot′ c′) → PacketsRan (stream-bytes m t) (t .size) n (tables e r l dt ot c) p left x (tables e r l′ dt ot′ c′)
+played-part m b t end n e p r l dt ot c left x l′ ot′ c′ same long h = rw (← same, ← long) h
 
 pub ruleset playing = (played-part, needs)
 
@@ -103,7 +103,7 @@ module _ (w : World) (on : w .state .regs .enabled ≡ true) (o : Opened) where
   unfolding settled
   read-lays k n kept Fine same = by-test (ltb (length kept) (o .table .count))
     where
-      by-test : (b : Bool) → working (pick b (entries o kept) (packets-at (o .job) (o .stream) stream-header-size kept (at-first (w .state .resources)))) (working k w) ≡ laid-on w o kept (pick b Going Done)
+      by-test : (b : Bool) → working (pick b (entries o kept) (packets-at (o .job) (o .stream) stream-header-size kept (at-first (w .state .belongings)))) (working k w) ≡ laid-on w o kept (pick b Going Done)
       by-test true = refl
       by-test false = refl
   read-lays k n kept (BrokenRule r) same = rw (same r refl)

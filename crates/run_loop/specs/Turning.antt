@@ -8,7 +8,7 @@ use borrow.Author.Needs.{needs}
 use lib.ListN.{getD}
 use Rattle.machine.specs.Machine.{spent, loop-start, loop-out}
 use Rattle.machine.specs.Within.{turned-stop, turned-step, turned-phase, turns-on, turns-stop}
-use Rattle.rules.specs.Numbers.{most}
+use Rattle.rules.specs.Numbers.{most, most-tokens}
 use Rattle.rules.specs.Stream.{stream-bytes}
 use Rattle.rules.specs.State.{working}
 use Rattle.rules.specs.State.Work.{entries, packets}
@@ -16,7 +16,7 @@ use Rattle.rules.specs.Steps.{go, step, after-opening, open-step, run-for}
 use Rattle.rules.specs.Ring.{opening-of}
 use Rattle.rules.specs.declared.Table.{Table}
 use Rattle.rules.specs.declared.Stream.{Stream}
-use Rattle.packet_ranges.specs.Views.{RowsExist}
+use Rattle.packet_apply.specs.Apply.{RoomFor}
 use Rattle.run_entries.specs.Ending.{is-going, goes}
 use Rattle.run_entries.specs.Entries.{reading-goes, read-step, EntriesRan, from-row, outOf as entriesOut}
 use Rattle.run_entries.specs.declared.entries.EntriesRun.{EntriesRun}
@@ -24,7 +24,7 @@ use Rattle.run_packets.specs.Playing.{playing-goes, play-step, playingOf, Packe
 use Rattle.run_packets.specs.declared.PacketsPlace.{PacketsPlace}
 use Rattle.run_packets.specs.declared.PacketsRun.{PacketsRun}
 use Rattle.kept_resources.specs.Views.{tables}
-use Rattle.run_state.specs.Views.{setIn, smallIn, countIn, registersIn, tagIn, jobIn, tableIn, streamIn, openedIn, placeIn, keptIn, heldIn, worldIn, bareIn}
+use Rattle.run_state.specs.Views.{setIn, smallIn, countIn, tokenCountIn, registersIn, tagIn, jobIn, tableIn, streamIn, openedIn, placeIn, keptIn, heldIn, worldIn, bareIn, sidesIn}
 use Rattle.run_state.specs.Reading.{unset, is-set}
 use Rattle.run_state.specs.Stages.{waits-in}
 use Rattle.run_after_phase.specs.Views.{laid, LandsEntries, played, LandsPackets}
@@ -34,12 +34,12 @@ use Rattle.run_loop.specs.Views.{HeldIn, TurnOf, EntriesTurn, PacketsTur
 use Rattle.run_loop.specs.Phases.{entries-go, entries-step, packets-go, packets-step}
 
 -- a device in some work is the bare one with that work
-module _ (s e r h c m : List ℕ) where
-  works-entries : tagIn s ≡ 1 → worldIn s e r h c m ≡ working (entries (openedIn s) (keptIn s e)) (bareIn s r m)
+module _ (s e r h dt ot c m : List ℕ) where
+  works-entries : tagIn s ≡ 1 → worldIn s e r h dt ot c m ≡ working (entries (openedIn s) (keptIn s e)) (bareIn s r dt m)
   unfolding worldIn
   works-entries i = rw i
 
-  works-packets : tagIn s ≡ 2 → worldIn s e r h c m ≡ working (packets (jobIn s) (streamIn s) (placeIn s) (keptIn s e) (heldIn s r h c)) (bareIn s r m)
+  works-packets : tagIn s ≡ 2 → worldIn s e r h dt ot c m ≡ working (packets (jobIn s) (streamIn s) (placeIn s) (keptIn s e) (heldIn s r h dt ot c)) (bareIn s r dt m)
   unfolding worldIn
   works-packets i = rw i
 
@@ -49,12 +49,12 @@ module _ (s s′ m e m′ e′ : List ℕ) (left n : ℕ) (t : Table) (x : Entri
   pub entries-turned : t ≡ tableIn s → (n ≡ countIn (getD s 24 0)) × (n ≤ most) → EntriesRan m t n e left x e′ → LandsEntries s (x .place) m s′ m′ → EntriesTurn s left m e (x .units) s′ m′ e′
   entries-turned is-t is-n ran lands =
       record {
-        turn = λ on r h c.
+        turn = λ on r h dt ot c.
             record {
               turned =
-                  turned-phase go step reading-goes (read-step m (tableIn s)) (laid (bareIn s r m) (openedIn s)) (entries-go (bareIn s r m) on (openedIn s)) (entries-step (bareIn s r m) on (openedIn s)) left
-                  (worldIn s e r h c m) (worldIn s′ e′ r h c m′) (from-row (countIn (getD s 24 0)) e) (entriesOut x e′) (pre .1) refl (works-entries s e r h c m (pre .0))
-                  (rw (is-t, is-n .0) at (ran .run)) (lands .world e′ r h c);
+                  turned-phase go step reading-goes (read-step m (tableIn s)) (laid (bareIn s r dt m) (openedIn s)) (entries-go (bareIn s r dt m) on (openedIn s)) (entries-step (bareIn s r dt m) on (openedIn s)) left
+                  (worldIn s e r h dt ot c m) (worldIn s′ e′ r h dt ot c m′) (from-row (countIn (getD s 24 0)) e) (entriesOut x e′) (pre .1) refl (works-entries s e r h dt ot c m (pre .0))
+                  (rw (is-t, is-n .0) at (ran .run)) (lands .world e′ r h dt ot c);
               side = lands .side;
             };
       }
@@ -66,107 +66,108 @@ pub ruleset turning-entries = (entries-turned, entries-land, needs)
 
 -- ---- held_in
 
-pub held-is : (s : List ℕ) (live made target : ℕ) (copied : Bool) → (live ≡ countIn (getD s 26 0)) × (live ≤ most) → (made ≡ countIn (getD s 27 0)) × (made ≤ most)
-    → copied ≡ setIn (getD s 29 0) → target ≡ smallIn (getD s 31 0) → HeldIn s (record { live = live; made = made; copied = copied; target = target })
-held-is s live made target copied a b c d = record { held = λ r h l. rw (a .0, b .0, c, d); live = a .1; made = b .1 }
+pub held-is : (s : List ℕ) (live made target copied : ℕ) → (live ≡ countIn (getD s 26 0)) × (live ≤ most) → (made ≡ countIn (getD s 27 0)) × (made ≤ most)
+    → setIn copied ≡ setIn (getD s 29 0) → target ≡ smallIn (getD s 31 0) → (used own : ℕ) → (used ≡ tokenCountIn (getD s 33 0)) × (used ≤ most-tokens) → setIn own ≡ setIn (getD s 35 0)
+    → HeldIn s (record { live = live; made = made; copied = copied; target = target; tokens = record { used = used; copied = own } })
+held-is s live made target copied a b c d used own i j = record { held = λ r h dt ot l. rw (a .0, b .0, c, d, i .0, j); live = a .1; made = b .1; tokens = i .1 }
 
 pub ruleset finding-held = (held-is, needs)
 
 -- ---- packets_turn
 
-module _ (s s′ m e r h c m′ h′ c′ : List ℕ) (left n at : ℕ) (k : Held) (t : Stream) (x : PacketsRun) (pre : (tagIn s ≡ 2) × (0 < left)) where
+module _ (s s′ m e r h dt ot c m′ h′ ot′ c′ : List ℕ) (left n at : ℕ) (k : Held) (t : Stream) (x : PacketsRun) (pre : (tagIn s ≡ 2) × (0 < left)) where
   abbrev from : PacketsPlace
   from = record { at = at; held = k; ending = 0; why = 0 }
 
   pub packets-turned : t ≡ streamIn s → (n ≡ countIn (getD s 24 0)) × (n ≤ most) → at ≡ getD s 23 0 → HeldIn s k
-      → PacketsRan (stream-bytes m t) (t .size) n (tables e r h c) (record { at = at; held = k; ending = 0; why = 0 }) left x (tables e r h′ c′)
-      → LandsPackets s (x .place) m s′ m′ → PacketsTurn s left m (tables e r h c) (x .units) s′ m′ (tables e r h′ c′)
+      → PacketsRan (stream-bytes m t) (t .size) n (tables e r h dt ot c) (record { at = at; held = k; ending = 0; why = 0 }) left x (tables e r h′ dt ot′ c′)
+      → LandsPackets s (x .place) m s′ m′ → PacketsTurn s left m (tables e r h dt ot c) (x .units) s′ m′ (tables e r h′ dt ot′ c′)
   packets-turned is-t is-n is-at is-held ran lands =
       record {
         turn = λ on.
             record {
               turned =
-                  turned-phase go step playing-goes (play-step (keptIn s e) (stream-bytes m (streamIn s)) (streamIn s .size)) (played (bareIn s r m) (jobIn s) (streamIn s) (keptIn s e))
-                  (packets-go (bareIn s r m) on (jobIn s) (streamIn s) (keptIn s e)) (packets-step (bareIn s r m) on (jobIn s) (streamIn s) (keptIn s e)) left
-                  (worldIn s e r h c m) (worldIn s′ e r h′ c′ m′) (playingOf from r h c) (packetsOut x r h′ c′)
-                  (pre .1) (goes 0 0 refl) (works-packets s e r h c m (pre .0) ∙ rw (← is-at, ← is-held .held r h c, is-going 0 0 refl)) (rw (is-t, is-n .0) at (ran .run)) (lands .world e r h′ c′);
+                  turned-phase go step playing-goes (play-step (keptIn s e) (stream-bytes m (streamIn s)) (streamIn s .size)) (played (bareIn s r dt m) (jobIn s) (streamIn s) (keptIn s e))
+                  (packets-go (bareIn s r dt m) on (jobIn s) (streamIn s) (keptIn s e)) (packets-step (bareIn s r dt m) on (jobIn s) (streamIn s) (keptIn s e)) left
+                  (worldIn s e r h dt ot c m) (worldIn s′ e r h′ dt ot′ c′ m′) (playingOf from r h dt ot c) (packetsOut x r h′ dt ot′ c′)
+                  (pre .1) (goes 0 0 refl) (works-packets s e r h dt ot c m (pre .0) ∙ rw (← is-at, ← is-held .held r h dt ot c, is-going 0 0 refl)) (rw (is-t, is-n .0) at (ran .run)) (lands .world e r h′ dt ot′ c′);
               side = lands .side;
             };
       }
 
-pub packets-land : (s m e r h c h′ c′ : List ℕ) (left n : ℕ) (t : Stream) (p : PacketsPlace) (x : PacketsRun) → (tagIn s ≡ 2) × (0 < left)
-    → PacketsRan (stream-bytes m t) (t .size) n (tables e r h c) p left x (tables e r h′ c′) → (tagIn s ≡ 2) × (x .place .held .live ≤ most) × (x .place .held .made ≤ most)
-packets-land s m e r h c h′ c′ left n t p x pre ran = (pre .0, ran .room .live, ran .room .made)
+pub packets-land : (s m e r h dt ot c h′ ot′ c′ : List ℕ) (left n : ℕ) (t : Stream) (p : PacketsPlace) (x : PacketsRun) → (tagIn s ≡ 2) × (0 < left)
+    → PacketsRan (stream-bytes m t) (t .size) n (tables e r h dt ot c) p left x (tables e r h′ dt ot′ c′) → (tagIn s ≡ 2) × (x .place .held .live ≤ most) × (x .place .held .made ≤ most) × (x .place .held .tokens .used ≤ most-tokens)
+packets-land s m e r h dt ot c h′ ot′ c′ left n t p x pre ran = (pre .0, ran .room .live, ran .room .made, ran .room .tokens)
 
-pub packets-room : (s : List ℕ) (n y : ℕ) (k : Held) → (n ≡ countIn y) × (n ≤ most) → HeldIn s k → RowsExist n (k .live) (k .made)
-packets-room s n y k a b = record { entries = a .1; live = b .live; made = b .made }
+pub packets-room : (s : List ℕ) (n y : ℕ) (k : Held) → (n ≡ countIn y) × (n ≤ most) → HeldIn s k → RoomFor n k
+packets-room s n y k a b = record { entries = a .1; live = b .live; made = b .made; tokens = b .tokens }
 
 pub ruleset turning-packets = (packets-turned, packets-land, packets-room, needs)
 
 -- ---- turn_once
 
-module _ (s e r h c m : List ℕ) (left : ℕ) (pre : 0 < left) where
-  stands : go (worldIn s e r h c m) ≡ false → TurnOf left s (tables e r h c) m 0 s (tables e r h c) m
-  stands g = record { turned = turned-stop go step left (worldIn s e r h c m) g; side = refl }
+module _ (s e r h dt ot c m : List ℕ) (left : ℕ) (pre : 0 < left) where
+  stands : go (worldIn s e r h dt ot c m) ≡ false → TurnOf left s (tables e r h dt ot c) m 0 s (tables e r h dt ot c) m
+  stands g = record { turned = turned-stop go step left (worldIn s e r h dt ot c m) g; side = refl }
 
-  off-stops : getD s 3 0 ≡ 0 → go (worldIn s e r h c m) ≡ false
+  off-stops : getD s 3 0 ≡ 0 → go (worldIn s e r h dt ot c m) ≡ false
   unfolding go worldIn
   off-stops q = rw (unset (getD s 3 0) q)
 
-  pub turn-off : getD s 3 0 ≡ 0 → TurnOf left s (tables e r h c) m 0 s (tables e r h c) m
+  pub turn-off : getD s 3 0 ≡ 0 → TurnOf left s (tables e r h dt ot c) m 0 s (tables e r h dt ot c) m
   turn-off off = stands (off-stops off)
 
   module _ (on : getD s 3 0 ≡ 0 → ⊥) where
     is-on : registersIn s .enabled ≡ true
     is-on = is-set (getD s 3 0) on
 
-    pub turn-waits : (tagIn s ≡ 2 → ⊥) → (tagIn s ≡ 1 → ⊥) → (tagIn s ≡ 0 → ⊥) → TurnOf left s (tables e r h c) m 0 s (tables e r h c) m
+    pub turn-waits : (tagIn s ≡ 2 → ⊥) → (tagIn s ≡ 1 → ⊥) → (tagIn s ≡ 0 → ⊥) → TurnOf left s (tables e r h dt ot c) m 0 s (tables e r h dt ot c) m
     unfolding go
-    turn-waits x y z = stands (rw (waits-in s e r h c m (omega arith)) (and-false (worldIn s e r h c m .state .regs .enabled)))
+    turn-waits x y z = stands (rw (waits-in s e r h dt ot c m (omega arith)) (and-false (worldIn s e r h dt ot c m .state .regs .enabled)))
 
     module _ (i : tagIn s ≡ 0) where
-      quiet-stops : getD s 12 0 ≡ 0 → go (worldIn s e r h c m) ≡ false
+      quiet-stops : getD s 12 0 ≡ 0 → go (worldIn s e r h dt ot c m) ≡ false
       unfolding go worldIn
       quiet-stops q = rw (i, is-on, unset (getD s 12 0) q)
 
-      pub turn-quiet : getD s 12 0 ≡ 0 → TurnOf left s (tables e r h c) m 0 s (tables e r h c) m
+      pub turn-quiet : getD s 12 0 ≡ 0 → TurnOf left s (tables e r h dt ot c) m 0 s (tables e r h dt ot c) m
       turn-quiet q = stands (quiet-stops q)
 
-      rung-goes : (getD s 12 0 ≡ 0 → ⊥) → go (worldIn s e r h c m) ≡ true
+      rung-goes : (getD s 12 0 ≡ 0 → ⊥) → go (worldIn s e r h dt ot c m) ≡ true
       unfolding go worldIn
       rung-goes q = rw (i, is-on, is-set (getD s 12 0) q)
 
-      opens-step : after-opening (bareIn s r m) (opening-of m (getD s 1 0) (smallIn (getD s 2 0))) ≡ step (worldIn s e r h c m)
+      opens-step : after-opening (bareIn s r dt m) (opening-of m (getD s 1 0) (smallIn (getD s 2 0))) ≡ step (worldIn s e r h dt ot c m)
       unfolding step open-step worldIn
       opens-step = rw i
 
-      pub turn-opens : (s′ m′ : List ℕ) → (getD s 12 0 ≡ 0 → ⊥) → Opens s m s′ m′ → TurnOf left s (tables e r h c) m 1 s′ (tables e r h c) m′
+      pub turn-opens : (s′ m′ : List ℕ) → (getD s 12 0 ≡ 0 → ⊥) → Opens s m s′ m′ → TurnOf left s (tables e r h dt ot c) m 1 s′ (tables e r h dt ot c) m′
       turn-opens s′ m′ q o =
           record {
-            turned = turned-step go step left (worldIn s e r h c m) (worldIn s′ e r h c m′) pre (rung-goes q) (o .world e r h c ∙ opens-step);
+            turned = turned-step go step left (worldIn s e r h dt ot c m) (worldIn s′ e r h dt ot c m′) pre (rung-goes q) (o .world e r h dt ot c ∙ opens-step);
             side = o .side;
           }
 
-    pub turn-entries : (u : ℕ) (s′ m′ e′ : List ℕ) → tagIn s ≡ 1 → EntriesTurn s left m e u s′ m′ e′ → TurnOf left s (tables e r h c) m u s′ (tables e′ r h c) m′
-    turn-entries u s′ m′ e′ i x = x .turn is-on r h c
+    pub turn-entries : (u : ℕ) (s′ m′ e′ : List ℕ) → tagIn s ≡ 1 → EntriesTurn s left m e u s′ m′ e′ → TurnOf left s (tables e r h dt ot c) m u s′ (tables e′ r h dt ot c) m′
+    turn-entries u s′ m′ e′ i x = x .turn is-on r h dt ot c
 
-    pub turn-packets : (u : ℕ) (s′ m′ h′ c′ : List ℕ) → tagIn s ≡ 2 → PacketsTurn s left m (tables e r h c) u s′ m′ (tables e r h′ c′) → TurnOf left s (tables e r h c) m u s′ (tables e r h′ c′) m′
-    turn-packets u s′ m′ h′ c′ i x = x .turn is-on
+    pub turn-packets : (u : ℕ) (s′ m′ h′ ot′ c′ : List ℕ) → tagIn s ≡ 2 → PacketsTurn s left m (tables e r h dt ot c) u s′ m′ (tables e r h′ dt ot′ c′) → TurnOf left s (tables e r h dt ot c) m u s′ (tables e r h′ dt ot′ c′) m′
+    turn-packets u s′ m′ h′ ot′ c′ i x = x .turn is-on
 
 pub ruleset turning-once = (turn-off, turn-waits, turn-quiet, turn-opens, turn-entries, turn-packets, needs)
 
 -- ---- run
 
-module _ (a u : ℕ) (s₀ e₀ h₀ c₀ m₀ s e r h c m : List ℕ) (inv : run-for a (worldIn s₀ e₀ r h₀ c₀ m₀) ≡ spent u (run-for (a - u) (worldIn s e r h c m))) (same : getD s 28 0 ≡ getD s₀ 28 0) where
+module _ (a u : ℕ) (s₀ e₀ h₀ ot₀ c₀ m₀ s e r h dt ot c m : List ℕ) (inv : run-for a (worldIn s₀ e₀ r h₀ dt ot₀ c₀ m₀) ≡ spent u (run-for (a - u) (worldIn s e r h dt ot c m))) (same : sidesIn s ≡ sidesIn s₀) where
   -- a turn that spends nothing is the end
-  pub run-stops : (k : ℕ) (s′ e′ h′ c′ m′ : List ℕ) → TurnOf (a - u) s (tables e r h c) m k s′ (tables e′ r h′ c′) m′ → k ≡ 0 → RanFor a s₀ (tables e₀ r h₀ c₀) m₀ u s′ (tables e′ r h′ c′) m′
-  run-stops k s′ e′ h′ c′ m′ t z =
-      record { run = turns-stop go step a u (worldIn s e r h c m) (run-for a (worldIn s₀ e₀ r h₀ c₀ m₀)) inv (worldIn s′ e′ r h′ c′ m′) k (t .turned) z; side = t .side ∙ same }
+  pub run-stops : (k : ℕ) (s′ e′ h′ ot′ c′ m′ : List ℕ) → TurnOf (a - u) s (tables e r h dt ot c) m k s′ (tables e′ r h′ dt ot′ c′) m′ → k ≡ 0 → RanFor a s₀ (tables e₀ r h₀ dt ot₀ c₀) m₀ u s′ (tables e′ r h′ dt ot′ c′) m′
+  run-stops k s′ e′ h′ ot′ c′ m′ t z =
+      record { run = turns-stop go step a u (worldIn s e r h dt ot c m) (run-for a (worldIn s₀ e₀ r h₀ dt ot₀ c₀ m₀)) inv (worldIn s′ e′ r h′ dt ot′ c′ m′) k (t .turned) z; side = t .side ∙ same }
 
-  pub run-ends : a ≤ u → RanFor a s₀ (tables e₀ r h₀ c₀) m₀ u s (tables e r h c) m
-  run-ends d = record { run = loop-out go step a u (worldIn s e r h c m) (run-for a (worldIn s₀ e₀ r h₀ c₀ m₀)) inv d; side = same }
+  pub run-ends : a ≤ u → RanFor a s₀ (tables e₀ r h₀ dt ot₀ c₀) m₀ u s (tables e r h dt ot c) m
+  run-ends d = record { run = loop-out go step a u (worldIn s e r h dt ot c m) (run-for a (worldIn s₀ e₀ r h₀ dt ot₀ c₀ m₀)) inv d; side = same }
 
-  pub run-side : (k : ℕ) (s′ e′ h′ c′ m′ : List ℕ) → TurnOf (a - u) s (tables e r h c) m k s′ (tables e′ r h′ c′) m′ → getD s′ 28 0 ≡ getD s₀ 28 0
-  run-side k s′ e′ h′ c′ m′ t = t .side ∙ same
+  pub run-side : (k : ℕ) (s′ e′ h′ ot′ c′ m′ : List ℕ) → TurnOf (a - u) s (tables e r h dt ot c) m k s′ (tables e′ r h′ dt ot′ c′) m′ → sidesIn s′ ≡ sidesIn s₀
+  run-side k s′ e′ h′ ot′ c′ m′ t = t .side ∙ same
 
 pub ruleset advancing = (loop-start, turns-on, run-stops, run-ends, run-side, needs)

@@ -3,7 +3,9 @@
 use kept_entries::Entries;
 use kept_records::Records;
 use kept_resources::resources::Resources;
+use kept_tokens::Tokens;
 use packet_apply::apply::Held;
+use packet_apply::tokens::HeldTokens;
 use rules::Stream;
 use run_after_phase::land_entries;
 use run_after_phase::land_packets;
@@ -18,6 +20,7 @@ use run_state::DOORBELL;
 use run_state::ENABLED;
 use run_state::ENTRIES;
 use run_state::HELD;
+use run_state::HELD_TOKENS;
 use run_state::KEPT;
 use run_state::MADE;
 use run_state::NOTHING;
@@ -25,18 +28,20 @@ use run_state::PACKETS;
 use run_state::PLACE;
 use run_state::TAG;
 use run_state::TARGET;
+use run_state::TOKENS_COPIED;
 use run_state::Words;
-use run_state::is_set;
+use run_state::mark;
 use run_state::rows_in;
 use run_state::stream_in;
 use run_state::table_in;
+use run_state::tokens_in;
 use widths::u32_to_usize;
 use widths::word_to_usize;
 use words::low32;
 ghost use mathlib.Core.Path.{_≡_};
 ghost use Prim.Native.Nat.{_<_};
 ghost use Rattle.rules.specs.Stream.{stream-bytes};
-ghost use Rattle.packet_ranges.specs.Views.{RowsExist};
+ghost use Rattle.packet_apply.specs.Apply.{RoomFor};
 ghost use Rattle.run_packets.specs.Playing.{PacketsRan};
 ghost use Rattle.run_state.specs.Views.{tagIn};
 ghost use Rattle.run_loop.specs.Views.{HeldIn, EntriesTurn, PacketsTurn, TurnOf, RanFor};
@@ -66,15 +71,17 @@ fn play(
     kept: usize,
     resources: &Resources,
     own: &mut Resources,
+    tokens: &Tokens,
+    owntokens: &mut Tokens,
     records: &mut Records,
     from: PacketsPlace,
     left: u16,
 ) -> PacketsRun
-    requires { ⌜ RowsExist kept (from .held .live) (from .held .made) × (from .ending ≡ 0) ⌝ }
+    requires { ⌜ RoomFor kept (from .held) × (from .ending ≡ 0) ⌝ }
     ensures { λ r. ⌜ PacketsRan (stream-bytes (now (mem .entry)) stream) (stream .size) kept
-        (record { entries = now (entries .entry); resources = now (resources .entry); own = now (own .entry); records = now (records .entry) })
+        (record { entries = now (entries .entry); resources = now (resources .entry); own = now (own .entry); tokens = now (tokens .entry); ownTokens = now (owntokens .entry); records = now (records .entry) })
         from left r
-        (record { entries = now (entries .entry); resources = now (resources .entry); own = now (own .exit); records = now (records .exit) }) ⌝ }
+        (record { entries = now (entries .entry); resources = now (resources .entry); own = now (own .exit); tokens = now (tokens .entry); ownTokens = now (owntokens .exit); records = now (records .exit) }) ⌝ }
 {
     let part = stream_part(mem, stream);
     let end = u32_to_usize(stream.size);
@@ -85,6 +92,8 @@ fn play(
         kept,
         resources,
         own,
+        tokens,
+        owntokens,
         records,
         from,
         left,
@@ -112,8 +121,12 @@ fn held_in(words: &Words) -> Held
     Held {
         live: rows_in(words[HELD]),
         made: rows_in(words[MADE]),
-        copied: is_set(words[COPIED]),
+        copied: mark(words[COPIED]),
         target: low32(words[TARGET]),
+        tokens: HeldTokens {
+            used: tokens_in(words[HELD_TOKENS]),
+            copied: mark(words[TOKENS_COPIED]),
+        },
     }
 }
 
@@ -124,14 +137,16 @@ fn packets_turn(
     entries: &Entries,
     resources: &Resources,
     own: &mut Resources,
+    tokens: &Tokens,
+    owntokens: &mut Tokens,
     records: &mut Records,
     left: u16,
 ) -> u16
     requires { ⌜ (tagIn (now words) ≡ 2) × (0 < left) ⌝ }
     ensures { λ r. ⌜ PacketsTurn (now (words .entry)) left (now (mem .entry))
-        (record { entries = now (entries .entry); resources = now (resources .entry); own = now (own .entry); records = now (records .entry) })
+        (record { entries = now (entries .entry); resources = now (resources .entry); own = now (own .entry); tokens = now (tokens .entry); ownTokens = now (owntokens .entry); records = now (records .entry) })
         r (now (words .exit)) (now (mem .exit))
-        (record { entries = now (entries .entry); resources = now (resources .entry); own = now (own .exit); records = now (records .exit) }) ⌝ }
+        (record { entries = now (entries .entry); resources = now (resources .entry); own = now (own .exit); tokens = now (tokens .entry); ownTokens = now (owntokens .exit); records = now (records .exit) }) ⌝ }
 {
     let stream = stream_in(words);
     let kept = rows_in(words[KEPT]);
@@ -148,6 +163,8 @@ fn packets_turn(
         kept,
         resources,
         own,
+        tokens,
+        owntokens,
         records,
         from,
         left,
@@ -164,14 +181,16 @@ fn turn_once(
     entries: &mut Entries,
     resources: &Resources,
     own: &mut Resources,
+    tokens: &Tokens,
+    owntokens: &mut Tokens,
     records: &mut Records,
     left: u16,
 ) -> u16
     requires { ⌜ 0 < left ⌝ }
     ensures { λ r. ⌜ TurnOf left (now (words .entry))
-        (record { entries = now (entries .entry); resources = now (resources .entry); own = now (own .entry); records = now (records .entry) })
+        (record { entries = now (entries .entry); resources = now (resources .entry); own = now (own .entry); tokens = now (tokens .entry); ownTokens = now (owntokens .entry); records = now (records .entry) })
         (now (mem .entry)) r (now (words .exit))
-        (record { entries = now (entries .exit); resources = now (resources .entry); own = now (own .exit); records = now (records .exit) })
+        (record { entries = now (entries .exit); resources = now (resources .entry); own = now (own .exit); tokens = now (tokens .entry); ownTokens = now (owntokens .exit); records = now (records .exit) })
         (now (mem .exit)) ⌝ }
 {
     if words[ENABLED] == 0 {
@@ -179,7 +198,17 @@ fn turn_once(
     }
     let tag = words[TAG];
     if tag == PACKETS {
-        return packets_turn(words, mem, entries, resources, own, records, left);
+        return packets_turn(
+            words,
+            mem,
+            entries,
+            resources,
+            own,
+            tokens,
+            owntokens,
+            records,
+            left,
+        );
     }
     if tag == ENTRIES {
         return entries_turn(words, mem, entries, left);
@@ -201,13 +230,15 @@ pub fn run(
     entries: &mut Entries,
     resources: &Resources,
     own: &mut Resources,
+    tokens: &Tokens,
+    owntokens: &mut Tokens,
     records: &mut Records,
     allowance: u16,
 ) -> u16
     ensures { λ r. ⌜ RanFor allowance (now (words .entry))
-        (record { entries = now (entries .entry); resources = now (resources .entry); own = now (own .entry); records = now (records .entry) })
+        (record { entries = now (entries .entry); resources = now (resources .entry); own = now (own .entry); tokens = now (tokens .entry); ownTokens = now (owntokens .entry); records = now (records .entry) })
         (now (mem .entry)) r (now (words .exit))
-        (record { entries = now (entries .exit); resources = now (resources .entry); own = now (own .exit); records = now (records .exit) })
+        (record { entries = now (entries .exit); resources = now (resources .entry); own = now (own .exit); tokens = now (tokens .entry); ownTokens = now (owntokens .exit); records = now (records .exit) })
         (now (mem .exit)) ⌝ }
 {
     let mut units: u16 = 0;
@@ -218,6 +249,8 @@ pub fn run(
             entries,
             resources,
             own,
+            tokens,
+            owntokens,
             records,
             allowance - units,
         );

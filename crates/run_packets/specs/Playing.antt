@@ -13,7 +13,7 @@ use mir.Val.{Fits}
 use Rattle.machine.specs.Machine.{pick, Out, spent, runFor, loop-start, loop-out}
 use Rattle.rules.specs.Numbers.{most}
 use Rattle.rules.specs.Stream.{frame-of}
-use Rattle.rules.specs.Packets.{Progress, Passed, apply, target-after, pass, take-packet}
+use Rattle.rules.specs.Packets.{Progress, Passed, apply, target-after, tokens-after, pass, take-packet}
 use Rattle.rules.specs.Steps.{next-place}
 use Rattle.rules.specs.declared.Entry.{Entry}
 use Rattle.rules.specs.declared.Packet.{Packet}
@@ -26,8 +26,7 @@ use Rattle.kept_resources.specs.Views.{Tables, tables}
 use Rattle.stream_packets.specs.Framing.{FrameFits, frame-sound, packetAt, WasWhole, was-whole, was-misframed, Passed as PassedOver}
 use Rattle.stream_packets.specs.declared.framing.PacketRead.{PacketRead}
 use Rattle.stream_packets.specs.declared.framing.PacketRead.the-variants.{Whole as WholePacket, Misframed as NoPacket}
-use Rattle.packet_ranges.specs.Views.{RowsExist}
-use Rattle.packet_apply.specs.Apply.{heldOf, Changes, unknown-applied}
+use Rattle.packet_apply.specs.Apply.{heldOf, RoomFor, Changes, unknown-applied}
 use Rattle.packet_apply.specs.declared.apply.Changed.{Changed}
 use Rattle.run_entries.specs.Ending.{Ending, onward, ending-at, endingOf, is-going, is-done, is-broken, goes, ends, phase-on, phase-left}
 use Rattle.run_entries.specs.Ending.Ending.{Going, Done, Broken}
@@ -54,26 +53,26 @@ play-step es b end s =
 
 -- ---- views
 
--- the place, the device's rows, the submission's own rows, its records
-abbrev pub playingOf : PacketsPlace → List ℕ → List ℕ → List ℕ → Playing
-playingOf p r l c = record { at = p .at; held = heldOf (p .held) r l c; ending = endingOf (p .ending) (p .why) }
+-- the place, the device's resources, the submission's own, the device's tokens, the submission's own, its records
+abbrev pub playingOf : PacketsPlace → List ℕ → List ℕ → List ℕ → List ℕ → List ℕ → Playing
+playingOf p r l dt ot c = record { at = p .at; held = heldOf (p .held) r l dt ot c; ending = endingOf (p .ending) (p .why) }
 
 -- the same of tables by name
 abbrev pub playing : PacketsPlace → Tables → Playing
-playing p t = playingOf p (t .resources) (t .own) (t .records)
+playing p t = playingOf p (t .resources) (t .own) (t .tokens) (t .ownTokens) (t .records)
 
-abbrev pub outOf : PacketsRun → List ℕ → List ℕ → List ℕ → Out Playing
-outOf x r l c = record { state = playingOf (x .place) r l c; units = x .units }
+abbrev pub outOf : PacketsRun → List ℕ → List ℕ → List ℕ → List ℕ → List ℕ → Out Playing
+outOf x r l dt ot c = record { state = playingOf (x .place) r l dt ot c; units = x .units }
 
 -- the stream's bytes and its end, the entries kept, the tables and the place before; the place and the tables after
 pub record PacketStepped (b : List ℕ) (end n : ℕ) (t : Tables) (p q : PacketsPlace) (t′ : Tables) : Type 0 where
   pub step : playing q t′ ≡ play-step (entriesOf n (t .entries)) b end (playing p t)
-  pub room : RowsExist n (q .held .live) (q .held .made)
+  pub room : RoomFor n (q .held)
 
 pub record PacketsRan (b : List ℕ) (end n : ℕ) (t : Tables) (p : PacketsPlace) (allowance : ℕ) (x : PacketsRun) (t′ : Tables) : Type 0 where
   pub run : record { state = playing (x .place) t′; units = x .units }
       ≡ runFor playing-goes (play-step (entriesOf n (t .entries)) b end) allowance (playing p t)
-  pub room : RowsExist n (x .place .held .live) (x .place .held .made)
+  pub room : RoomFor n (x .place .held)
 
 -- ---- place_after
 
@@ -110,9 +109,9 @@ by-end : (t : Bool) → endingOf (pick t 0 1) 0 ≡ pick t Going Done
 by-end true = is-going 0 0 refl
 by-end false = is-done 1 0 refl
 
-module _ (b : List ℕ) (end n : ℕ) (e : List ℕ) (p : PacketsPlace) (r l c : List ℕ) (f : PacketRead) (read : f ≡ packetAt (drop (p .at) b)) where
-  pub step-misframed : (why : Refusal) → RowsExist n (p .held .live) (p .held .made) → f ≡ NoPacket why
-      → PacketStepped b end n (tables e r l c) p (record { at = p .at; held = p .held; ending = 2; why = why .code }) (tables e r l c)
+module _ (b : List ℕ) (end n : ℕ) (e : List ℕ) (p : PacketsPlace) (r l dt ot c : List ℕ) (f : PacketRead) (read : f ≡ packetAt (drop (p .at) b)) where
+  pub step-misframed : (why : Refusal) → RoomFor n (p .held) → f ≡ NoPacket why
+      → PacketStepped b end n (tables e r l dt ot c) p (record { at = p .at; held = p .held; ending = 2; why = why .code }) (tables e r l dt ot c)
   unfolding play-step take-packet
   step-misframed why room q =
       let framed : frame-of (drop (p .at) b) ≡ Misframed why = was-misframed (drop (p .at) b) f read why q in
@@ -131,26 +130,26 @@ module _ (b : List ℕ) (end n : ℕ) (e : List ℕ) (p : PacketsPlace) (r l c :
         let s : FrameFits (drop (p .at) b) (whole .opcode) size = frame-sound (drop (p .at) b) (whole .opcode) size (whole .frame) in
         record { fits = omega (arith, s .inside, s .header, length-drop (p .at) b) }
 
-    module _ (x : Changed) (l′ c′ : List ℕ) where
-      after-verdict : (o : Passed) (next : ℕ) (v : Verdict) → record { verdict = x .verdict; held = heldOf (x .held) r l′ c′ } ≡ o
-          → playingOf (after-by (p .at) next end x v) r l′ c′ ≡ play-on (p .at) next end (o .held) v
+    module _ (x : Changed) (l′ ot′ c′ : List ℕ) where
+      after-verdict : (o : Passed) (next : ℕ) (v : Verdict) → record { verdict = x .verdict; held = heldOf (x .held) r l′ dt ot′ c′ } ≡ o
+          → playingOf (after-by (p .at) next end x v) r l′ dt ot′ c′ ≡ play-on (p .at) next end (o .held) v
       after-verdict o next Fine h = rw (by-end (ltb next end)) (ap (λ (y : Passed). record { at = next; held = y .held; ending = ending-at next end }) h)
       after-verdict o next (BrokenRule why) h =
           rw (is-broken 2 (why .code) (omega arith) (omega arith)) (ap (λ (y : Passed). record { at = p .at; held = y .held; ending = Broken why }) h)
 
-      after-room : (next : ℕ) (v : Verdict) → n ≤ most → x .held .live ≤ most → x .held .made ≤ most → RowsExist n (after-by (p .at) next end x v .held .live) (after-by (p .at) next end x v .held .made)
-      after-room next Fine h i j = record { entries = h; live = i; made = j }
-      after-room next (BrokenRule why) h i j = record { entries = h; live = i; made = j }
+      after-room : (next : ℕ) (v : Verdict) → RoomFor n (x .held) → RoomFor n (after-by (p .at) next end x v .held)
+      after-room next Fine h = h
+      after-room next (BrokenRule why) h = h
 
-      pub step-taken : (i : ℕ) (y : PacketsPlace) → RowsExist n (p .held .live) (p .held .made) → i ≡ size
-          → Changes (pass (entriesOf n e) (heldOf (p .held) r l c) k) r x l′ c′ → y ≡ placeAfter (p .at) (p .at + i) end x → PacketStepped b end n (tables e r l c) p y (tables e r l′ c′)
+      pub step-taken : (i : ℕ) (y : PacketsPlace) → RoomFor n (p .held) → i ≡ size
+          → Changes (pass (entriesOf n e) (heldOf (p .held) r l dt ot c) k) r dt x l′ ot′ c′ → y ≡ placeAfter (p .at) (p .at + i) end x → PacketStepped b end n (tables e r l dt ot c) p y (tables e r l′ dt ot′ c′)
       unfolding play-step placeAfter
       step-taken i y room same change is =
-          let o : Passed = pass (entriesOf n e) (heldOf (p .held) r l c) k in
+          let o : Passed = pass (entriesOf n e) (heldOf (p .held) r l dt ot c) k in
           let verdict : x .verdict ≡ o .verdict = ap (λ (z : Passed). z .verdict) (change .outcome) in
           record {
-            step = ap (λ (z : PacketsPlace). playingOf z r l′ c′) is ∙ (after-verdict o (p .at + i) (x .verdict) (change .outcome) ∙ rw (taken (entriesOf n e) (heldOf (p .held) r l c), whole .frame, ← verdict, same));
-            room = rw is (after-room (p .at + i) (x .verdict) (room .entries) (change .live) (change .made));
+            step = ap (λ (z : PacketsPlace). playingOf z r l′ dt ot′ c′) is ∙ (after-verdict o (p .at + i) (x .verdict) (change .outcome) ∙ rw (taken (entriesOf n e) (heldOf (p .held) r l dt ot c), whole .frame, ← verdict, same));
+            room = rw is (after-room (p .at + i) (x .verdict) (record { entries = room .entries; live = change .live; made = change .made; tokens = change .tokens }));
           }
 
 pub ruleset stepping-packet = (step-misframed, next-fits, step-taken, needs)
@@ -175,7 +174,7 @@ module _ (b : List ℕ) (bound at u a : ℕ) where
   module _ (here room size v : ℕ) (before : Skips b bound at u a (record { at = here; units = v })) (upto : here + room ≡ bound) (passed : PassedOver b here room size)
       (some : size ≡ 0 → ⊥) where
     skip-step : (es : List Entry) (end : ℕ) (h : Progress) → bound ≤ end → playing-at (here + size) h ≡ play-step es b end (playing-at here h)
-    unfolding play-step take-packet pass apply target-after
+    unfolding play-step take-packet pass apply target-after tokens-after
     skip-step es end h le =
         let below : size < room = passed .within some in
         rw (passed .whole some, ← (passed .nothing some), lt-ltb (here + size) end (omega arith))
@@ -204,23 +203,23 @@ pub ruleset skipping = (skips-none, skips-on, skips-within, skips-some, skips-up
 
 -- ---- read_packets
 
-module _ (b : List ℕ) (end n : ℕ) (e : List ℕ) (p₀ : PacketsPlace) (r l₀ c₀ : List ℕ) (a : ℕ) where
-  pub plays-first : runFor playing-goes (play-step (entriesOf n e) b end) a (playingOf p₀ r l₀ c₀) ≡ spent 0 (runFor playing-goes (play-step (entriesOf n e) b end) (a - 0) (playingOf p₀ r l₀ c₀))
-  plays-first = loop-start playing-goes (play-step (entriesOf n e) b end) a (playingOf p₀ r l₀ c₀)
+module _ (b : List ℕ) (end n : ℕ) (e : List ℕ) (p₀ : PacketsPlace) (r l₀ dt ot₀ c₀ : List ℕ) (a : ℕ) where
+  pub plays-first : runFor playing-goes (play-step (entriesOf n e) b end) a (playingOf p₀ r l₀ dt ot₀ c₀) ≡ spent 0 (runFor playing-goes (play-step (entriesOf n e) b end) (a - 0) (playingOf p₀ r l₀ dt ot₀ c₀))
+  plays-first = loop-start playing-goes (play-step (entriesOf n e) b end) a (playingOf p₀ r l₀ dt ot₀ c₀)
 
-  module _ (u : ℕ) (p : PacketsPlace) (l c : List ℕ)
-      (inv : runFor playing-goes (play-step (entriesOf n e) b end) a (playingOf p₀ r l₀ c₀) ≡ spent u (runFor playing-goes (play-step (entriesOf n e) b end) (a - u) (playingOf p r l c))) where
-    pub plays-no-more : a ≤ u → RowsExist n (p .held .live) (p .held .made) → PacketsRan b end n (tables e r l₀ c₀) p₀ a (record { place = p; units = u }) (tables e r l c)
-    plays-no-more h room = record { run = loop-out playing-goes (play-step (entriesOf n e) b end) a u (playingOf p r l c) _ inv h; room = room }
+  module _ (u : ℕ) (p : PacketsPlace) (l ot c : List ℕ)
+      (inv : runFor playing-goes (play-step (entriesOf n e) b end) a (playingOf p₀ r l₀ dt ot₀ c₀) ≡ spent u (runFor playing-goes (play-step (entriesOf n e) b end) (a - u) (playingOf p r l dt ot c))) where
+    pub plays-no-more : a ≤ u → RoomFor n (p .held) → PacketsRan b end n (tables e r l₀ dt ot₀ c₀) p₀ a (record { place = p; units = u }) (tables e r l dt ot c)
+    plays-no-more h room = record { run = loop-out playing-goes (play-step (entriesOf n e) b end) a u (playingOf p r l dt ot c) _ inv h; room = room }
 
-    module _ (more : u < a) (here : p .ending ≡ 0) (q : PacketsPlace) (l′ c′ : List ℕ) (s : PacketStepped b end n (tables e r l c) p q (tables e r l′ c′)) where
-      pub plays-on : runFor playing-goes (play-step (entriesOf n e) b end) a (playingOf p₀ r l₀ c₀) ≡ spent (u + 1) (runFor playing-goes (play-step (entriesOf n e) b end) (a - (u + 1)) (playingOf q r l′ c′))
-      plays-on = phase-on playing-goes (play-step (entriesOf n e) b end) a u (playingOf p r l c) _ inv more (goes (p .ending) (p .why) here) (playingOf q r l′ c′) (s .step)
+    module _ (more : u < a) (here : p .ending ≡ 0) (q : PacketsPlace) (l′ ot′ c′ : List ℕ) (s : PacketStepped b end n (tables e r l dt ot c) p q (tables e r l′ dt ot′ c′)) where
+      pub plays-on : runFor playing-goes (play-step (entriesOf n e) b end) a (playingOf p₀ r l₀ dt ot₀ c₀) ≡ spent (u + 1) (runFor playing-goes (play-step (entriesOf n e) b end) (a - (u + 1)) (playingOf q r l′ dt ot′ c′))
+      plays-on = phase-on playing-goes (play-step (entriesOf n e) b end) a u (playingOf p r l dt ot c) _ inv more (goes (p .ending) (p .why) here) (playingOf q r l′ dt ot′ c′) (s .step)
 
-      pub plays-to-end : (q .ending ≡ 0 → ⊥) → PacketsRan b end n (tables e r l₀ c₀) p₀ a (record { place = q; units = u + 1 }) (tables e r l′ c′)
+      pub plays-to-end : (q .ending ≡ 0 → ⊥) → PacketsRan b end n (tables e r l₀ dt ot₀ c₀) p₀ a (record { place = q; units = u + 1 }) (tables e r l′ dt ot′ c′)
       plays-to-end h =
           record {
-            run = phase-left playing-goes (play-step (entriesOf n e) b end) a u (playingOf p r l c) _ inv more (goes (p .ending) (p .why) here) (playingOf q r l′ c′) (s .step) (ends (q .ending) (q .why) h);
+            run = phase-left playing-goes (play-step (entriesOf n e) b end) a u (playingOf p r l dt ot c) _ inv more (goes (p .ending) (p .why) here) (playingOf q r l′ dt ot′ c′) (s .step) (ends (q .ending) (q .why) h);
             room = s .room;
           }
 
@@ -229,11 +228,11 @@ module _ (b : List ℕ) (end n : ℕ) (e : List ℕ) (p₀ : PacketsPlace) (r l�
         abbrev moved : PacketsPlace
         moved = record { at = x .at; held = q .held; ending = q .ending; why = q .why }
 
-        pub plays-skipped : runFor playing-goes (play-step (entriesOf n e) b end) a (playingOf p₀ r l₀ c₀) ≡ spent (x .units) (runFor playing-goes (play-step (entriesOf n e) b end) (a - x .units) (playingOf moved r l′ c′))
+        pub plays-skipped : runFor playing-goes (play-step (entriesOf n e) b end) a (playingOf p₀ r l₀ dt ot₀ c₀) ≡ spent (x .units) (runFor playing-goes (play-step (entriesOf n e) b end) (a - x .units) (playingOf moved r l′ dt ot′ c′))
         plays-skipped =
-            let held : Progress = heldOf (q .held) r l′ c′ in
-            let from : _≡_ {A = Playing} (playingOf q r l′ c′) (playing-at (q .at) held) = rw (is-going (q .ending) (q .why) going) in
-            let to : _≡_ {A = Playing} (playingOf moved r l′ c′) (playing-at (x .at) held) = rw (is-going (q .ending) (q .why) going) in
+            let held : Progress = heldOf (q .held) r l′ dt ot′ c′ in
+            let from : _≡_ {A = Playing} (playingOf q r l′ dt ot′ c′) (playing-at (q .at) held) = rw (is-going (q .ending) (q .why) going) in
+            let to : _≡_ {A = Playing} (playingOf moved r l′ dt ot′ c′) (playing-at (x .at) held) = rw (is-going (q .ending) (q .why) going) in
             skips .run (entriesOf n e) end held _ inner (plays-on ∙ rw from) ∙ rw to
 
 pub skips-less : (b : List ℕ) (bound at u a : ℕ) (x : Skipped) → u < a → Skips b bound at (u + 1) a x → a - x .units < a - u

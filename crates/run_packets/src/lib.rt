@@ -2,6 +2,7 @@
 use kept_entries::Entries;
 use kept_records::Records;
 use kept_resources::resources::Resources;
+use kept_tokens::Tokens;
 use packet_apply::apply::Changed;
 use packet_apply::apply::Held;
 use packet_apply::apply::apply_packet;
@@ -19,8 +20,7 @@ ghost use Prim.Native.Nat.{_+_, _-_, _≤_, _^_, _<_};
 ghost use lib.ListN.{length};
 ghost use Rattle.rules.specs.Packets.{pass};
 ghost use Rattle.kept_entries.specs.Views.{entriesOf};
-ghost use Rattle.packet_ranges.specs.Views.{RowsExist};
-ghost use Rattle.packet_apply.specs.Apply.{heldOf, Changes};
+ghost use Rattle.packet_apply.specs.Apply.{heldOf, RoomFor, Changes};
 ghost use Rattle.run_packets.specs.Playing.{placeAfter, PacketStepped, Skips, PacketsRan};
 
 // Where the packets stand: the place in the stream, what is held, how the phase stands, and the number of a rule that is broken, 0
@@ -83,14 +83,16 @@ fn take_packet(
     kept: usize,
     resources: &Resources,
     own: &mut Resources,
+    tokens: &Tokens,
+    owntokens: &mut Tokens,
     records: &mut Records,
     h: Held,
     packet: Packet,
 ) -> Taken
-    requires { ⌜ RowsExist kept (h .live) (h .made) ⌝ }
+    requires { ⌜ RoomFor kept h ⌝ }
     ensures { λ x. ⌜ Changes (pass (entriesOf kept (now (entries .entry)))
-        (heldOf h (now (resources .entry)) (now (own .entry)) (now (records .entry))) packet)
-        (now (resources .entry)) (x .changed) (now (own .exit)) (now (records .exit)) ⌝ }
+        (heldOf h (now (resources .entry)) (now (own .entry)) (now (tokens .entry)) (now (owntokens .entry)) (now (records .entry))) packet)
+        (now (resources .entry)) (now (tokens .entry)) (x .changed) (now (own .exit)) (now (owntokens .exit)) (now (records .exit)) ⌝ }
 {
     match packet {
         Packet::Unknown => Taken {
@@ -101,7 +103,17 @@ fn take_packet(
             unknown: true,
         },
         _ => Taken {
-            changed: apply_packet(entries, kept, resources, own, records, h, packet),
+            changed: apply_packet(
+                entries,
+                kept,
+                resources,
+                own,
+                tokens,
+                owntokens,
+                records,
+                h,
+                packet,
+            ),
             unknown: false,
         },
     }
@@ -121,14 +133,16 @@ fn step_packet(
     kept: usize,
     resources: &Resources,
     own: &mut Resources,
+    tokens: &Tokens,
+    owntokens: &mut Tokens,
     records: &mut Records,
     p: PacketsPlace,
 ) -> Stepped
-    requires { ⌜ RowsExist kept (p .held .live) (p .held .made) ⌝ }
+    requires { ⌜ RoomFor kept (p .held) ⌝ }
     ensures { λ r. ⌜ PacketStepped (now (stream .entry)) end kept
-        (record { entries = now (entries .entry); resources = now (resources .entry); own = now (own .entry); records = now (records .entry) })
+        (record { entries = now (entries .entry); resources = now (resources .entry); own = now (own .entry); tokens = now (tokens .entry); ownTokens = now (owntokens .entry); records = now (records .entry) })
         p (r .place)
-        (record { entries = now (entries .entry); resources = now (resources .entry); own = now (own .exit); records = now (records .exit) }) ⌝ }
+        (record { entries = now (entries .entry); resources = now (resources .entry); own = now (own .exit); tokens = now (tokens .entry); ownTokens = now (owntokens .exit); records = now (records .exit) }) ⌝ }
 {
     let at = p.at;
     let held = p.held;
@@ -143,9 +157,20 @@ fn step_packet(
             unknown: false,
         },
         PacketRead::Whole(size, packet) => {
-            let t = take_packet(entries, kept, resources, own, records, held, packet);
+            let next = at + u32_to_usize(size);
+            let t = take_packet(
+                entries,
+                kept,
+                resources,
+                own,
+                tokens,
+                owntokens,
+                records,
+                held,
+                packet,
+            );
             Stepped {
-                place: place_after(at, at + u32_to_usize(size), end, t.changed),
+                place: place_after(at, next, end, t.changed),
                 unknown: t.unknown,
             }
         }
@@ -198,7 +223,7 @@ fn skip_unknown(stream: &[u8], bound: usize, from: usize, spent: u16, allowance:
 }
 
 // Packets, one a unit, until the allowance is spent, the stream is done or a rule is broken. `resources` is the device's table of
-// resources, `own` the submission's own.
+// resources, `own` the submission's own; `tokens` and `owntokens` likewise.
 pub fn read_packets(
     stream: &[u8],
     end: usize,
@@ -206,21 +231,34 @@ pub fn read_packets(
     kept: usize,
     resources: &Resources,
     own: &mut Resources,
+    tokens: &Tokens,
+    owntokens: &mut Tokens,
     records: &mut Records,
     from: PacketsPlace,
     allowance: u16,
 ) -> PacketsRun
-    requires { ⌜ RowsExist kept (from .held .live) (from .held .made) × (from .ending ≡ 0) ⌝ }
+    requires { ⌜ RoomFor kept (from .held) × (from .ending ≡ 0) ⌝ }
     ensures { λ r. ⌜ PacketsRan (now (stream .entry)) end kept
-        (record { entries = now (entries .entry); resources = now (resources .entry); own = now (own .entry); records = now (records .entry) })
+        (record { entries = now (entries .entry); resources = now (resources .entry); own = now (own .entry); tokens = now (tokens .entry); ownTokens = now (owntokens .entry); records = now (records .entry) })
         from allowance r
-        (record { entries = now (entries .entry); resources = now (resources .entry); own = now (own .exit); records = now (records .exit) }) ⌝ }
+        (record { entries = now (entries .entry); resources = now (resources .entry); own = now (own .exit); tokens = now (tokens .entry); ownTokens = now (owntokens .exit); records = now (records .exit) }) ⌝ }
 {
     let bound = inner_bound(stream, end);
     let mut p = from;
     let mut units: u16 = 0;
     while units < allowance {
-        let t = step_packet(stream, end, entries, kept, resources, own, records, p);
+        let t = step_packet(
+            stream,
+            end,
+            entries,
+            kept,
+            resources,
+            own,
+            tokens,
+            owntokens,
+            records,
+            p,
+        );
         p = t.place;
         units += 1;
         if p.ending != GOING {

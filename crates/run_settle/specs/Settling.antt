@@ -14,7 +14,7 @@ use Rattle.rules.specs.declared.Job.{Job}
 use Rattle.rules.specs.declared.Fault.{Fault}
 use Rattle.settle.specs.Settling.{page-put}
 use Rattle.settle.specs.Laws.{marks-as}
-use Rattle.run_state.specs.Views.{setIn, flagOf, smallIn, registersIn, jobIn, worldIn, rested, deskIn}
+use Rattle.run_state.specs.Views.{setIn, flagOf, smallIn, registersIn, jobIn, worldIn, rested, sidesIn, deskIn}
 use Rattle.run_state.specs.Reading.{small-as}
 use Rattle.run_state.specs.Spelled.{spell}
 use Rattle.run_settle.specs.Views.{signalled-words, Signals, Finishes, Refuses, turnedIf, Accepts}
@@ -50,17 +50,17 @@ set-flag false = refl
 abbrev faulted-words : ℕ → ℕ → ℕ → List ℕ → List ℕ
 faulted-words code errors place s = set (set (set (set (set s 7 1) 9 code) 10 (getD s 16 0)) 11 errors) 30 place
 
-pub refuses : (s s′ m m′ : List ℕ) (why : Fault) (code low more errors place : ℕ) → length s ≡ 32 → low ≡ smallIn (getD s 11 0) → more ≡ one-more low → (errors ≡ more) × (errors < 4294967296)
+pub refuses : (s s′ m m′ : List ℕ) (why : Fault) (code low more errors place : ℕ) → length s ≡ 36 → low ≡ smallIn (getD s 11 0) → more ≡ one-more low → (errors ≡ more) × (errors < 4294967296)
     → (code ≡ why .code) × (code < 4294967296) → (place ≡ why .place) × (place < 4294967296)
     → Finishes (set (set (set (set (set s 7 1) 9 code) 10 (getD s 16 0)) 11 errors) 30 place) m s′ m′ → Refuses s m why s′ m′
 unfolding worldIn settled ended-by signalled faulted signalled-words rested
 refuses s s′ m m′ why code low more errors place long is-low is-more is-errors is-code is-place f =
     record {
-      world = λ e r h c.
+      world = λ e r h dt ot c.
           rw (f .words, f .mem)
-          (spell (λ w. worldIn (signalled-words (faulted-words code errors place w)) e r h c (marked (jobIn (faulted-words code errors place w)) (registersIn (signalled-words (faulted-words code errors place w))) m)) s long
+          (spell (λ w. worldIn (signalled-words (faulted-words code errors place w)) e r h dt ot c (marked (jobIn (faulted-words code errors place w)) (registersIn (signalled-words (faulted-words code errors place w))) m)) s long
           ∙ rw (set-flag (setIn (getD s 6 0) || (ltb (getD s 5 0) (getD s 16 0) && not (setIn (getD s 17 0)))), small-as code (why .code) is-code, small-as errors more is-errors, is-more, is-low, small-as place (why .place) is-place));
-      side = rw (f .words) (spell (λ w. getD (signalled-words (faulted-words code errors place w)) 28 0) s long);
+      side = rw (f .words) (spell (λ w. sidesIn (signalled-words (faulted-words code errors place w))) s long);
       rests =
           rw (f .words)
           (spell (λ w. signalled-words (faulted-words code errors place w)) s long ∙ sym (spell (λ w. rested (signalled-words (faulted-words code errors place w))) s long));
@@ -89,19 +89,20 @@ turned-rows true false a b = refl
 turned-rows false true a b = refl
 turned-rows false false a b = refl
 
-abbrev turned-words : ℕ → List ℕ → List ℕ
-turned-words side s = set (set s 28 side) 25 (getD s 26 0)
+abbrev turned-words : ℕ → ℕ → List ℕ → List ℕ
+turned-words side tside s = set (set (set (set s 28 side) 25 (getD s 26 0)) 34 tside) 32 (getD s 33 0)
 
-pub accepts : (s s′ m m′ : List ℕ) (side : ℕ) → length s ≡ 32 → setIn side ≡ turnedIf (setIn (getD s 28 0)) (setIn (getD s 29 0))
-    → Finishes (set (set s 28 side) 25 (getD s 26 0)) m s′ m′ → Accepts s m s′ m′
+pub accepts : (s s′ m m′ : List ℕ) (side tside : ℕ) → length s ≡ 36 → setIn side ≡ turnedIf (setIn (getD s 28 0)) (setIn (getD s 29 0))
+    → setIn tside ≡ turnedIf (setIn (getD s 34 0)) (setIn (getD s 35 0))
+    → Finishes (set (set (set (set s 28 side) 25 (getD s 26 0)) 34 tside) 32 (getD s 33 0)) m s′ m′ → Accepts s m s′ m′
 unfolding worldIn settled ended-by signalled signalled-words rested
-accepts s s′ m m′ side long turned f =
+accepts s s′ m m′ side tside long turned tturned f =
     record {
-      world = λ e a b c.
+      world = λ e a b ft st c.
           rw (f .words, f .mem)
-          (spell (λ w. deskIn (signalled-words (turned-words side w)) e a b c (marked (jobIn (turned-words side w)) (registersIn (signalled-words (turned-words side w))) m)) s long
-          ∙ rw (set-flag (setIn (getD s 6 0) || (ltb (getD s 5 0) (getD s 16 0) && not (setIn (getD s 17 0)))), turned, turned-rows (setIn (getD s 28 0)) (setIn (getD s 29 0)) a b));
-      rests = rw (f .words) (spell (λ w. signalled-words (turned-words side w)) s long ∙ sym (spell (λ w. rested (signalled-words (turned-words side w))) s long));
+          (spell (λ w. deskIn (signalled-words (turned-words side tside w)) e a b ft st c (marked (jobIn (turned-words side tside w)) (registersIn (signalled-words (turned-words side tside w))) m)) s long
+          ∙ rw (set-flag (setIn (getD s 6 0) || (ltb (getD s 5 0) (getD s 16 0) && not (setIn (getD s 17 0)))), turned, turned-rows (setIn (getD s 28 0)) (setIn (getD s 29 0)) a b, tturned, turned-rows (setIn (getD s 34 0)) (setIn (getD s 35 0)) ft st));
+      rests = rw (f .words) (spell (λ w. signalled-words (turned-words side tside w)) s long ∙ sym (spell (λ w. rested (signalled-words (turned-words side tside w))) s long));
     }
 
 pub ruleset accepting = (accepts, needs)

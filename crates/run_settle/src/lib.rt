@@ -1,6 +1,6 @@
 // How the submission in work is settled, on the device's words: its error if it has one, its fence, then head and page in guest memory.
-// Nothing is in work afterwards, and no word is left of what was. Resources are not touched: a good answer only says which table of them is
-// the device's from now on.
+// Nothing is in work afterwards, and no word is left of what was. Resources and tokens are not touched: a good answer only says which tables of
+// them are the device's from now on.
 use rules::Fault;
 use run_state::COMPLETED;
 use run_state::COPIED;
@@ -12,10 +12,14 @@ use run_state::FAILED;
 use run_state::FENCE_PAGE;
 use run_state::FENCED;
 use run_state::HELD;
+use run_state::HELD_TOKENS;
 use run_state::JOB_SIGNAL;
 use run_state::JOB_SILENT;
 use run_state::LIVE;
 use run_state::SIDE;
+use run_state::TOKEN_SIDE;
+use run_state::TOKENS;
+use run_state::TOKENS_COPIED;
 use run_state::Words;
 use run_state::flag;
 use run_state::is_set;
@@ -54,7 +58,7 @@ fn finish(words: &mut Words, mem: &mut [u8])
     mark(mem, job, words[FENCE_PAGE], words[COMPLETED]);
 }
 
-// Settles the submission in work with an error and its place; the device's resources stay.
+// Settles the submission in work with an error and its place; the device's resources and tokens stay.
 pub fn settle_refused(words: &mut Words, mem: &mut [u8], why: Fault)
     ensures { λ _. ⌜ Refuses (now (words .entry)) (now (mem .entry)) why (now (words .exit)) (now (mem .exit)) ⌝ }
 {
@@ -81,14 +85,18 @@ fn turned_if(side: u64, own: u64) -> u64
     if side == 0 { 1 } else { 0 }
 }
 
-// Settles the submission in work without an error: its resources become the device's, and none is copied.
+// Settles the submission in work without an error: its resources and tokens become the device's, and none is copied.
 pub fn settle_accepted(words: &mut Words, mem: &mut [u8])
     ensures { λ _. ⌜ Accepts (now (words .entry)) (now (mem .entry)) (now (words .exit)) (now (mem .exit)) ⌝ }
 {
     let side = turned_if(words[SIDE], words[COPIED]);
     let held = words[HELD];
+    let token_side = turned_if(words[TOKEN_SIDE], words[TOKENS_COPIED]);
+    let used = words[HELD_TOKENS];
     let all = &words[..];
     words[SIDE] = side;
     words[LIVE] = held;
+    words[TOKEN_SIDE] = token_side;
+    words[TOKENS] = used;
     finish(words, mem);
 }

@@ -10,14 +10,15 @@ use borrow.Author.Tests.{eq-eqb, ne-eqb, lt-ltb, le-ltb}
 use lib.Dec.{eqb}
 use lib.ListN.{getD}
 use Rattle.machine.specs.Machine.{pick}
-use Rattle.rules.specs.Numbers.{most}
+use Rattle.rules.specs.Numbers.{most, most-tokens}
 use Rattle.rules.specs.declared.Job.{Job}
 use Rattle.rules.specs.declared.Table.{Table}
 use Rattle.rules.specs.declared.Stream.{Stream}
 use Rattle.rows.specs.Rows.{table-zero}
 use Rattle.kept_entries.specs.Views.{entriesOf}
 use Rattle.kept_resources.specs.Views.{resourcesOf, recordsOf}
-use Rattle.run_state.specs.Views.{setIn, flagOf, smallIn, countIn, jobIn, tableIn, streamIn}
+use Rattle.kept_tokens.specs.Views.{tokensOf}
+use Rattle.run_state.specs.Views.{setIn, flagOf, smallIn, countIn, tokenCountIn, jobIn, tableIn, streamIn}
 
 -- ---- one word
 
@@ -33,6 +34,12 @@ set-test x b p = p ∙ by (eqb x 0)
     by : (v : Bool) → not v ≡ pick v false true
     by true = refl
     by false = refl
+
+pub marks-none : (x : ℕ) → x ≡ 0 → setIn 0 ≡ setIn x
+marks-none x h = rw (eq-eqb x 0 h)
+
+pub marks-set : (x : ℕ) → (x ≡ 0 → ⊥) → setIn 1 ≡ setIn x
+marks-set x h = rw (ne-eqb x 0 h)
 
 pub flagged : (b : Bool) → b ≡ true → 1 ≡ flagOf b
 flagged b e = rw e
@@ -60,11 +67,22 @@ pub few : (x : ℕ) → x ≤ 64 → (x ≡ countIn x) × (x ≤ most)
 unfolding countIn
 few x h = (rw (le-ltb most x h), h)
 
-pub ruleset reading-word = (unset, is-set, set-test, flagged, unflagged, many, few, needs)
+pub many-tokens : (x : ℕ) → 256 < x → (256 ≡ tokenCountIn x) × (256 ≤ most-tokens)
+unfolding tokenCountIn
+many-tokens x h = (rw (lt-ltb most-tokens x h), omega arith)
+
+pub few-tokens : (x : ℕ) → x ≤ 256 → (x ≡ tokenCountIn x) × (x ≤ most-tokens)
+unfolding tokenCountIn
+few-tokens x h = (rw (le-ltb most-tokens x h), h)
+
+pub ruleset reading-word = (marks-none, marks-set, unset, is-set, set-test, flagged, unflagged, many, few, many-tokens, few-tokens, needs)
 
 -- a count that was stored is read
 pub count-as : (x n : ℕ) → (x ≡ n) × (x < 18446744073709551616) → n ≤ most → countIn x ≡ n
 count-as x n p h = sym (few x (omega arith) .0) ∙ p .0
+
+pub token-count-as : (x n : ℕ) → (x ≡ n) × (x < 18446744073709551616) → n ≤ most-tokens → tokenCountIn x ≡ n
+token-count-as x n p h = sym (few-tokens x (omega arith) .0) ∙ p .0
 
 -- a count of 0 is no row
 module _ (l : List ℕ) where
@@ -79,6 +97,10 @@ module _ (l : List ℕ) where
   pub none-made : recordsOf (countIn 0) l ≡ []
   unfolding countIn
   none-made = table-zero _ _ l
+
+  pub none-used : tokensOf (tokenCountIn 0) l ≡ []
+  unfolding tokenCountIn
+  none-used = table-zero _ _ l
 
 -- ---- some words
 

@@ -6,12 +6,12 @@ use rules::Table;
 use words::low32;
 ghost use mathlib.Core.Path.{_≡_};
 ghost use Prim.Native.Nat.{_≤_};
-ghost use Rattle.rules.specs.Numbers.{most};
-ghost use Rattle.run_state.specs.Views.{setIn, flagOf, countIn, jobIn, tableIn, streamIn, rested};
+ghost use Rattle.rules.specs.Numbers.{most, most-tokens};
+ghost use Rattle.run_state.specs.Views.{setIn, flagOf, countIn, tokenCountIn, jobIn, tableIn, streamIn, rested};
 
 // A device's words: its memory's length, its registers, what is in work, how many rows of each table are live, and which of the two
-// tables of resources is the device's.
-pub type Words = [u64; 32];
+// tables of resources, and of tokens, is the device's.
+pub type Words = [u64; 36];
 
 pub const MEMORY: usize = 0;
 
@@ -94,6 +94,17 @@ pub const ERROR_DETAIL: usize = 30;
 // The handle of the target that the submission in work has set, 0 while it has none.
 pub const TARGET: usize = 31;
 
+// How many tokens were used since the last reset: by the device, and with those of the submission in work.
+pub const TOKENS: usize = 32;
+
+pub const HELD_TOKENS: usize = 33;
+
+// Which table of tokens is the device's: 0 the first, else the second.
+pub const TOKEN_SIDE: usize = 34;
+
+// Whether the submission in work has changed a token, and so has the other table of tokens for its own.
+pub const TOKENS_COPIED: usize = 35;
+
 // A flag as a word says it: any word but 0 is set.
 pub fn is_set(word: u64) -> bool
     ensures { λ r. ⌜ r ≡ setIn word ⌝ }
@@ -108,6 +119,13 @@ pub fn flag(b: bool) -> u64
     if b { 1 } else { 0 }
 }
 
+// A flag as a number of four bytes, 0 or 1.
+pub fn mark(word: u64) -> u32
+    ensures { λ r. ⌜ setIn r ≡ setIn word ⌝ }
+{
+    if word == 0 { 0 } else { 1 }
+}
+
 // How many rows a word says; a count above 64 is 64.
 pub fn rows_in(word: u64) -> usize
     ensures { λ r. ⌜ (r ≡ countIn word) × (r ≤ most) ⌝ }
@@ -116,6 +134,16 @@ pub fn rows_in(word: u64) -> usize
         return 64;
     }
     word as usize
+}
+
+// How many tokens a word says; a count above 256 is 256.
+pub fn tokens_in(word: u64) -> u32
+    ensures { λ r. ⌜ (r ≡ tokenCountIn word) × (r ≤ most-tokens) ⌝ }
+{
+    if 256 < word {
+        return 256;
+    }
+    word as u32
 }
 
 // What settling needs of the submission in work.
@@ -171,4 +199,6 @@ pub fn rest(words: &mut Words)
     words[MADE] = 0;
     words[COPIED] = 0;
     words[TARGET] = 0;
+    words[HELD_TOKENS] = 0;
+    words[TOKENS_COPIED] = 0;
 }

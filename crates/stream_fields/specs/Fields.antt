@@ -11,8 +11,8 @@ use lib.IntN.{ℤ}
 use lib.Ieee.{Float}
 use lib.ListN.{length}
 use Rattle.machine.specs.Machine.{pick}
-use Rattle.rules.specs.Numbers.{create-buffer, create-texture, destroy, dirty-range, copy-buffer, set-target, set-viewport, set-scissor, clear, create-buffer-size, create-texture-size, destroy-size, dirty-range-size, copy-buffer-size, set-target-size, set-viewport-size, set-scissor-size, clear-size}
-use Rattle.rules.specs.Layouts.{word, long, buffer-fields, texture-fields, destroy-fields, dirty-fields, copy-fields, target-fields, viewport-floats, viewport-fields, signed, scissor-fields, clear-floats, clear-fields}
+use Rattle.rules.specs.Numbers.{create-buffer, create-texture, destroy, dirty-range, copy-buffer, set-target, set-viewport, set-scissor, clear, export-surface, import-surface, release-token, create-buffer-size, create-texture-size, destroy-size, dirty-range-size, copy-buffer-size, set-target-size, set-viewport-size, set-scissor-size, clear-size, export-surface-size, import-surface-size, release-token-size}
+use Rattle.rules.specs.Layouts.{word, long, buffer-fields, texture-fields, destroy-fields, dirty-fields, copy-fields, target-fields, viewport-floats, viewport-fields, signed, scissor-fields, clear-floats, clear-fields, export-fields, import-fields, release-fields}
 use Rattle.rules.specs.Floats.{float-of, is-nan, nan-among}
 use Rattle.rules.specs.Stream.{unless-nan, known, least-size, packet-of}
 use Rattle.rules.specs.Lists.Found.{none}
@@ -26,10 +26,13 @@ use Rattle.rules.specs.declared.SetTarget.{SetTarget}
 use Rattle.rules.specs.declared.SetViewport.{SetViewport}
 use Rattle.rules.specs.declared.SetScissor.{SetScissor}
 use Rattle.rules.specs.declared.ClearValues.{ClearValues}
+use Rattle.rules.specs.declared.ExportSurface.{ExportSurface}
+use Rattle.rules.specs.declared.ImportSurface.{ImportSurface}
+use Rattle.rules.specs.declared.ReleaseToken.{ReleaseToken}
 use Rattle.stream_fields.specs.declared.fields.Reading.{Reading}
 use Rattle.stream_fields.specs.declared.fields.Reading.the-variants.{TooShort, Says}
 use Rattle.rules.specs.declared.Packet.{Packet}
-use Rattle.rules.specs.declared.Packet.the-variants.{Buffer, Texture, Destroy, Dirty, Copy, Target, Viewport, Scissor, Clear, NotANumber, Unknown}
+use Rattle.rules.specs.declared.Packet.the-variants.{Buffer, Texture, Destroy, Dirty, Copy, Target, Viewport, Scissor, Clear, Export, Import, Release, NotANumber, Unknown}
 
 -- ---- the fields of each packet
 
@@ -72,7 +75,19 @@ module _ (b : List ℕ) where
   unfolding scissor-fields
   scissor-is x y w h x′ y′ w′ h′ p₁ q₁ p₂ q₂ p₃ q₃ p₄ q₄ = rw (q₁, q₂, q₃, q₄, p₁, p₂, p₃, p₄)
 
-pub ruleset reading-fields = (buffer-is, shape-is, texture-is, destroy-is, dirty-is, copy-is, target-is, scissor-is, needs)
+  pub export-is : (h t : ℕ) → h ≡ word b 8 → t ≡ long b 16 → _≡_ {A = ExportSurface} (record { handle = h; token = t }) (export-fields b)
+  unfolding export-fields
+  export-is h t p₁ p₂ = rw (p₁, p₂)
+
+  pub import-is : (h t : ℕ) → h ≡ word b 8 → t ≡ long b 16 → _≡_ {A = ImportSurface} (record { handle = h; token = t }) (import-fields b)
+  unfolding import-fields
+  import-is h t p₁ p₂ = rw (p₁, p₂)
+
+  pub release-is : (t : ℕ) → t ≡ long b 8 → _≡_ {A = ReleaseToken} (record { token = t }) (release-fields b)
+  unfolding release-fields
+  release-is t p = rw p
+
+pub ruleset reading-fields = (buffer-is, shape-is, texture-is, destroy-is, dirty-is, copy-is, target-is, scissor-is, export-is, import-is, release-is, needs)
 
 -- ---- packets with floats
 
@@ -174,7 +189,8 @@ reading op b = pick (ltb (length b) (least-size op)) TooShort (Says (packet-of o
 
 -- an opcode that is in none of its rows
 module _ (op : ℕ) (n₁ : op ≡ create-buffer → ⊥) (n₂ : op ≡ create-texture → ⊥) (n₃ : op ≡ destroy → ⊥) (n₄ : op ≡ dirty-range → ⊥)
-    (n₅ : op ≡ copy-buffer → ⊥) (n₆ : op ≡ set-target → ⊥) (n₇ : op ≡ set-viewport → ⊥) (n₈ : op ≡ set-scissor → ⊥) (n₉ : op ≡ clear → ⊥) where
+    (n₅ : op ≡ copy-buffer → ⊥) (n₆ : op ≡ set-target → ⊥) (n₇ : op ≡ set-viewport → ⊥) (n₈ : op ≡ set-scissor → ⊥) (n₉ : op ≡ clear → ⊥)
+    (n₁₀ : op ≡ export-surface → ⊥) (n₁₁ : op ≡ import-surface → ⊥) (n₁₂ : op ≡ release-token → ⊥) where
   pub none-known : known op ≡ none
   unfolding known
   none-known =
@@ -188,6 +204,9 @@ module _ (op : ℕ) (n₁ : op ≡ create-buffer → ⊥) (n₂ : op ≡ create-
         ne-eqb op set-viewport n₇,
         ne-eqb op set-scissor n₈,
         ne-eqb op clear n₉,
+        ne-eqb op export-surface n₁₀,
+        ne-eqb op import-surface n₁₁,
+        ne-eqb op release-token n₁₂,
       )
 
 module _ (op : ℕ) (unknown : known op ≡ none) where
@@ -236,6 +255,18 @@ module _ (op : ℕ) where
   unfolding least-size known
   known-clear p = rw p
 
+  pub known-export : op ≡ export-surface → export-surface-size ≡ least-size op
+  unfolding least-size known
+  known-export p = rw p
+
+  pub known-import : op ≡ import-surface → import-surface-size ≡ least-size op
+  unfolding least-size known
+  known-import p = rw p
+
+  pub known-release : op ≡ release-token → release-token-size ≡ least-size op
+  unfolding least-size known
+  known-release p = rw p
+
   module _ (b : List ℕ) where
     pub says-buffer : op ≡ create-buffer → (f : CreateBuffer) → f ≡ buffer-fields b → Buffer f ≡ packet-of op b
     unfolding packet-of known
@@ -273,6 +304,18 @@ module _ (op : ℕ) where
     unfolding packet-of known
     says-clear p f q = rw p q
 
+    pub says-export : op ≡ export-surface → (f : ExportSurface) → f ≡ export-fields b → Export f ≡ packet-of op b
+    unfolding packet-of known
+    says-export p f q = rw (p, q)
+
+    pub says-import : op ≡ import-surface → (f : ImportSurface) → f ≡ import-fields b → Import f ≡ packet-of op b
+    unfolding packet-of known
+    says-import p f q = rw (p, q)
+
+    pub says-release : op ≡ release-token → (f : ReleaseToken) → f ≡ release-fields b → Release f ≡ packet-of op b
+    unfolding packet-of known
+    says-release p f q = rw (p, q)
+
     -- a known packet that is too short says nothing; one from its own size upward, and an unknown one, say what stands there
     pub short-part : (size : ℕ) → size ≡ least-size op → length b < size → TooShort ≡ reading op b
     unfolding reading
@@ -298,6 +341,9 @@ pub ruleset reading-part = (
   says-viewport,
   says-scissor,
   says-clear,
+  says-export,
+  says-import,
+  says-release,
   says-nothing,
   known-buffer,
   known-texture,
@@ -308,6 +354,9 @@ pub ruleset reading-part = (
   known-viewport,
   known-scissor,
   known-clear,
+  known-export,
+  known-import,
+  known-release,
   known-none,
   none-known,
   needs,

@@ -3,9 +3,9 @@ ghost use mathlib.Core.Path.{_≡_};
 ghost use Prim.Native.Nat.{_≤_};
 ghost use lib.ListN.{length};
 ghost use mathlib.Core.List.{[], _∷_};
-ghost use Rattle.rules.specs.Numbers.{create-buffer-size, create-texture-size, destroy-size, dirty-range-size, copy-buffer-size, set-target-size, set-viewport-size, set-scissor-size, clear-size};
+ghost use Rattle.rules.specs.Numbers.{create-buffer-size, create-texture-size, destroy-size, dirty-range-size, copy-buffer-size, set-target-size, set-viewport-size, set-scissor-size, clear-size, export-surface-size, import-surface-size, release-token-size};
 ghost use Rattle.rules.specs.Floats.{nan-among};
-ghost use Rattle.rules.specs.Layouts.{buffer-fields, texture-fields, destroy-fields, dirty-fields, copy-fields, target-fields, viewport-floats, viewport-fields, scissor-fields, clear-floats, clear-fields};
+ghost use Rattle.rules.specs.Layouts.{buffer-fields, texture-fields, destroy-fields, dirty-fields, copy-fields, target-fields, viewport-floats, viewport-fields, scissor-fields, clear-floats, clear-fields, export-fields, import-fields, release-fields};
 ghost use Rattle.rules.specs.Stream.{unless-nan};
 ghost use Rattle.rules.specs.declared.Packet.the-variants.{Viewport, Clear};
 ghost use Rattle.stream_fields.specs.Fields.{reading};
@@ -17,7 +17,10 @@ use rules::CreateBuffer;
 use rules::CreateTexture;
 use rules::DestroyResource;
 use rules::DirtyRange;
+use rules::ExportSurface;
+use rules::ImportSurface;
 use rules::Packet;
+use rules::ReleaseToken;
 use rules::SetScissor;
 use rules::SetTarget;
 use rules::SetViewport;
@@ -28,6 +31,9 @@ use rules::numbers::CREATE_BUFFER;
 use rules::numbers::CREATE_TEXTURE;
 use rules::numbers::DESTROY;
 use rules::numbers::DIRTY_RANGE;
+use rules::numbers::EXPORT_SURFACE;
+use rules::numbers::IMPORT_SURFACE;
+use rules::numbers::RELEASE_TOKEN;
 use rules::numbers::SET_SCISSOR;
 use rules::numbers::SET_TARGET;
 use rules::numbers::SET_VIEWPORT;
@@ -53,6 +59,12 @@ const SET_VIEWPORT_SIZE: usize = rules::numbers::SET_VIEWPORT_SIZE as usize;
 const SET_SCISSOR_SIZE: usize = rules::numbers::SET_SCISSOR_SIZE as usize;
 
 const CLEAR_SIZE: usize = rules::numbers::CLEAR_SIZE as usize;
+
+const EXPORT_SURFACE_SIZE: usize = rules::numbers::EXPORT_SURFACE_SIZE as usize;
+
+const IMPORT_SURFACE_SIZE: usize = rules::numbers::IMPORT_SURFACE_SIZE as usize;
+
+const RELEASE_TOKEN_SIZE: usize = rules::numbers::RELEASE_TOKEN_SIZE as usize;
 
 fn buffer_fields(part: &[u8]) -> CreateBuffer
     requires { ⌜ create-buffer-size ≤ length (now part) ⌝ }
@@ -144,6 +156,35 @@ fn scissor_fields(part: &[u8]) -> SetScissor
         y: signed_of(u32_at(part, 12)),
         width: signed_of(u32_at(part, 16)),
         height: signed_of(u32_at(part, 20)),
+    }
+}
+
+fn export_fields(part: &[u8]) -> ExportSurface
+    requires { ⌜ export-surface-size ≤ length (now part) ⌝ }
+    ensures { λ r. ⌜ r ≡ export-fields (now (part .entry)) ⌝ }
+{
+    ExportSurface {
+        handle: u32_at(part, 8),
+        token: u64_at(part, 16),
+    }
+}
+
+fn import_fields(part: &[u8]) -> ImportSurface
+    requires { ⌜ import-surface-size ≤ length (now part) ⌝ }
+    ensures { λ r. ⌜ r ≡ import-fields (now (part .entry)) ⌝ }
+{
+    ImportSurface {
+        handle: u32_at(part, 8),
+        token: u64_at(part, 16),
+    }
+}
+
+fn release_fields(part: &[u8]) -> ReleaseToken
+    requires { ⌜ release-token-size ≤ length (now part) ⌝ }
+    ensures { λ r. ⌜ r ≡ release-fields (now (part .entry)) ⌝ }
+{
+    ReleaseToken {
+        token: u64_at(part, 8),
     }
 }
 
@@ -285,6 +326,24 @@ pub fn read_part(op: u32, part: &[u8]) -> Reading
                 return Reading::TooShort;
             }
             Reading::Says(clear_packet(part))
+        }
+        EXPORT_SURFACE => {
+            if size < EXPORT_SURFACE_SIZE {
+                return Reading::TooShort;
+            }
+            Reading::Says(Packet::Export(export_fields(part)))
+        }
+        IMPORT_SURFACE => {
+            if size < IMPORT_SURFACE_SIZE {
+                return Reading::TooShort;
+            }
+            Reading::Says(Packet::Import(import_fields(part)))
+        }
+        RELEASE_TOKEN => {
+            if size < RELEASE_TOKEN_SIZE {
+                return Reading::TooShort;
+            }
+            Reading::Says(Packet::Release(release_fields(part)))
         }
         _ => Reading::Says(Packet::Unknown),
     }

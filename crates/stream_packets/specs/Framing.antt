@@ -232,18 +232,20 @@ module _ (b : List ℕ) where
 
 -- ---- may_be_known
 
--- one of the three blocks of eight that have all opcodes that we know
+-- one of the four blocks of eight that have all opcodes that we know
 unfoldable pub in-blocks : ℕ → Bool
-in-blocks op = eqb (op / 8) 32 || (eqb (op / 8) 128 || eqb (op / 8) 192)
+in-blocks op = eqb (op / 8) 32 || (eqb (op / 8) 128 || (eqb (op / 8) 192 || eqb (op / 8) 226))
 
 module _ (op : ℕ) where
-  pub before-all : op < 256 → false ≡ in-blocks op
+  in-none : (op / 8 ≡ 32 → ⊥) → (op / 8 ≡ 128 → ⊥) → (op / 8 ≡ 192 → ⊥) → (op / 8 ≡ 226 → ⊥) → false ≡ in-blocks op
   unfolding in-blocks
-  before-all h = rw (ne-eqb (op / 8) 32 (λ e. omega arith), ne-eqb (op / 8) 128 (λ e. omega arith), ne-eqb (op / 8) 192 (λ e. omega arith))
+  in-none n₁ n₂ n₃ n₄ = rw (ne-eqb (op / 8) 32 n₁, ne-eqb (op / 8) 128 n₂, ne-eqb (op / 8) 192 n₃, ne-eqb (op / 8) 226 n₄)
 
-  pub behind-all : 1544 ≤ op → false ≡ in-blocks op
-  unfolding in-blocks
-  behind-all h = rw (ne-eqb (op / 8) 32 (λ e. omega arith), ne-eqb (op / 8) 128 (λ e. omega arith), ne-eqb (op / 8) 192 (λ e. omega arith))
+  pub before-all : op < 256 → false ≡ in-blocks op
+  before-all h = in-none (λ e. omega arith) (λ e. omega arith) (λ e. omega arith) (λ e. omega arith)
+
+  pub behind-all : 1816 ≤ op → false ≡ in-blocks op
+  behind-all h = in-none (λ e. omega arith) (λ e. omega arith) (λ e. omega arith) (λ e. omega arith)
 
   pub in-first : op / 8 ≡ 32 → true ≡ in-blocks op
   unfolding in-blocks
@@ -253,11 +255,15 @@ module _ (op : ℕ) where
   unfolding in-blocks
   in-second n e = rw (ne-eqb (op / 8) 32 n, eq-eqb (op / 8) 128 e)
 
-  pub in-third : (op / 8 ≡ 32 → ⊥) → (op / 8 ≡ 128 → ⊥) → eqb (op / 8) 192 ≡ in-blocks op
+  pub in-third : (op / 8 ≡ 32 → ⊥) → (op / 8 ≡ 128 → ⊥) → op / 8 ≡ 192 → true ≡ in-blocks op
   unfolding in-blocks
-  in-third n k = rw (ne-eqb (op / 8) 32 n, ne-eqb (op / 8) 128 k)
+  in-third n k e = rw (ne-eqb (op / 8) 32 n, ne-eqb (op / 8) 128 k, eq-eqb (op / 8) 192 e)
 
-pub ruleset finding-block = (before-all, behind-all, in-first, in-second, in-third, needs)
+  pub in-fourth : (op / 8 ≡ 32 → ⊥) → (op / 8 ≡ 128 → ⊥) → (op / 8 ≡ 192 → ⊥) → eqb (op / 8) 226 ≡ in-blocks op
+  unfolding in-blocks
+  in-fourth n k l = rw (ne-eqb (op / 8) 32 n, ne-eqb (op / 8) 128 k, ne-eqb (op / 8) 192 l)
+
+pub ruleset finding-block = (before-all, behind-all, in-first, in-second, in-third, in-fourth, needs)
 
 -- ---- unknown_size
 
@@ -280,7 +286,7 @@ module _ (b : List ℕ) (at room : ℕ) where
 
     none-of : (f : (k : ℕ) → in-blocks k ≡ true → op ≡ k → ⊥) → known op ≡ none
     unfolding in-blocks
-    none-of f = none-known op (f _ refl) (f _ refl) (f _ refl) (f _ refl) (f _ refl) (f _ refl) (f _ refl) (f _ refl) (f _ refl)
+    none-of f = none-known op (f _ refl) (f _ refl) (f _ refl) (f _ refl) (f _ refl) (f _ refl) (f _ refl) (f _ refl) (f _ refl) (f _ refl) (f _ refl) (f _ refl)
 
     pub passes : Passed b at room long
     unfolding misframed

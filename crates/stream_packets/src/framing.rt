@@ -9,6 +9,7 @@ use rules::Refusal;
 use rules::numbers::BAD_PACKET;
 use rules::numbers::CLEAR;
 use rules::numbers::CREATE_BUFFER;
+use rules::numbers::EXPORT_SURFACE;
 use rules::numbers::SET_TARGET;
 use stream_fields::fields::Reading;
 use stream_fields::fields::read_part;
@@ -17,7 +18,7 @@ use words::u32_at;
 
 const PACKET_HEADER_SIZE: usize = rules::numbers::PACKET_HEADER_SIZE as usize;
 
-// The opcodes that we know stand in blocks of so many: resources', state's and the clear's.
+// The opcodes that we know stand in blocks of so many: resources', state's, the clear's and tokens'.
 const OPCODES_BLOCK: u32 = 8;
 
 // A packet of the stream: its size and what it says; or that no packet stands there.
@@ -47,7 +48,7 @@ fn may_be_known(op: u32) -> bool
     if op < CREATE_BUFFER {
         return false;
     }
-    if op >= CLEAR + OPCODES_BLOCK {
+    if op >= EXPORT_SURFACE + OPCODES_BLOCK {
         return false;
     }
     let block = op / OPCODES_BLOCK;
@@ -57,7 +58,10 @@ fn may_be_known(op: u32) -> bool
     if block == SET_TARGET / OPCODES_BLOCK {
         return true;
     }
-    block == CLEAR / OPCODES_BLOCK
+    if block == CLEAR / OPCODES_BLOCK {
+        return true;
+    }
+    block == EXPORT_SURFACE / OPCODES_BLOCK
 }
 
 // The size of a packet that is framed, is none that we know and is smaller than the room; 0 of any other, and of those whose opcode

@@ -26,7 +26,7 @@ recordWords c = c .kind ∷ c .handle ∷ c .id ∷ c .gpa ∷ c .length ∷ []
 
 -- the rules' read, of the device in the words
 pub record SaysValue (s : List ℕ) (offset said : ℕ) : Type 0 where
-  pub value : (e a b c : List ℕ) → said ≡ saidValue (call-read (stateIn s e a b c) offset)
+  pub value : (e a b ft st c : List ℕ) → said ≡ saidValue (call-read (stateIn s e a b ft st c) offset)
 
 -- what the rules' call comes to, of the device in the words and tables
 pub record SaysSpent (r : Ran) (l : Lent) (said : ℕ) (l′ : Lent) : Type 0 where
@@ -44,5 +44,5 @@ SaysAnswer good allowance l = SaysSpent (call-answer (deskOf l) good allowance) 
 
 -- the rules' record, of the device in the words
 pub record SaysRecord (s c : List ℕ) (i n : ℕ) (said : List ℕ) : Type 0 where
-  pub answer : (e a b : List ℕ) → n ≡ call-record (stateIn s e a b c) i .answer
-  pub range : (e a b : List ℕ) → said ≡ recordWords (call-record (stateIn s e a b c) i .range)
+  pub answer : (e a b ft st : List ℕ) → n ≡ call-record (stateIn s e a b ft st c) i .answer
+  pub range : (e a b ft st : List ℕ) → said ≡ recordWords (call-record (stateIn s e a b ft st c) i .range)

@@ -24,7 +24,7 @@ use Rattle.table_whole.specs.Whole.{shown}
 
 pub says-value : (s : List ℕ) (offset v a : ℕ) (x : ValueRead) → Reads s offset x → (v ≡ x .value) × (v < 4294967296) → (a ≡ x .answer) × (a < 4294967296) → SaysValue s offset (v + 4294967296 * a)
 says-value s offset v a x k p q =
-    record { value = λ e f g c. rw (p .0, q .0) (ap saidValue (k .value e f g c)) }
+    record { value = λ e f g ft st c. rw (p .0, q .0) (ap saidValue (k .value e f g ft st c)) }
 
 pub ruleset saying-value = (says-value, needs)
 
@@ -35,8 +35,8 @@ says-number x n u v p q t = rw (p .0, q, t .0)
 
 pub ruleset saying-number = (says-number, needs)
 
-module _ (s e a b c m s′ e′ a′ b′ c′ m′ : List ℕ) (x : Spent) (n : ℕ) (is : n ≡ saidSpent x) where
-  says-spent : (r : Ran) → ranOf x (lent s′ e′ a′ b′ c′ m′) ≡ r → (Refused (x .answer) → lent s′ e′ a′ b′ c′ m′ ≡ lent s e a b c m) → SaysSpent r (lent s e a b c m) n (lent s′ e′ a′ b′ c′ m′)
+module _ (s e a b ft st c m s′ e′ a′ b′ ft′ st′ c′ m′ : List ℕ) (x : Spent) (n : ℕ) (is : n ≡ saidSpent x) where
+  says-spent : (r : Ran) → ranOf x (lent s′ e′ a′ b′ ft′ st′ c′ m′) ≡ r → (Refused (x .answer) → lent s′ e′ a′ b′ ft′ st′ c′ m′ ≡ lent s e a b ft st c m) → SaysSpent r (lent s e a b ft st c m) n (lent s′ e′ a′ b′ ft′ st′ c′ m′)
   says-spent r k still =
       record {
         spent = is ∙ ap saidRun k;
@@ -44,14 +44,14 @@ module _ (s e a b c m s′ e′ a′ b′ c′ m′ : List ℕ) (x : Spent) (n :
         still = λ z. still (λ d. z (sym (ap (λ (y : Ran). y .answer) k) ∙ d));
       }
 
-  pub says-run : (allowance : ℕ) → Runs allowance (lent s e a b c m) x (lent s′ e′ a′ b′ c′ m′) → SaysRun allowance (lent s e a b c m) n (lent s′ e′ a′ b′ c′ m′)
-  says-run allowance k = says-spent (call-run (deskIn s e a b c m) allowance) (k .ran) (k .still)
+  pub says-run : (allowance : ℕ) → Runs allowance (lent s e a b ft st c m) x (lent s′ e′ a′ b′ ft′ st′ c′ m′) → SaysRun allowance (lent s e a b ft st c m) n (lent s′ e′ a′ b′ ft′ st′ c′ m′)
+  says-run allowance k = says-spent (call-run (deskIn s e a b ft st c m) allowance) (k .ran) (k .still)
 
-  pub says-answer : (good w allowance : ℕ) (g : Bool) → (w ≡ good) × (w < 4294967296) → g ≡ setIn w → Answers g allowance (lent s e a b c m) x (lent s′ e′ a′ b′ c′ m′)
-      → SaysAnswer (setIn good) allowance (lent s e a b c m) n (lent s′ e′ a′ b′ c′ m′)
+  pub says-answer : (good w allowance : ℕ) (g : Bool) → (w ≡ good) × (w < 4294967296) → g ≡ setIn w → Answers g allowance (lent s e a b ft st c m) x (lent s′ e′ a′ b′ ft′ st′ c′ m′)
+      → SaysAnswer (setIn good) allowance (lent s e a b ft st c m) n (lent s′ e′ a′ b′ ft′ st′ c′ m′)
   says-answer good w allowance g p q k =
       let same : g ≡ setIn good = q ∙ ap setIn (p .0) in
-      says-spent (call-answer (deskIn s e a b c m) (setIn good) allowance) (k .ran ∙ ap (λ y. call-answer (deskIn s e a b c m) y allowance) same) (k .still)
+      says-spent (call-answer (deskIn s e a b ft st c m) (setIn good) allowance) (k .ran ∙ ap (λ y. call-answer (deskIn s e a b ft st c m) y allowance) same) (k .still)
 
 pub ruleset saying-run = (says-run, says-answer, needs)
 
@@ -69,8 +69,8 @@ says-words l x kind handle id long p q t = five-set l kind handle id (x .gpa) (x
 pub says-record : (s c : List ℕ) (i : ℕ) (x : RecordRead) (said : List ℕ) → GivesRecord s c i x → said ≡ recordWords (x .range) → SaysRecord s c i (x .answer) said
 says-record s c i x said k p =
     record {
-      answer = λ e a b. ap (λ (h : RecordReadBy). h .answer) (k .hands e a b);
-      range = λ e a b. p ∙ ap (λ (h : RecordReadBy). recordWords (h .range)) (k .hands e a b);
+      answer = λ e a b ft st. ap (λ (h : RecordReadBy). h .answer) (k .hands e a b ft st);
+      range = λ e a b ft st. p ∙ ap (λ (h : RecordReadBy). recordWords (h .range)) (k .hands e a b ft st);
     }
 
 pub ruleset saying-record = (says-words, says-record, needs)

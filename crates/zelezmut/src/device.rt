@@ -1,9 +1,10 @@
-// The device over state that the host owns: its words and its four tables. Zero or not, any words mean some device; `zelezmut_make` makes a
+// The device over state that the host owns: its words and its six tables. Zero or not, any words mean some device; `zelezmut_make` makes a
 // new one of them. A call's values stand beside its answer in one number, or, for a record, in five words.
 use device_memory_calls::Spent;
 use kept_entries::Entries;
 use kept_records::Records;
 use kept_resources::resources::Resources;
+use kept_tokens::Tokens;
 use rules::Ended;
 use rules::Record;
 use run_state::Words;
@@ -95,6 +96,8 @@ pub extern "C" fn zelezmut_run(
     entries: &mut Entries,
     first: &mut Resources,
     second: &mut Resources,
+    firsttokens: &mut Tokens,
+    secondtokens: &mut Tokens,
     records: &mut Records,
     mem: &mut [u8],
     allowance: u16,
@@ -105,6 +108,8 @@ pub extern "C" fn zelezmut_run(
           entries = now (entries .entry);
           first = now (first .entry);
           second = now (second .entry);
+          firstTokens = now (firsttokens .entry);
+          secondTokens = now (secondtokens .entry);
           records = now (records .entry);
           mem = now (mem .entry);
         })
@@ -114,11 +119,23 @@ pub extern "C" fn zelezmut_run(
           entries = now (entries .exit);
           first = now (first .exit);
           second = now (second .exit);
+          firstTokens = now (firsttokens .exit);
+          secondTokens = now (secondtokens .exit);
           records = now (records .exit);
           mem = now (mem .exit);
         }) ⌝ }
 {
-    let x = device_memory_calls::run(words, entries, first, second, records, mem, allowance);
+    let x = device_memory_calls::run(
+        words,
+        entries,
+        first,
+        second,
+        firsttokens,
+        secondtokens,
+        records,
+        mem,
+        allowance,
+    );
     said(x)
 }
 
@@ -145,6 +162,8 @@ pub extern "C" fn zelezmut_answer(
     entries: &mut Entries,
     first: &mut Resources,
     second: &mut Resources,
+    firsttokens: &mut Tokens,
+    secondtokens: &mut Tokens,
     records: &mut Records,
     mem: &mut [u8],
     good: u32,
@@ -156,6 +175,8 @@ pub extern "C" fn zelezmut_answer(
           entries = now (entries .entry);
           first = now (first .entry);
           second = now (second .entry);
+          firstTokens = now (firsttokens .entry);
+          secondTokens = now (secondtokens .entry);
           records = now (records .entry);
           mem = now (mem .entry);
         })
@@ -165,6 +186,8 @@ pub extern "C" fn zelezmut_answer(
           entries = now (entries .exit);
           first = now (first .exit);
           second = now (second .exit);
+          firstTokens = now (firsttokens .exit);
+          secondTokens = now (secondtokens .exit);
           records = now (records .exit);
           mem = now (mem .exit);
         }) ⌝ }
@@ -175,6 +198,8 @@ pub extern "C" fn zelezmut_answer(
         entries,
         first,
         second,
+        firsttokens,
+        secondtokens,
         records,
         mem,
         accepted,

@@ -1,8 +1,8 @@
 //! The guest and the host in one, writing a desk's operations: what they know, and how they say things.
 
-use crate::draft::Resource;
 use crate::event::Event;
 use crate::expected::Expected;
+use crate::held::Held;
 use crate::random::Random;
 use crate::world::World;
 use zelezmut::registers::{
@@ -19,9 +19,9 @@ pub(crate) const PLENTY: u16 = u16::MAX;
 pub(crate) struct Author {
     pub(crate) random: Random,
     pub(crate) world: World,
-    /// The ring's head, and the device's resources, as believed.
+    /// The ring's head, and what the device holds, as believed.
     pub(crate) head: u32,
-    pub(crate) live: Vec<Resource>,
+    pub(crate) held: Held,
     /// The units of the next submission that the last answer has carried on into, as believed.
     pub(crate) ahead: usize,
     /// The last signal fence given.
@@ -43,7 +43,7 @@ impl Author {
         Author {
             head: world.ring.header.head,
             world,
-            live: Vec::new(),
+            held: Held::default(),
             ahead: 0,
             signal: random.pick(&[0, 0, 6, u32::MAX.into(), 1 << 63]),
             sure: true,

@@ -1,8 +1,9 @@
 //! One case of the benchmark set up on any front, to be played again and again.
 //!
 //! A guest memory with a ring at 0, a table, and room for a stream of 60 KiB. Before the measured submission another one creates the
-//! resources. The guest arms the ring again before each submission: it moves the tail on. All slots of the ring name the same
-//! submission; where each has its answer before the next, there is one slot, and where one waits while the next is armed, two.
+//! resources, and the tokens and names where there are any. The guest arms the ring again before each submission: it moves the tail on.
+//! All slots of the ring name the same submission; where each has its answer before the next, there is one slot, and where one waits
+//! while the next is armed, two.
 
 use crate::cases::{Case, Mode, Way};
 use crate::front::{Ended, Front, Ran};
@@ -24,6 +25,8 @@ pub struct Bench<F> {
     /// The units of a submission.
     pub units: u64,
     slots: u32,
+    /// What the host says to a submission.
+    good: bool,
 }
 
 impl<F: Front> Bench<F> {
@@ -50,14 +53,14 @@ impl<F: Front> Bench<F> {
             seat,
             units: 0,
             slots,
+            good: true,
         };
 
-        let created = (0..case.live())
-            .map(|row| case.created(&mut random, row))
-            .collect();
-        bench.put(&mut random, case.entries(), created);
+        let before = case.before(&mut random);
+        bench.put(&mut random, case.entries(), before);
         bench.arm();
         bench.submission(Mode::Whole);
+        bench.good = case.is_answered_good();
 
         let mut packets = Vec::new();
         let mut room = STREAM - STREAM_HEADER as usize;
@@ -123,10 +126,11 @@ impl<F: Front> Bench<F> {
         );
     }
 
-    /// Rings, runs until the submission waits, and answers good.
+    /// Rings, runs until the submission waits, and answers.
     pub fn submission(&mut self, mode: Mode) {
         self.run_until_waiting(mode);
-        let ran = self.seat.front.answer(&mut self.seat.memory, true, 0);
+        let Seat { front, memory } = &mut self.seat;
+        let ran = front.answer(memory, self.good, 0);
         assert_eq!(ran.answer, 0, "{} was not waiting", F::NAME);
     }
 
@@ -192,8 +196,8 @@ mod tests {
     #[test]
     fn the_inputs_are_as_long_as_they_are_said_to_be() {
         let units = PUBLISHED.map(|published| Bench::<plain::Desk>::new(published.case).units);
-        let said = [7_677, 3_838, 1_919 + 1, 2 * 1_096, 1_279 + 1, 64].map(|steps| steps + 1);
-        assert_eq!(units, said);
+        let said = [7_677, 3_838, 1_919 + 1, 2 * 1_096, 1_279 + 1, 4 * 56, 64];
+        assert_eq!(units, said.map(|steps| steps + 1));
         let state = [Case::Viewport, Case::Clear, Case::Scissor];
         let units = state.map(|case| Bench::<plain::Desk>::new(case).units);
         assert_eq!(units, [1_919, 1_706, 65].map(|steps| steps + 1));

@@ -1,7 +1,9 @@
 //! The inputs of the benchmark: what is in the stream and the table, and what lives before.
 
+mod share;
+
 use crate::image::Entry;
-use crate::numbers::{MOST_ENTRIES, MOST_LAYERS, MOST_RECORDS, MOST_RESOURCES, WRITEBACK};
+use crate::numbers::{MOST_ENTRIES, MOST_LAYERS, MOST_NAMES, MOST_RECORDS, WRITEBACK};
 use crate::packet::{self, Backing, Clear, Copying, Scissor, Viewport};
 use crate::random::Random;
 use crate::shape::Shape;
@@ -99,6 +101,8 @@ pub enum Case {
     Clear,
     /// A target and scissors, as many as there may be records.
     Scissor,
+    /// Tokens are exported, imported and released, beside many of them. The host says that it failed.
+    Share,
     /// A table and no stream.
     Table {
         entries: usize,
@@ -113,7 +117,7 @@ pub struct Published {
     pub case: Case,
 }
 
-pub const PUBLISHED: [Published; 6] = [
+pub const PUBLISHED: [Published; 7] = [
     Published {
         key: "unknown",
         title: "unknown packets of 8 bytes",
@@ -128,7 +132,7 @@ pub const PUBLISHED: [Published; 6] = [
         key: "dirty",
         title: "dirty of size 0, row 40 of 64",
         case: Case::Dirty {
-            live: MOST_RESOURCES,
+            live: MOST_NAMES,
             row: 40,
             entries: 1,
         },
@@ -144,6 +148,11 @@ pub const PUBLISHED: [Published; 6] = [
         case: COPY,
     },
     Published {
+        key: "share",
+        title: "export, import and release",
+        case: Case::Share,
+    },
+    Published {
         key: "table",
         title: "full table of 64 entries",
         case: Case::Table {
@@ -154,7 +163,7 @@ pub const PUBLISHED: [Published; 6] = [
 
 /// The published copies: they leave as many records as there may be.
 pub const COPY: Case = Case::Copy {
-    live: MOST_RESOURCES,
+    live: MOST_NAMES,
     from: 20,
     to: 40,
 };
@@ -163,7 +172,6 @@ impl Case {
     /// What exactly is played.
     pub fn input(self) -> String {
         match self {
-            Case::Unknown => "7,677 packets of an unknown opcode, 8 bytes each; no table".to_string(),
             Case::OneUnknown { live } => format!(
                 "one packet of an unknown opcode, 8 bytes, beside {} live host-backed buffers; no table",
                 live
@@ -195,10 +203,19 @@ impl Case {
                 "3,838 target packets, 16 bytes each, all of the texture in row {} of {} host-backed ones; no table",
                 row, live
             ),
-            Case::Viewport => "1,919 viewports that pass; no table".to_string(),
-            Case::Clear => "1,706 clears that pass; no table".to_string(),
-            Case::Scissor => SCISSORS.to_string(),
             Case::Table { entries } => format!("a table of {}, no stream", counted(entries, "entry", "entries")),
+            _ => self.only_input().to_string(),
+        }
+    }
+
+    /// What is played of a case that has no numbers of its own.
+    fn only_input(self) -> &'static str {
+        match self {
+            Case::Viewport => "1,919 viewports that pass; no table",
+            Case::Clear => "1,706 clears that pass; no table",
+            Case::Scissor => SCISSORS,
+            Case::Share => share::INPUT,
+            _ => "7,677 packets of an unknown opcode, 8 bytes each; no table",
         }
     }
 
@@ -216,12 +233,29 @@ impl Case {
         }
     }
 
+    /// Whether the host says good to a submission.
+    pub fn is_answered_good(self) -> bool {
+        self != Case::Share
+    }
+
+    /// The packets of a submission before, which makes what is there when the measured one comes.
+    pub fn before(self, random: &mut Random) -> Vec<Vec<u8>> {
+        let mut packets: Vec<Vec<u8>> = (0..self.live())
+            .map(|row| self.created(random, row))
+            .collect();
+        if self == Case::Share {
+            packets.extend(share::tokens_and_names(random));
+        }
+        packets
+    }
+
     /// The resources that live before.
-    pub fn live(self) -> usize {
+    fn live(self) -> usize {
         match self {
             Case::Unknown | Case::Table { .. } | Case::CreateTexture { .. } => 0,
             Case::Viewport | Case::Clear => 0,
             Case::DirtyTexture { .. } | Case::Scissor => 1,
+            Case::Share => share::TEXTURES,
             Case::OneUnknown { live }
             | Case::Dirty { live, .. }
             | Case::Create { live }
@@ -231,7 +265,7 @@ impl Case {
     }
 
     /// The packet that creates the resource of this row.
-    pub fn created(self, random: &mut Random, row: usize) -> Vec<u8> {
+    fn created(self, random: &mut Random, row: usize) -> Vec<u8> {
         let (handle, backing) = (handle_of_row(row), self.backing());
         match self {
             Case::DirtyTexture { mips } => {
@@ -240,7 +274,7 @@ impl Case {
             Case::CreateTexture { layers } => {
                 packet::create_texture(random, handle, texture(LONGEST_CHAIN, layers), backing)
             }
-            Case::Target { .. } | Case::Scissor => {
+            Case::Target { .. } | Case::Scissor | Case::Share => {
                 packet::create_texture(random, handle, texture(1, 1), backing)
             }
             _ => packet::create_buffer(random, handle, BUFFER, backing),
@@ -250,7 +284,7 @@ impl Case {
     fn backing(self) -> Backing {
         let id = match self {
             Case::OneUnknown { .. } | Case::Create { .. } => 0,
-            Case::Target { .. } | Case::Scissor => 0,
+            Case::Target { .. } | Case::Scissor | Case::Share => 0,
             Case::Dirty { entries, .. } => entry_id(entries - 1),
             _ => entry_id(0),
         };
@@ -260,7 +294,7 @@ impl Case {
     pub fn entries(self) -> Vec<Entry> {
         let count = match self {
             Case::Unknown | Case::OneUnknown { .. } | Case::Create { .. } => 0,
-            Case::Target { .. } | Case::Viewport | Case::Clear | Case::Scissor => 0,
+            Case::Target { .. } | Case::Viewport | Case::Clear | Case::Scissor | Case::Share => 0,
             Case::Copy { .. } | Case::DirtyTexture { .. } | Case::CreateTexture { .. } => 1,
             Case::Dirty { entries, .. } | Case::Table { entries } => entries,
         };
@@ -302,6 +336,7 @@ impl Case {
             Case::Scissor if i == 0 => Some(packet::target(random, handle_of_row(0))),
             Case::Scissor if i > MOST_RECORDS => None,
             Case::Scissor => Some(packet::scissor(random, SCISSOR)),
+            Case::Share => share::packet(random, i),
             Case::Table { .. } => None,
         }
     }

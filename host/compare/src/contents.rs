@@ -2,7 +2,7 @@
 
 use crate::draft::Draft;
 use crate::image::Entry;
-use crate::numbers::MOST_ENTRIES;
+use crate::numbers::{MOST_ENTRIES, MOST_NAMES, MOST_TOKENS};
 use crate::random::Random;
 use crate::twists::entries::{EntryTwist, Rows};
 use crate::twists::muddle::muddled;
@@ -27,10 +27,10 @@ impl Twisted {
             _ => 2,
         };
         for _ in 0..times {
-            match random.within(0..=21) {
+            match random.within(0..=27) {
                 0..=2 => twisted.entries = true,
-                3..=15 => twisted.packets = true,
-                16..=19 => twisted.frame += 1,
+                3..=20 => twisted.packets = true,
+                21..=25 => twisted.frame += 1,
                 _ => twisted.muddle = true,
             }
         }
@@ -89,16 +89,43 @@ pub fn fill(draft: &mut Draft, scale: Scale, twisted: &Twisted) -> Option<Aim> {
             muddled(draft);
         }
     }
-    if scale == Scale::Long && draft.random.coin() {
-        let many = draft.random.within(100..=2_000);
-        if draft.random.coin() {
-            add_packets(draft, many);
-        } else {
-            add_unknown(draft, many);
-        }
+    if draft.random.coin() {
+        add_many(draft, scale);
     }
     add_packets(draft, count - before);
     aim
+}
+
+/// What only a desk with room for it has.
+fn add_many(draft: &mut Draft, scale: Scale) {
+    match scale {
+        Scale::Full if draft.random.percent(8) => add_names(draft),
+        Scale::Shared => add_tokens(draft),
+        Scale::Long => {
+            let many = draft.random.within(100..=2_000);
+            if draft.random.coin() {
+                add_packets(draft, many);
+            } else {
+                add_unknown(draft, many);
+            }
+        }
+        _ => {}
+    }
+}
+
+/// As many names as there may be, or all but one, many of them one texture's.
+fn add_names(draft: &mut Draft) {
+    let names = MOST_NAMES - usize::from(draft.random.coin());
+    limits::fill_names(draft, names);
+}
+
+/// So many tokens at once that a few submissions use all that there may be, or all but one.
+fn add_tokens(draft: &mut Draft) {
+    let some = draft.tokens.len() + draft.random.within(20..=150) as usize;
+    let most = draft
+        .random
+        .pick(&[some, some, MOST_TOKENS - 1, MOST_TOKENS]);
+    twists::tokens::fill_tokens(draft, most.min(MOST_TOKENS));
 }
 
 fn add_packets(draft: &mut Draft, count: u64) {
@@ -120,19 +147,23 @@ fn add_unknown(draft: &mut Draft, count: u64) {
 fn packet_twist(draft: &mut Draft, scale: Scale) -> Option<Aim> {
     (0..8).find_map(|_| {
         let first = draft.packets.is_empty();
-        let twists: &[PacketTwist] = match draft.random.within(0..=37) {
-            0..=7 if scale == Scale::Full => limits::TWISTS,
+        let twists: &[PacketTwist] = match draft.random.within(0..=56) {
+            0..=9 if scale == Scale::Full => limits::TWISTS,
+            0..=14 if scale == Scale::Shared => twists::tokens::TWISTS,
             0..=3 => twists::framing::TWISTS,
             4..=7 => twists::create::TWISTS,
-            8..=10 => twists::shapes::TWISTS,
-            11..=13 if first => twists::dirty::FIRST_TWISTS,
-            11..=14 => twists::dirty::TWISTS,
-            15..=18 if first => twists::copy::FIRST_TWISTS,
-            15..=19 => twists::copy::TWISTS,
-            20..=24 => twists::grown::TWISTS,
-            25..=31 => twists::floats::TWISTS,
-            32..=34 => twists::scissor::TWISTS,
-            _ => twists::target::TWISTS,
+            8..=12 => twists::shapes::TWISTS,
+            13..=15 if first => twists::dirty::FIRST_TWISTS,
+            13..=16 => twists::dirty::TWISTS,
+            17..=21 if first => twists::copy::FIRST_TWISTS,
+            17..=22 => twists::copy::TWISTS,
+            23..=29 => twists::grown::TWISTS,
+            30..=38 => twists::floats::TWISTS,
+            39..=41 => twists::scissor::TWISTS,
+            42..=44 => twists::target::TWISTS,
+            45..=48 => twists::export::TWISTS,
+            49..=52 => twists::import::TWISTS,
+            _ => twists::names::TWISTS,
         };
         let twist = draft.random.pick(twists);
         if draft.has_room(6 * 56) {

@@ -7,8 +7,9 @@ use crate::expected::Expected;
 use crate::floats::{Edge, EDGES};
 use crate::front::{Ended, Front, Ran, Record};
 use crate::generator::Drawn;
-use crate::numbers::error::{HOST_FAILED, RING, STATE};
+use crate::numbers::error::{RING, STATE};
 use crate::player::{Said, Seat};
+use crate::sharing::{self, Shares, Sharing, SHARINGS};
 use crate::twists::{Aim, Outcome};
 use std::collections::{BTreeMap, BTreeSet};
 use std::fmt;
@@ -32,6 +33,8 @@ pub enum Met {
     Record(u32),
     /// What a scissor left of its target, in such a record.
     Clip(Clip),
+    /// What became of names and tokens.
+    Sharing(Sharing),
     /// A float of a viewport or clear that came to what was aimed at.
     Float(&'static str),
     /// The IRQ status after an operation.
@@ -85,7 +88,7 @@ const PAUSED: &str = "paused";
 impl Met {
     /// All that there is to meet.
     fn all() -> impl Iterator<Item = Met> {
-        let errors = (RING..=HOST_FAILED).chain([STATE]).map(Met::Error);
+        let errors = (RING..=STATE).map(Met::Error);
         let details = DETAILS.iter().copied().map(Met::Detail);
         let answers = ANSWERS
             .iter()
@@ -94,6 +97,7 @@ impl Met {
         let carried = CARRIED.iter().copied().map(Met::Carried);
         let records = (1..=CLIPPED).map(Met::Record);
         let clips = CLIPS.iter().copied().map(Met::Clip);
+        let sharings = SHARINGS.iter().copied().map(Met::Sharing);
         let floats = EDGES.iter().map(|Edge { name, .. }| Met::Float(name));
         let statuses = (0..=3).map(Met::Status);
         let events = EVENTS.iter().copied().map(Met::Event);
@@ -104,6 +108,7 @@ impl Met {
             .chain(carried)
             .chain(records)
             .chain(clips)
+            .chain(sharings)
             .chain(floats)
             .chain(statuses)
             .chain(events)
@@ -118,6 +123,7 @@ impl Met {
             Met::Carried(_) => "carried",
             Met::Record(_) => "record",
             Met::Clip(_) => "clip",
+            Met::Sharing(_) => "sharing",
             Met::Float(_) => "float",
             Met::Status(_) => "status",
             Met::Event(_) => "event",
@@ -132,6 +138,7 @@ impl Met {
             Met::Ended(ended) => ended.to_string(),
             Met::Carried(carried) => format!("{:?}", carried),
             Met::Clip(clip) => format!("{:?}", clip),
+            Met::Sharing(sharing) => format!("{:?}", sharing),
             Met::Float(name) => name.to_string(),
             Met::Event(event) => format!("{:?}", event),
         }
@@ -159,8 +166,9 @@ pub struct Coverage {
 /// What is told of one desk while it is played.
 pub struct Watch {
     head_at: usize,
-    /// The error registers after the last operation.
+    /// The error registers after the last operation, and the names and tokens.
     registers: Errors,
+    shares: Shares,
     errors: BTreeSet<u32>,
     /// The ring's heads at which a submission waited.
     waited: BTreeSet<u32>,
@@ -171,6 +179,7 @@ impl Watch {
         Watch {
             head_at: drawn.head_at as usize,
             registers: Errors::default(),
+            shares: Shares::default(),
             errors: BTreeSet::new(),
             waited: BTreeSet::new(),
         }
@@ -221,6 +230,7 @@ impl Coverage {
         for carried in carried::seen(operation, said, before, after) {
             self.count(Met::Carried(carried));
         }
+        self.shares(watch, operation, seat);
         self.errors(watch, operation, after);
         let (_, status) = seat.front.read(IRQ_STATUS);
         self.count(Met::Status(status));
@@ -245,6 +255,15 @@ impl Coverage {
             records += 1;
         }
         self.most_records = self.most_records.max(records);
+    }
+
+    fn shares<F: Front>(&mut self, watch: &mut Watch, operation: &Operation, seat: &Seat<F>) {
+        let shares = Shares::of(&seat.front);
+        let errors = (watch.registers, Errors::of(&seat.front));
+        for sharing in sharing::seen(operation, (&watch.shares, &shares), errors) {
+            self.count(Met::Sharing(sharing));
+        }
+        watch.shares = shares;
     }
 
     /// Of several errors in one operation only the last can be seen.

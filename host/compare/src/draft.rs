@@ -1,32 +1,17 @@
-//! A submission being written: its table's entries, its packets, and what the guest believes of its resources and target meanwhile.
+//! A submission being written: its table's entries, its packets, and what the guest believes of its names, tokens and target meanwhile.
 //! Packets put in here are believed to pass; one that is to be refused is put in last, and the belief thrown away.
 
+pub use crate::held::Resource;
+use crate::held::{Held, Token};
 use crate::image::{blank, put32, Entry};
 use crate::numbers::{READ_ONLY, WRITEBACK};
 use crate::packet::{self, Backing, Clear, Copying, Scissor, Viewport};
 use crate::random::Random;
 use crate::shape::Shape;
+use crate::world::World;
 
 /// How often, of a hundred times, a known packet is grown.
 const GROWN: u64 = 12;
-
-#[derive(Clone, Copy, Debug)]
-pub struct Resource {
-    pub handle: u32,
-    pub texture: bool,
-    /// A texture's sides, in pixels of its first mip.
-    pub width: u32,
-    pub height: u32,
-    /// Of a backed one; a host-backed texture's are never asked for and stand as 0.
-    pub bytes: u64,
-    pub backing: Backing,
-}
-
-impl Resource {
-    pub fn backed(&self) -> bool {
-        self.backing.id != 0
-    }
-}
 
 pub struct Draft<'a> {
     pub random: &'a mut Random,
@@ -34,7 +19,9 @@ pub struct Draft<'a> {
     pub memory: u64,
     /// How many bytes of packets have room.
     pub room: usize,
+    /// A row for each name.
     pub live: Vec<Resource>,
+    pub tokens: Vec<Token>,
     pub entries: Vec<Entry>,
     pub target: Option<Resource>,
     pub records: usize,
@@ -43,6 +30,30 @@ pub struct Draft<'a> {
     pub used: usize,
     /// No packet may follow: the last one's meaning hangs on being the last.
     pub closed: bool,
+}
+
+impl<'a> Draft<'a> {
+    /// Nothing is written yet, for a device that holds this.
+    pub fn new(
+        random: &'a mut Random,
+        world: &World,
+        before: &Held,
+        entries: Vec<Entry>,
+    ) -> Draft<'a> {
+        Draft {
+            random,
+            memory: world.memory,
+            room: world.scale.stream_room(),
+            live: before.live.clone(),
+            tokens: before.tokens.clone(),
+            entries,
+            target: None,
+            records: 0,
+            packets: Vec::new(),
+            used: 0,
+            closed: false,
+        }
+    }
 }
 
 impl Draft<'_> {
@@ -116,7 +127,7 @@ impl Draft<'_> {
     }
 
     /// Puts a known packet in, now and then grown: what is appended is ignored.
-    fn push_known(&mut self, packet: Vec<u8>) {
+    pub fn push_known(&mut self, packet: Vec<u8>) {
         self.push(packet);
         if self.random.percent(GROWN) {
             let bytes = 4 * self.random.within(1..=16) as usize;
@@ -163,7 +174,9 @@ impl Draft<'_> {
         self.push_known(packet);
         self.created(Resource {
             handle,
+            surface: self.new_surface(),
             texture: false,
+            one_image: false,
             width: 0,
             height: 0,
             bytes: size,
@@ -177,7 +190,9 @@ impl Draft<'_> {
         let bytes = if backing.id == 0 { 0 } else { shape.packed() };
         self.created(Resource {
             handle,
+            surface: self.new_surface(),
             texture: true,
+            one_image: (shape.mips, shape.layers) == (1, 1),
             width: shape.width,
             height: shape.height,
             bytes,

@@ -20,6 +20,9 @@ pub enum Event {
     SeveralFaults,
     /// A known packet of the stream is longer than its table size, and another packet follows.
     GrownPacket,
+    /// A submission is to change tokens, and the host says failed, or a later packet is refused.
+    TokensOfAFailed,
+    TokensOfARefused,
     KeptOverwritten,
     KeptChanged,
     AheadOverwritten,
@@ -33,7 +36,7 @@ pub enum Event {
     Raving,
 }
 
-pub const EVENTS: [Event; 25] = [
+pub const EVENTS: [Event; 27] = [
     Event::NoFencePage,
     Event::FencePageAtTheEnd,
     Event::FencePageOutside,
@@ -49,6 +52,8 @@ pub const EVENTS: [Event; 25] = [
     Event::Overlap,
     Event::SeveralFaults,
     Event::GrownPacket,
+    Event::TokensOfAFailed,
+    Event::TokensOfARefused,
     Event::KeptOverwritten,
     Event::KeptChanged,
     Event::AheadOverwritten,

@@ -16,6 +16,10 @@ pub trait Front {
     /// The call's answer and the record.
     fn record(&self, i: u32) -> (u32, Record);
     fn answer(&mut self, memory: &mut [u8], good: bool, allowance: u16) -> Ran;
+    /// Every name of a resource beside the resource's lowest, in rising order.
+    fn names(&self) -> Vec<(u32, u32)>;
+    /// Every token used beside the lowest name of its resource, 0 if it is spent, in rising order.
+    fn tokens(&self) -> Vec<(u64, u32)>;
 
     /// 0 is a bad shape.
     fn packed_size(shape: Shape) -> u64;
@@ -50,6 +54,14 @@ impl Front for plain::Desk {
 
     fn answer(&mut self, memory: &mut [u8], good: bool, allowance: u16) -> Ran {
         plain::Desk::answer(self, memory, good, allowance)
+    }
+
+    fn names(&self) -> Vec<(u32, u32)> {
+        plain::Desk::names(self)
+    }
+
+    fn tokens(&self) -> Vec<(u64, u32)> {
+        plain::Desk::tokens(self)
     }
 
     #[inline]
@@ -111,6 +123,17 @@ impl Front for zelezmut::Desk {
         ran(zelezmut::Desk::answer(
             self, memory, ticket, answer, allowance,
         ))
+    }
+
+    fn names(&self) -> Vec<(u32, u32)> {
+        zelezmut::Desk::names(self)
+    }
+
+    fn tokens(&self) -> Vec<(u64, u32)> {
+        let tokens = zelezmut::Desk::tokens(self).into_iter();
+        tokens
+            .map(|(token, name)| (token, name.unwrap_or(0)))
+            .collect()
     }
 
     #[inline]

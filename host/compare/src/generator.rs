@@ -4,6 +4,7 @@
 use crate::author::{Author, PLENTY};
 use crate::event::Event;
 use crate::expected::Expected;
+use crate::held::Held;
 use crate::numbers::RING_HEAD;
 use crate::submission::{some_submission, Belief, Submission};
 use crate::twists;
@@ -80,7 +81,7 @@ impl Author {
             self.write_control(CONTROL_RESET);
             self.write_control(CONTROL_ENABLE);
         }
-        self.live.clear();
+        self.held = Held::default();
         self.sure = true;
     }
 
@@ -135,25 +136,36 @@ impl Author {
             let submission = some_submission(
                 &mut self.random,
                 &self.world,
-                self.live.clone(),
+                &self.held,
                 signal,
                 &mut floor,
             );
             let good = self.random.percent(88);
-            if good && submission.belief == Belief::Waits {
-                self.live = submission.live.clone();
-            }
             let head = self.head.wrapping_add(i);
             self.expected
                 .extend(submission.aim.map(|aim| Expected { aim, head }));
-            self.events.extend(submission.event);
-            if submission.goes_on_after_a_grown_packet() {
-                self.events.push(Event::GrownPacket);
+            self.tell(&submission, good);
+            if good && submission.belief == Belief::Waits {
+                self.held = submission.held.clone();
             }
             self.put(head, &submission);
             submissions.push((submission, good));
         }
         submissions
+    }
+
+    /// What there is to tell of a submission that is answered so, as believed.
+    fn tell(&mut self, submission: &Submission, good: bool) {
+        self.events.extend(submission.event);
+        if submission.goes_on_after_a_grown_packet() {
+            self.events.push(Event::GrownPacket);
+        }
+        let other_tokens = submission.held.has_other_tokens(&self.held);
+        match submission.belief {
+            Belief::Waits if other_tokens && !good => self.events.push(Event::TokensOfAFailed),
+            Belief::Refused if other_tokens => self.events.push(Event::TokensOfARefused),
+            _ => {}
+        }
     }
 
     fn next_signal(&mut self) -> u64 {

@@ -2,7 +2,7 @@
 
 use crate::draft::{Draft, Resource};
 use crate::image::Entry;
-use crate::numbers::{KNOWN_PACKETS, MOST_RECORDS, MOST_RESOURCES, UNKNOWN_OPCODES, WRITEBACK};
+use crate::numbers::{KNOWN_PACKETS, MOST_NAMES, MOST_RECORDS, UNKNOWN_OPCODES, WRITEBACK};
 use crate::packet::{self, Backing, Copying};
 use crate::random::Random;
 use crate::shape::Shape;
@@ -11,12 +11,13 @@ impl Draft<'_> {
     /// A packet that is believed to pass, of a random kind.
     pub fn any_packet(&mut self) {
         let done = match self.random.within(0..=99) {
-            0..=21 => self.any_buffer().map(drop),
-            22..=39 => self.any_texture().map(drop),
-            40..=48 => self.any_destroy().map(drop),
-            49..=67 => self.any_dirty().map(drop),
-            68..=80 => self.any_copy().map(drop),
-            81..=95 => self.any_state_packet(),
+            0..=18 => self.any_buffer().map(drop),
+            19..=33 => self.any_texture().map(drop),
+            34..=41 => self.any_destroy().map(drop),
+            42..=57 => self.any_dirty().map(drop),
+            58..=69 => self.any_copy().map(drop),
+            70..=82 => self.any_state_packet(),
+            83..=95 => self.any_share_packet(),
             _ => None,
         };
         if done.is_none() {
@@ -25,10 +26,10 @@ impl Draft<'_> {
     }
 
     pub fn any_unknown(&mut self) {
-        let opcode = match self.random.within(0..=3) {
-            0 => self.random.pick(&UNKNOWN_OPCODES),
-            1 => self.random.pick(&[1808, 1809, 1810]),
-            _ => some_unknown_opcode(self.random),
+        let opcode = if self.random.percent(35) {
+            self.random.pick(&UNKNOWN_OPCODES)
+        } else {
+            some_unknown_opcode(self.random)
         };
         let size = 8 + 4 * self.random.pick(&[0, 0, 1, 2, 6, 10]);
         let packet = packet::any(self.random, opcode, size);
@@ -90,7 +91,7 @@ impl Draft<'_> {
     }
 
     fn buffer_at(&mut self, size: u64, backing: Backing) -> Option<Resource> {
-        if self.live.len() >= MOST_RESOURCES {
+        if self.live.len() >= MOST_NAMES {
             return None;
         }
         let handle = self.fresh_handle();
@@ -110,8 +111,8 @@ impl Draft<'_> {
         self.texture_at(shape, backing)
     }
 
-    fn texture_at(&mut self, mut shape: Shape, backing: Backing) -> Option<Resource> {
-        if self.live.len() >= MOST_RESOURCES {
+    pub fn texture_at(&mut self, mut shape: Shape, backing: Backing) -> Option<Resource> {
+        if self.live.len() >= MOST_NAMES {
             return None;
         }
         if backing.id == 0 {

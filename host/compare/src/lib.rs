@@ -1,6 +1,7 @@
 //! Holds the proved front, [`zelezmut::Desk`], against a plain program of the same rules, [`plain::Desk`].
 //!
-//! - Random desks ([`generator`]) are played through both ([`player`]): every answer, value, register, record and byte is equal.
+//! - Random desks ([`generator`]) are played through both ([`player`]): every answer, value, register, record,
+//!   name, token and byte is equal.
 //! - One desk's runs, those behind answers too, cut into random slices come to the same ([`slicing`]).
 //! - The small exports, about a shape or a table alone, give the same on random and boundary ones ([`exports`]).
 //! - What the desks reach is counted ([`coverage`]), so that the generator cannot become empty.
@@ -29,7 +30,9 @@ mod floor;
 pub mod front;
 pub mod generator;
 mod good_packets;
+mod good_shares;
 mod good_state;
+mod held;
 pub mod host;
 mod image;
 pub mod measures;
@@ -41,6 +44,8 @@ pub mod random;
 pub mod report;
 mod schedule;
 pub mod shape;
+mod shares;
+mod sharing;
 pub mod slicing;
 mod submission;
 pub mod twists;

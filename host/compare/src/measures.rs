@@ -4,7 +4,7 @@ use crate::bench::Bench;
 use crate::calls::{Call, Calls, CALLS};
 use crate::cases::{Case, Mode, Published, Way, MODES, PUBLISHED};
 use crate::host::Host;
-use crate::numbers::{MOST_LAYERS, MOST_RESOURCES};
+use crate::numbers::{MOST_LAYERS, MOST_NAMES};
 
 /// A line of the tables.
 #[derive(Clone, Debug)]
@@ -45,14 +45,15 @@ const COUNTS: [usize; 5] = [1, 8, 16, 32, 64];
 /// All that is measured. The goals stand here alone.
 pub fn measures() -> Vec<Measure> {
     let groups = [
-        (0.75, published()),
+        (0.75, published(|case| case != Case::Share)),
+        (3.0, published(|case| case == Case::Share)),
         (1.05, growing()),
         (1.05, textures()),
         (1.05, state_packets()),
         (1.25, vec![one_packet(0)]),
-        (0.75, vec![one_packet(MOST_RESOURCES)]),
+        (0.75, vec![one_packet(MOST_NAMES)]),
         (1.25, night(0)),
-        (0.75, night(MOST_RESOURCES)),
+        (0.75, night(MOST_NAMES)),
         (2.0, calls()),
         (1.05, layers()),
         (1.05, vec![every_mip(1)]),
@@ -66,11 +67,16 @@ pub fn measures() -> Vec<Measure> {
     groups.into_iter().flat_map(with_goal).collect()
 }
 
-fn published() -> Vec<(String, Task)> {
+/// Those of the published cases that are asked for.
+fn published(asked: fn(Case) -> bool) -> Vec<(String, Task)> {
     let in_modes = |Published { key, case, .. }: Published| {
         MODES.map(|mode| (key.to_string(), Task::Published(case, mode)))
     };
-    PUBLISHED.into_iter().flat_map(in_modes).collect()
+    let cases = PUBLISHED.into_iter();
+    cases
+        .filter(|published| asked(published.case))
+        .flat_map(in_modes)
+        .collect()
 }
 
 /// Resources and entries, few to as many as there may be. What is looked for stands last.

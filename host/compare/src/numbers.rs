@@ -22,7 +22,9 @@ pub const MOST_CLEAR_FLAGS: u32 = 7;
 
 pub const MOST_SLOTS: u32 = 1024;
 pub const MOST_ENTRIES: usize = 64;
-pub const MOST_RESOURCES: usize = 64;
+/// Live names of resources; one resource may have several.
+pub const MOST_NAMES: usize = 64;
+pub const MOST_TOKENS: usize = 256;
 pub const MOST_RECORDS: usize = 64;
 pub const LONGEST_SIDE: u32 = 16_384;
 pub const MOST_LAYERS: u32 = 256;
@@ -36,8 +38,11 @@ pub const TARGET: u32 = 1024;
 pub const VIEWPORT: u32 = 1025;
 pub const SCISSOR: u32 = 1026;
 pub const CLEAR: u32 = 1536;
+pub const EXPORT: u32 = 1808;
+pub const IMPORT: u32 = 1809;
+pub const RELEASE: u32 = 1810;
 /// The least size of a packet of a known opcode.
-pub const KNOWN_PACKETS: [(u32, u32); 9] = [
+pub const KNOWN_PACKETS: [(u32, u32); 12] = [
     (CREATE_BUFFER, 40),
     (CREATE_TEXTURE, 56),
     (DESTROY, 16),
@@ -47,9 +52,24 @@ pub const KNOWN_PACKETS: [(u32, u32); 9] = [
     (VIEWPORT, 32),
     (SCISSOR, 24),
     (CLEAR, 36),
+    (EXPORT, 24),
+    (IMPORT, 24),
+    (RELEASE, 16),
 ];
 /// Opcodes that nobody knows, those beside the known ones among them.
-pub const UNKNOWN_OPCODES: [u32; 9] = [0, 255, 260, 262, 1023, 1027, 1535, 1537, u32::MAX];
+pub const UNKNOWN_OPCODES: [u32; 11] = [
+    0,
+    255,
+    260,
+    262,
+    1023,
+    1027,
+    1535,
+    1537,
+    1807,
+    1811,
+    u32::MAX,
+];
 
 pub const FORMATS: [u32; 6] = [1, 2, 3, 64, 65, 66];
 
@@ -73,5 +93,8 @@ pub mod error {
     pub const HOST_BACKED: u32 = 25;
     pub const COPY: u32 = 26;
     pub const HOST_FAILED: u32 = 27;
+    /// Of an export, and of an import or release.
+    pub const TOKEN_TAKEN: u32 = 28;
+    pub const TOKEN_UNBOUND: u32 = 29;
     pub const STATE: u32 = 30;
 }

@@ -2,8 +2,8 @@
 
 use crate::image::{blank, put32, put64, put_words};
 use crate::numbers::{
-    CLEAR, COPY_BUFFER, CREATE_BUFFER, CREATE_TEXTURE, DESTROY, DIRTY_RANGE, KNOWN_PACKETS,
-    SCISSOR, TARGET, VIEWPORT,
+    CLEAR, COPY_BUFFER, CREATE_BUFFER, CREATE_TEXTURE, DESTROY, DIRTY_RANGE, EXPORT, IMPORT,
+    KNOWN_PACKETS, RELEASE, SCISSOR, TARGET, VIEWPORT,
 };
 use crate::random::Random;
 use crate::shape::Shape;
@@ -146,5 +146,26 @@ pub fn clear(random: &mut Random, clear: Clear) -> Vec<u8> {
     put_words(&mut bytes[12..], &clear.colour);
     put32(&mut bytes, 28, clear.depth);
     put32(&mut bytes, 32, clear.stencil);
+    bytes
+}
+
+pub fn export(random: &mut Random, handle: u32, token: u64) -> Vec<u8> {
+    with_handle_and_token(random, EXPORT, handle, token)
+}
+
+pub fn import(random: &mut Random, handle: u32, token: u64) -> Vec<u8> {
+    with_handle_and_token(random, IMPORT, handle, token)
+}
+
+fn with_handle_and_token(random: &mut Random, opcode: u32, handle: u32, token: u64) -> Vec<u8> {
+    let mut bytes = any(random, opcode, 24);
+    put32(&mut bytes, 8, handle);
+    put64(&mut bytes, 16, token);
+    bytes
+}
+
+pub fn release(random: &mut Random, token: u64) -> Vec<u8> {
+    let mut bytes = any(random, RELEASE, 16);
+    put64(&mut bytes, 8, token);
     bytes
 }

@@ -1,5 +1,5 @@
 //! Plays a desk through two fronts at once. After every operation all that can be seen of them must be equal: what the call said,
-//! every readable register, every record, and every byte of memory.
+//! every readable register, every record, every name, every token, and every byte of memory.
 
 use crate::front::{Front, Ran, Record};
 use std::fmt;
@@ -123,41 +123,44 @@ pub fn step<L: Front, R: Front>(
     Ok(said)
 }
 
-/// Registers, records and memory.
+/// Registers, records, names, tokens and memory.
 pub fn equal<L: Front, R: Front>(left: &Seat<L>, right: &Seat<R>) -> Result<(), Difference> {
+    let (one, other) = (&left.front, &right.front);
     for offset in READABLE {
-        let (one, other) = (left.front.read(offset), right.front.read(offset));
-        if one != other {
-            return Err(Difference::between(
-                format!("register {:03x}", offset),
-                one,
-                other,
-            ));
-        }
+        let of = || format!("register {:03x}", offset);
+        same(of, one.read(offset), other.read(offset))?;
     }
     for i in 0.. {
-        let (one, other) = (left.front.record(i), right.front.record(i));
-        if one != other {
-            return Err(Difference::between(format!("record {}", i), one, other));
-        }
-        if one.0 != 0 {
+        let record = one.record(i);
+        same(|| format!("record {}", i), record, other.record(i))?;
+        if record.0 != 0 {
             break;
         }
     }
-    if left.memory != right.memory {
-        let at = left
-            .memory
-            .iter()
-            .zip(&right.memory)
-            .take_while(|(one, other)| one == other)
-            .count();
-        return Err(Difference::between(
-            format!("byte {}", at),
-            left.memory[at],
-            right.memory[at],
-        ));
+    same(|| "the names".to_string(), one.names(), other.names())?;
+    same(|| "the tokens".to_string(), one.tokens(), other.tokens())?;
+    equal_memory(&left.memory, &right.memory)
+}
+
+fn same<T: PartialEq + fmt::Debug>(
+    of: impl FnOnce() -> String,
+    left: T,
+    right: T,
+) -> Result<(), Difference> {
+    if left == right {
+        Ok(())
+    } else {
+        Err(Difference::between(of(), left, right))
     }
-    Ok(())
+}
+
+fn equal_memory(left: &[u8], right: &[u8]) -> Result<(), Difference> {
+    if left == right {
+        return Ok(());
+    }
+    let pairs = left.iter().zip(right);
+    let at = pairs.take_while(|(one, other)| one == other).count();
+    same(|| format!("byte {}", at), left[at], right[at])
 }
 
 /// Plays operations on both, telling the watcher of each that came out equal.

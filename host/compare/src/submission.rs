@@ -1,9 +1,10 @@
 //! One submission: its contents get their places in memory and a descriptor, and a belief of what will come of it.
 
 use crate::contents::{entry_twist, fill, table_entries, Twisted};
-use crate::draft::{Draft, Resource};
+use crate::draft::Draft;
 use crate::event::Event;
 use crate::floor::Floor;
+use crate::held::Held;
 use crate::image::{flags, Descriptor, Entry, Range, Stream, Table};
 use crate::numbers::DESCRIPTOR;
 use crate::packet::is_grown;
@@ -33,12 +34,12 @@ pub struct Submission {
     pub aim: Option<Aim>,
     /// What makes it unsure.
     pub event: Option<Event>,
-    /// The resources after it, if it waits and the host says good.
-    pub live: Vec<Resource>,
+    /// What the device holds after it, if it waits and the host says good.
+    pub held: Held,
 }
 
 impl Submission {
-    fn empty(descriptor: Descriptor, live: Vec<Resource>) -> Submission {
+    fn empty(descriptor: Descriptor, held: Held) -> Submission {
         Submission {
             descriptor,
             table: None,
@@ -48,7 +49,7 @@ impl Submission {
             belief: Belief::Waits,
             aim: None,
             event: None,
-            live,
+            held,
         }
     }
 
@@ -58,6 +59,21 @@ impl Submission {
         [stream, table]
             .iter()
             .any(|range| range.size > 0 && range.gpa + u64::from(range.size) == memory)
+    }
+
+    /// What it is believed to come to with these twists, and which rule it is about.
+    fn judge(&mut self, world: &World, twisted: &Twisted, mut aims: Vec<Aim>) {
+        if twisted.muddle {
+            self.belief = Belief::Unsure;
+            self.event = Some(Event::SeveralFaults);
+        }
+        if aims.iter().any(Aim::broken) && self.belief == Belief::Waits {
+            self.belief = Belief::Refused;
+        }
+        if aims.is_empty() && self.belief == Belief::Waits && self.ends_at(world.memory) {
+            aims.extend(kept("range: end of the memory"));
+        }
+        self.aim = if aims.len() == 1 { aims.pop() } else { None };
     }
 
     /// Whether a known packet is longer than its table size, and not the last.
@@ -83,11 +99,11 @@ impl Submission {
     }
 }
 
-/// Writes a submission for a world in which these resources live; its parts take their places on the floor.
+/// Writes a submission for a device that holds this; its parts take their places on the floor.
 pub fn some_submission(
     random: &mut Random,
     world: &World,
-    before: Vec<Resource>,
+    before: &Held,
     signal: u64,
     floor: &mut Floor,
 ) -> Submission {
@@ -103,21 +119,11 @@ pub fn some_submission(
         aims.extend(entry_twist(random, &mut entries, world.memory));
     }
 
-    let mut draft = Draft {
-        memory: world.memory,
-        room: world.scale.stream_room(),
-        live: before.clone(),
-        entries,
-        target: None,
-        records: 0,
-        packets: Vec::new(),
-        used: 0,
-        closed: false,
-        random: &mut *random,
-    };
+    let mut draft = Draft::new(random, world, before, entries);
     aims.extend(fill(&mut draft, world.scale, &twisted));
     let Draft {
         live,
+        tokens,
         entries,
         packets,
         ..
@@ -125,24 +131,14 @@ pub fn some_submission(
 
     let mut submission = match laid(random, entries, packets, floor) {
         Some(laid) => laid,
-        None => return Submission::empty(some_descriptor(random, signal), before),
+        None => return Submission::empty(some_descriptor(random, signal), before.clone()),
     };
     submission.descriptor.signal = signal;
     for _ in 0..twisted.frame {
         aims.extend(frame_twist(random, world, &mut submission));
     }
-    if twisted.muddle {
-        submission.belief = Belief::Unsure;
-        submission.event = Some(Event::SeveralFaults);
-    }
-    if aims.iter().any(Aim::broken) && submission.belief == Belief::Waits {
-        submission.belief = Belief::Refused;
-    }
-    if aims.is_empty() && submission.belief == Belief::Waits && submission.ends_at(world.memory) {
-        aims.extend(kept("range: end of the memory"));
-    }
-    submission.aim = if aims.len() == 1 { aims.pop() } else { None };
-    submission.live = live;
+    submission.judge(world, &twisted, aims);
+    submission.held = Held { live, tokens };
     submission
 }
 
@@ -198,7 +194,7 @@ fn laid(
     packets: Vec<Vec<u8>>,
     floor: &mut Floor,
 ) -> Option<Submission> {
-    let mut submission = Submission::empty(some_descriptor(random, 0), Vec::new());
+    let mut submission = Submission::empty(some_descriptor(random, 0), Held::default());
     // What lies over something else may no longer be what was written.
     let over = random.percent(3);
     let mut place = |random: &mut Random, size: u32| {

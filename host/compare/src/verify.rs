@@ -1,4 +1,4 @@
-//! What is measured comes to the same on both fronts: units, what calls say, registers, records and memory.
+//! What is measured comes to the same on both fronts: units, what calls say, registers, records, names, tokens and memory.
 
 use crate::bench::Bench;
 use crate::cases::{Case, Mode};

@@ -15,6 +15,8 @@ pub enum Scale {
     Small,
     /// There is room to meet the limits of 64.
     Full,
+    /// There is room to meet the limit of 256 tokens.
+    Shared,
     /// The largest memory that a desk script can have.
     Long,
     /// The longest ring, which no desk script's memory can hold.
@@ -25,8 +27,9 @@ impl Scale {
     fn random(random: &mut Random) -> Scale {
         match random.within(0..=999) {
             0..=24 => Scale::Tiny,
-            25..=719 => Scale::Small,
-            720..=949 => Scale::Full,
+            25..=659 => Scale::Small,
+            660..=909 => Scale::Full,
+            910..=949 => Scale::Shared,
             950..=989 => Scale::Long,
             _ => Scale::Wide,
         }
@@ -37,6 +40,7 @@ impl Scale {
             Scale::Tiny => random.within(0..=400),
             Scale::Small => random.within(1_500..=5_000),
             Scale::Full => random.within(9_000..=14_000),
+            Scale::Shared => random.within(22_000..=30_000),
             Scale::Long => 65_536 - random.pick(&[0, 0, 1, 7]),
             Scale::Wide => {
                 u64::from(RING_HEADER + 2 * MOST_SLOTS * 64) + random.within(2_000..=5_000)
@@ -50,6 +54,7 @@ impl Scale {
             Scale::Tiny => 60,
             Scale::Small | Scale::Wide => 700,
             Scale::Full => 5_000,
+            Scale::Shared => 8_000,
             Scale::Long => 24_000,
         }
     }

@@ -17,14 +17,14 @@ fn random_desks_play_alike() {
     assert_eq!(coverage.rarely_met(100), Vec::<String>::new());
     assert_eq!(coverage.rarely_hit(15), Vec::<String>::new());
     assert!(
-        coverage.aims.len() >= 240,
+        coverage.aims.len() >= 320,
         "only {} sides of rules",
         coverage.aims.len()
     );
-    // Both sides, of each of the nine known packets.
+    // Both sides, of each of the twelve known packets.
     for rule in [": table size", ": grown to the end of the stream"] {
         let aims = coverage.aims.keys();
-        assert_eq!(aims.filter(|aim| aim.rule.ends_with(rule)).count(), 18);
+        assert_eq!(aims.filter(|aim| aim.rule.ends_with(rule)).count(), 24);
     }
     assert_eq!(coverage.most_records, 64);
 }

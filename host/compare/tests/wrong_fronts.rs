@@ -1,13 +1,15 @@
-//! Fronts that are wrong in one way are told apart, and the desk that shows it is written out as a script that can be played.
+//! Fronts that are wrong in one way are told apart, and the desk that shows it is written out as a script that can be played. Those that
+//! are wrong about names and tokens are in `wrong_shares`.
 
-use compare::desks;
+mod told_apart;
+
 use compare::front::{Ended, Front, Ran, Record};
 use compare::generator::draw;
 use compare::player::play;
 use compare::shape::Shape;
-use std::fs;
+use told_apart::told_of;
 use zelezmut::registers::{CONTROL, CONTROL_RESET, ERROR_CODE, ERROR_COUNT, ERROR_DETAIL};
-use zelezmut::script::{self, Operation};
+use zelezmut::script::Operation;
 use zelezmut::{DeviceError, Place};
 
 const DOES_NOTHING: u8 = 0;
@@ -315,6 +317,14 @@ impl<const FAULT: u8> Front for Wrong<FAULT> {
         self.call(|wrong| wrong.answer_in_its_way(memory, good, allowance))
     }
 
+    fn names(&self) -> Vec<(u32, u32)> {
+        self.desk.names()
+    }
+
+    fn tokens(&self) -> Vec<(u64, u32)> {
+        self.desk.tokens()
+    }
+
     fn packed_size(shape: Shape) -> u64 {
         plain::Desk::packed_size(shape)
     }
@@ -330,27 +340,7 @@ impl<const FAULT: u8> Front for Wrong<FAULT> {
 
 /// Gives what is told of the first desk that shows it.
 fn is_told_apart<const FAULT: u8>() -> String {
-    // Each fault has its own seeds, so that the scripts have different names.
-    let first = 1_000 * u64::from(FAULT);
-    let failure = desks::compare::<plain::Desk, Wrong<FAULT>>(first..first + 1_000, |_| {})
-        .expect_err("the fault shows in some desk");
-    let told = failure.to_string();
-    assert!(
-        told.contains(&format!("desk of seed {}", failure.seed())),
-        "{}",
-        told
-    );
-    let mut sizes = Vec::new();
-    for path in failure.scripts() {
-        assert!(told.contains(&path.display().to_string()), "{}", told);
-        let played = script::decode(&fs::read(path).expect("the script was written"));
-        assert_eq!(played.fault, None);
-        assert!(!played.operations.is_empty());
-        sizes.push(played.operations.len());
-        fs::remove_file(path).expect("the script can be removed");
-    }
-    assert_eq!(sizes.len(), 2, "{}", told);
-    told
+    told_of::<Wrong<FAULT>>(FAULT.into())
 }
 
 fn is_told_by_the_detail<const FAULT: u8>() {

@@ -7,6 +7,7 @@ use crate::registers::{Registers, Written};
 use crate::resources::Resources;
 use crate::ring::{self, Ring};
 use crate::submission::{Submission, Ticket};
+use crate::tokens::Tokens;
 
 const DONE: u32 = 0;
 const OTHER_LENGTH: u32 = 1;
@@ -48,11 +49,12 @@ impl Ran {
 }
 
 /// A device, made for one memory length.
-#[derive(Clone, Debug, PartialEq)]
+#[derive(Clone, Debug)]
 pub struct Desk {
     memory: usize,
     registers: Registers,
     resources: Resources,
+    tokens: Tokens,
     /// The submission in work.
     work: Option<Submission>,
     /// What the submission in work has kept; empty without one.
@@ -66,6 +68,7 @@ impl Desk {
             memory,
             registers: Registers::default(),
             resources: Resources::new(),
+            tokens: Tokens::new(),
             work: None,
             kept: Kept::new(),
         }
@@ -77,6 +80,7 @@ impl Desk {
             Written::Done => DONE,
             Written::Reset => {
                 self.resources.clear();
+                self.tokens.clear();
                 self.drop_work();
                 DONE
             }
@@ -119,6 +123,26 @@ impl Desk {
             }
         }
         (NO_RECORD, Record::default())
+    }
+
+    /// Every live name of the device with the lowest name of its resource, by
+    /// rising name. What the submission in work has done shows once it has its
+    /// good answer.
+    pub fn names(&self) -> Vec<(u32, u32)> {
+        self.resources.names()
+    }
+
+    /// Every token the device has used since the last reset, with the lowest
+    /// name of the resource it is bound to, or 0 if it is spent; by rising
+    /// token. What the submission in work has done shows once it has its good
+    /// answer.
+    pub fn tokens(&self) -> Vec<(u64, u32)> {
+        self.tokens.own(&self.resources)
+    }
+
+    /// The tokens as the submission in work has left them so far.
+    fn tokens_in_work(&self) -> Vec<(u64, u32)> {
+        self.tokens.of_submission(&self.kept.resources)
     }
 
     /// Takes the host's answer and settles the waiting submission, then runs
@@ -165,7 +189,7 @@ impl Desk {
             None => self.open(mem),
             Some(submission) => {
                 let ticket = submission.ticket;
-                if let Err(fault) = submission.step(mem, &mut self.kept) {
+                if let Err(fault) = submission.step(mem, &mut self.kept, &mut self.tokens) {
                     self.settle(mem, ticket, Err(fault));
                 }
             }
@@ -197,11 +221,14 @@ impl Desk {
         }
     }
 
-    /// Settles a submission: resources or error, completed fence, then the
-    /// head of the opened ring, then the fence page.
+    /// Settles a submission: resources and tokens or error, completed fence,
+    /// then the head of the opened ring, then the fence page.
     fn settle(&mut self, mem: &mut [u8], ticket: Ticket, outcome: Result<(), Fault>) {
         match outcome {
-            Ok(()) => std::mem::swap(&mut self.resources, &mut self.kept.resources),
+            Ok(()) => {
+                std::mem::swap(&mut self.resources, &mut self.kept.resources);
+                self.tokens.accept_changes();
+            }
             Err(fault) => self.registers.set_error(fault, ticket.signal_fence),
         }
         self.drop_work();
@@ -213,5 +240,27 @@ impl Desk {
     fn drop_work(&mut self) {
         self.work = None;
         self.kept.clear();
+        self.tokens.drop_changes();
+    }
+}
+
+/// Tokens compare by the names they lead to, as the resources do.
+impl PartialEq for Desk {
+    fn eq(&self, other: &Desk) -> bool {
+        let Desk {
+            memory,
+            registers,
+            resources,
+            tokens: _,
+            work,
+            kept,
+        } = self;
+        *memory == other.memory
+            && *registers == other.registers
+            && *resources == other.resources
+            && *work == other.work
+            && *kept == other.kept
+            && self.tokens() == other.tokens()
+            && self.tokens_in_work() == other.tokens_in_work()
     }
 }

@@ -22,7 +22,7 @@ pub(crate) enum Error {
     Packet = 17,
     /// Handle is zero, live, or not live, where it may not be.
     Handle = 18,
-    /// No room: entries, resources or records.
+    /// No room: entries, names, records or tokens.
     Full = 19,
     /// Bad shape.
     Shape = 20,
@@ -40,6 +40,10 @@ pub(crate) enum Error {
     Copy = 26,
     /// The host answered "failed".
     Host = 27,
+    /// Token is zero, or was used for another resource, or is spent.
+    TokenTaken = 28,
+    /// Token is not bound to a live resource.
+    TokenUnbound = 29,
     /// Bad viewport, clear or scissor, or a scissor without a target.
     State = 30,
 }

@@ -16,10 +16,12 @@ mod registers;
 mod resources;
 mod ring;
 mod shapes;
+mod share;
 mod state;
 mod stream;
 mod submission;
 mod table;
+mod tokens;
 
 pub use desk::{Desk, Ended, Ran};
 pub use packets::Record;

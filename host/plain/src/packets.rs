@@ -2,10 +2,12 @@
 
 use crate::bytes::{fits, u32_at, u64_at};
 use crate::errors::Error;
-use crate::resources::{Resource, Resources};
+use crate::resources::{Resource, Resources, NO_SURFACE};
 use crate::shapes::{Shape, Texture};
+use crate::share::{Release, Share};
 use crate::state::{Clear, Scissor, Target, Viewport};
 use crate::table::{self, Entry, MAX_ENTRIES};
+use crate::tokens::Tokens;
 
 /// The size of a packet's header.
 pub(crate) const PACKET_HEADER: u32 = 8;
@@ -19,6 +21,9 @@ const TARGET: u32 = 1024;
 const VIEWPORT: u32 = 1025;
 const SCISSOR: u32 = 1026;
 const CLEAR: u32 = 1536;
+const EXPORT: u32 = 1808;
+const IMPORT: u32 = 1809;
+const RELEASE: u32 = 1810;
 
 const COPY_WRITEBACK: u32 = 1;
 
@@ -34,7 +39,7 @@ pub struct Record {
     /// 1: created backing; 2: read (dirty); 3: write (copy with writeback);
     /// 4: scissor, whose other fields are all 0 if it is empty.
     pub kind: u32,
-    /// The resource's handle; of a scissor, the left side.
+    /// The handle that the packet gave; of a scissor, the left side.
     pub handle: u32,
     /// The id of the table entry behind it; of a scissor, the top.
     pub id: u32,
@@ -58,6 +63,9 @@ pub(crate) fn least_size(opcode: u32) -> u32 {
         VIEWPORT => 32,
         SCISSOR => 24,
         CLEAR => 36,
+        EXPORT => 24,
+        IMPORT => 24,
+        RELEASE => 16,
         _ => PACKET_HEADER,
     }
 }
@@ -171,9 +179,9 @@ impl Kept {
     }
 
     /// Judges one packet, as the packet reader handed it back, and does what
-    /// it says. It has at least its opcode's least size. Unknown opcodes are
-    /// skipped.
-    pub(crate) fn take(&mut self, packet: &[u8]) -> Result<(), Error> {
+    /// it says, to the submission's tokens too. It has at least its opcode's
+    /// least size. Unknown opcodes are skipped.
+    pub(crate) fn take(&mut self, packet: &[u8], tokens: &mut Tokens) -> Result<(), Error> {
         match u32_at(packet, 0) {
             CREATE_BUFFER => self.create(&Create::buffer(packet)),
             CREATE_TEXTURE => self.create(&Create::texture(packet)),
@@ -184,12 +192,15 @@ impl Kept {
             VIEWPORT => Viewport::read(packet).check(),
             SCISSOR => self.scissor(&Scissor::read(packet)),
             CLEAR => Clear::read(packet).check(),
+            EXPORT => Share::read(packet).export(&mut self.resources, tokens),
+            IMPORT => Share::read(packet).import(&mut self.resources, tokens),
+            RELEASE => Release::read(packet).release(&self.resources, tokens),
             _ => Ok(()),
         }
     }
 
     fn create(&mut self, create: &Create) -> Result<(), Error> {
-        if create.handle == 0 || self.resources.find(create.handle).is_some() {
+        if !self.resources.is_free(create.handle) {
             return Err(Error::Handle);
         }
         if create.backing_id == 0 {
@@ -210,6 +221,7 @@ impl Kept {
             bytes,
             backing_id: 0,
             backing_offset: 0,
+            surface: NO_SURFACE,
         });
         Ok(())
     }
@@ -222,6 +234,7 @@ impl Kept {
             bytes,
             backing_id: create.backing_id,
             backing_offset: create.backing_offset,
+            surface: NO_SURFACE,
         };
         let (_, record) = self.resolve(KIND_CREATE, &resource, 0, bytes)?;
         if self.resources.is_full() {
@@ -232,7 +245,7 @@ impl Kept {
         Ok(())
     }
 
-    /// Destroys a resource; if its handle is the target's, that ends too.
+    /// Destroys a name; if it is the target's, that ends too.
     fn destroy(&mut self, handle: u32) -> Result<(), Error> {
         if !self.resources.remove(handle) {
             return Err(Error::Handle);

@@ -1,11 +1,18 @@
-//! The live resources: at most 64, found by handle.
+//! The live resources under their names: at most 64, found by handle.
+//!
+//! A resource with several names stands here once for each of them, alike but
+//! for the handle. None of it changes once it is made, but for the number it
+//! gets at its first export, before which it has one name only.
 
 use crate::shapes::Shape;
 
-/// The most resources that may live at once.
-pub(crate) const MAX_RESOURCES: usize = 64;
+/// The most names that may live at once.
+const MAX_NAMES: usize = 64;
 
-/// A live resource. Backing id 0 means host-backed.
+/// The surface number of a resource that was never exported.
+pub(crate) const NO_SURFACE: u32 = 0;
+
+/// A live resource under one of its names. Backing id 0 means host-backed.
 #[derive(Clone, Copy, Debug, PartialEq)]
 pub(crate) struct Resource {
     pub(crate) handle: u32,
@@ -14,6 +21,9 @@ pub(crate) struct Resource {
     pub(crate) bytes: u64,
     pub(crate) backing_id: u32,
     pub(crate) backing_offset: u32,
+    /// The number it has from its first export on, which no other resource
+    /// has; see [`crate::tokens`].
+    pub(crate) surface: u32,
 }
 
 impl Resource {
@@ -24,19 +34,28 @@ impl Resource {
     pub(crate) fn is_buffer(&self) -> bool {
         matches!(self.shape, Shape::Buffer { .. })
     }
+
+    /// Whether they are equal, whatever their surface numbers.
+    fn is_like(&self, other: &Resource) -> bool {
+        let other = Resource {
+            surface: self.surface,
+            ..*other
+        };
+        *self == other
+    }
 }
 
-/// The live resources, in no order that counts.
+/// The live resources, a row for each name, in no order that counts.
 #[derive(Clone, Debug)]
 pub(crate) struct Resources {
     rows: Vec<Resource>,
 }
 
 impl Resources {
-    /// No resources, with room for all that may live.
+    /// No resources, with room for all names that may live.
     pub(crate) fn new() -> Resources {
         Resources {
-            rows: Vec::with_capacity(MAX_RESOURCES),
+            rows: Vec::with_capacity(MAX_NAMES),
         }
     }
 
@@ -44,16 +63,32 @@ impl Resources {
         self.rows.iter().find(|row| row.handle == handle)
     }
 
-    pub(crate) fn is_full(&self) -> bool {
-        self.rows.len() >= MAX_RESOURCES
+    pub(crate) fn find_mut(&mut self, handle: u32) -> Option<&mut Resource> {
+        self.rows.iter_mut().find(|row| row.handle == handle)
     }
 
-    /// Adds a resource; the caller has checked room and handle.
+    /// The resource with this surface number, under any of its names.
+    pub(crate) fn find_surface(&self, surface: u32) -> Option<&Resource> {
+        self.rows.iter().find(|row| row.surface == surface)
+    }
+
+    /// Whether a new name may have this handle.
+    pub(crate) fn is_free(&self, handle: u32) -> bool {
+        handle != 0 && self.find(handle).is_none()
+    }
+
+    pub(crate) fn is_full(&self) -> bool {
+        self.rows.len() >= MAX_NAMES
+    }
+
+    /// Adds a resource or one more name of it; the caller has checked room and
+    /// handle.
     pub(crate) fn add(&mut self, resource: Resource) {
         self.rows.push(resource);
     }
 
-    /// Removes the resource with this handle; false if none is live.
+    /// Removes this name, and with the last one the resource; false if it is
+    /// not live.
     pub(crate) fn remove(&mut self, handle: u32) -> bool {
         match self.rows.iter().position(|row| row.handle == handle) {
             Some(index) => {
@@ -73,16 +108,42 @@ impl Resources {
         self.rows.clear();
         self.rows.extend_from_slice(&other.rows);
     }
+
+    /// The lowest name of the resource with this surface number.
+    pub(crate) fn lowest_name(&self, surface: u32) -> Option<u32> {
+        let of_surface = self.rows.iter().filter(|row| row.surface == surface);
+        of_surface.map(|row| row.handle).min()
+    }
+
+    /// Every name with the lowest name of its resource, by rising name.
+    pub(crate) fn names(&self) -> Vec<(u32, u32)> {
+        let mut names: Vec<_> = self
+            .rows
+            .iter()
+            .map(|row| (row.handle, self.lowest_name_of(row)))
+            .collect();
+        names.sort_unstable();
+        names
+    }
+
+    fn lowest_name_of(&self, row: &Resource) -> u32 {
+        if row.surface == NO_SURFACE {
+            row.handle
+        } else {
+            self.lowest_name(row.surface).unwrap_or(row.handle)
+        }
+    }
 }
 
-/// Resources compare as a map by handle.
+/// Resources compare as a map by handle, and by which handles name the same
+/// one; surface numbers do not count.
 impl PartialEq for Resources {
     fn eq(&self, other: &Resources) -> bool {
-        self.rows.len() == other.rows.len()
-            && self
-                .rows
-                .iter()
-                .all(|row| other.find(row.handle) == Some(row))
+        self.names() == other.names()
+            && self.rows.iter().all(|row| match other.find(row.handle) {
+                Some(twin) => row.is_like(twin),
+                None => false,
+            })
     }
 }
 
@@ -97,6 +158,7 @@ mod tests {
             bytes: 16,
             backing_id: 0,
             backing_offset: 0,
+            surface: NO_SURFACE,
         }
     }
 
@@ -120,5 +182,36 @@ mod tests {
         });
         two.add(buffer(2));
         assert_ne!(one, two);
+    }
+
+    /// Buffers under these handles, each with its surface number.
+    fn shared(rows: &[(u32, u32)]) -> Resources {
+        let mut resources = Resources::new();
+        for (handle, surface) in rows {
+            resources.add(Resource {
+                surface: *surface,
+                ..buffer(*handle)
+            });
+        }
+        resources
+    }
+
+    #[test]
+    fn names_tell_the_lowest_of_their_resource() {
+        let resources = shared(&[(9, 1), (3, 0), (2, 7), (5, 1), (8, 1), (1, 0)]);
+        let names = [(1, 1), (2, 2), (3, 3), (5, 5), (8, 5), (9, 5)];
+        assert_eq!(resources.names(), names);
+        assert_eq!(resources.lowest_name(1), Some(5));
+        assert_eq!(resources.lowest_name(4), None);
+    }
+
+    #[test]
+    fn resources_compare_by_who_shares_whatever_the_number() {
+        let one = shared(&[(1, 1), (2, 1), (3, 4), (4, 0)]);
+        assert_eq!(one, shared(&[(2, 9), (4, 0), (1, 9), (3, 0)]));
+        assert_ne!(one, shared(&[(1, 1), (2, 0), (3, 1), (4, 0)]));
+        assert_ne!(one, shared(&[(1, 1), (2, 1), (3, 1), (4, 0)]));
+        assert_ne!(one, shared(&[(1, 0), (2, 0), (3, 0), (4, 0)]));
+        assert_ne!(one, shared(&[(1, 1), (2, 1), (3, 4)]));
     }
 }

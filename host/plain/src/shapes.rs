@@ -113,6 +113,14 @@ impl Shape {
         }
     }
 
+    /// Whether it is a texture of one mip and one layer.
+    pub(crate) fn is_one_image(&self) -> bool {
+        match self {
+            Shape::Buffer { .. } => false,
+            Shape::Texture(texture) => texture.mips == 1 && texture.layers == 1,
+        }
+    }
+
     /// The same shape with the pitch kept as 0.
     pub(crate) fn without_pitch(self) -> Shape {
         match self {

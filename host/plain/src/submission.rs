@@ -6,6 +6,7 @@ use crate::packets::Kept;
 use crate::ring::{Descriptor, Ring};
 use crate::stream::Stream;
 use crate::table::{self, Entry};
+use crate::tokens::Tokens;
 
 /// What settling needs of an opened submission.
 #[derive(Clone, Copy, Debug, PartialEq)]
@@ -27,7 +28,8 @@ impl Ticket {
     }
 }
 
-/// An opened submission. Its entries, resources and records are in [`Kept`].
+/// An opened submission. Its entries, resources and records are in [`Kept`],
+/// its tokens in [`Tokens`].
 #[derive(Clone, Copy, Debug, PartialEq)]
 pub(crate) struct Submission {
     pub(crate) ticket: Ticket,
@@ -72,7 +74,12 @@ impl Submission {
 
     /// Judges the next entry or, after the last one, the next packet. A fault
     /// has its place.
-    pub(crate) fn step(&mut self, mem: &[u8], kept: &mut Kept) -> Result<(), Fault> {
+    pub(crate) fn step(
+        &mut self,
+        mem: &[u8],
+        kept: &mut Kept,
+        tokens: &mut Tokens,
+    ) -> Result<(), Fault> {
         if self.has_entries_left(kept) {
             let entry =
                 Entry::read_next(mem, self.table_gpa, &self.table, &kept.entries, length(mem))?;
@@ -80,13 +87,19 @@ impl Submission {
             Ok(())
         } else {
             let place = self.stream.place();
-            self.take_packet(mem, kept).map_err(|error| error.at(place))
+            self.take_packet(mem, kept, tokens)
+                .map_err(|error| error.at(place))
         }
     }
 
-    fn take_packet(&mut self, mem: &[u8], kept: &mut Kept) -> Result<(), Error> {
+    fn take_packet(
+        &mut self,
+        mem: &[u8],
+        kept: &mut Kept,
+        tokens: &mut Tokens,
+    ) -> Result<(), Error> {
         let packet = self.stream.next_packet(mem, self.stream_gpa)?;
-        kept.take(packet)
+        kept.take(packet, tokens)
     }
 
     fn has_entries_left(&self, kept: &Kept) -> bool {

@@ -4,7 +4,8 @@ use super::*;
 use crate::guest::{self, Backing, Clear, Descriptor, Packet, Part, Scissor, Shape, Viewport};
 use crate::numbers::Numbers;
 use crate::registers;
-use crate::state::{word, ENTRY_WORDS, MOST, RECORD_WORDS, RESOURCE_WORDS};
+use crate::state::{word, MOST, MOST_TOKENS};
+use crate::state::{ENTRY_WORDS, RECORD_WORDS, RESOURCE_WORDS, TOKEN_WORDS};
 
 const MEMORY: usize = 4096;
 const BESIDE: usize = 64;
@@ -40,10 +41,12 @@ impl<const N: usize> Fenced<N> {
 /// All that calls are lent, each part fenced by itself.
 #[derive(Clone, PartialEq)]
 struct Lent {
-    words: Fenced<32>,
+    words: Fenced<36>,
     entries: Fenced<{ MOST * ENTRY_WORDS }>,
     first: Fenced<{ MOST * RESOURCE_WORDS }>,
     second: Fenced<{ MOST * RESOURCE_WORDS }>,
+    first_tokens: Fenced<{ MOST_TOKENS * TOKEN_WORDS }>,
+    second_tokens: Fenced<{ MOST_TOKENS * TOKEN_WORDS }>,
     records: Fenced<{ MOST * RECORD_WORDS }>,
     /// With bytes beside it at both ends.
     memory: Vec<u8>,
@@ -64,6 +67,8 @@ impl Lent {
             entries: Fenced::new(numbers),
             first: Fenced::new(numbers),
             second: Fenced::new(numbers),
+            first_tokens: Fenced::new(numbers),
+            second_tokens: Fenced::new(numbers),
             records: Fenced::new(numbers),
             memory,
         };
@@ -101,6 +106,8 @@ impl Lent {
             && self.entries.stands()
             && self.first.stands()
             && self.second.stands()
+            && self.first_tokens.stands()
+            && self.second_tokens.stands()
             && self.records.stands()
             && before.iter().chain(behind).all(|&byte| byte == UNTOUCHED)
     }
@@ -145,7 +152,21 @@ const DRAWING: [Packet; 5] = [
     }),
 ];
 
-/// A submission of two entries and nine packets, and the ring that holds it, in the first 2048 bytes.
+/// The texture under two names, of which the first is given up, and its token.
+const SHARING: [Packet; 4] = [
+    Packet::Export {
+        handle: 3,
+        token: 7,
+    },
+    Packet::Import {
+        handle: 4,
+        token: 7,
+    },
+    Packet::Destroy { handle: 3 },
+    Packet::Release { token: 7 },
+];
+
+/// A submission of two entries and thirteen packets, and the ring that holds it, in the first 2048 bytes.
 pub(super) fn submission(memory: &mut [u8]) {
     let create = |handle| Packet::CreateBuffer {
         handle,
@@ -168,6 +189,7 @@ pub(super) fn submission(memory: &mut [u8]) {
     let table = guest::table(&entries(2));
     let mut packets = vec![create(1), create(2), dirty, copy];
     packets.extend(DRAWING);
+    packets.extend(SHARING);
     let stream = guest::stream(&packets);
     let slot = Descriptor {
         commands: Part::of(1024, &stream),
@@ -188,6 +210,8 @@ fn call(lent: &mut Lent, which: u64, numbers: &mut Numbers) -> u64 {
         entries,
         first,
         second,
+        first_tokens,
+        second_tokens,
         records,
         memory,
     } = lent;
@@ -195,6 +219,7 @@ fn call(lent: &mut Lent, which: u64, numbers: &mut Numbers) -> u64 {
     let memory = memory[BESIDE..][..length].as_mut_ptr();
     let (words, entries, records) = (&mut words.lent, &mut entries.lent, &mut records.lent);
     let (first, second) = (&mut first.lent, &mut second.lent);
+    let (one, other) = (&mut first_tokens.lent, &mut second_tokens.lent);
     let (a, b) = (numbers.next() as u32, numbers.next() as u32);
     let allowance = numbers.next() as u16;
     // SAFETY: references to arrays of the boundary's types, numbers, and a slice's own pointer and length.
@@ -202,10 +227,10 @@ fn call(lent: &mut Lent, which: u64, numbers: &mut Numbers) -> u64 {
         match which {
             0 => library::zelezmut_write(words, a, b).into(),
             1 => library::zelezmut_run(
-                words, entries, first, second, records, memory, length, allowance,
+                words, entries, first, second, one, other, records, memory, length, allowance,
             ),
             _ => library::zelezmut_answer(
-                words, entries, first, second, records, memory, length, a, allowance,
+                words, entries, first, second, one, other, records, memory, length, a, allowance,
             ),
         }
     }

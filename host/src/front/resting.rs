@@ -1,4 +1,4 @@
-//! What is not in work is 0: a made device's words are the same for the same state, but for the one that says which table is its own.
+//! What is not in work is 0: a made device's words are the same for the same state, but for the two that say which tables are its own.
 use super::fuzz::submission;
 use super::*;
 use crate::guest;
@@ -16,6 +16,7 @@ fn says_something(tag: u64, i: usize) -> bool {
         word::STREAM_GPA | word::STREAM_SIZE => tag == ENTRIES || tag == PACKETS,
         word::PLACE => tag == PACKETS,
         word::HELD | word::MADE | word::COPIED | word::TARGET => tag != NOTHING && tag != ENTRIES,
+        word::HELD_TOKENS | word::TOKENS_COPIED => tag != NOTHING && tag != ENTRIES,
         _ => true,
     }
 }
@@ -74,7 +75,9 @@ fn at_rest_the_words_are_the_same_however_it_was_sliced() {
         rest(&mut one, &mut memory, good, &mut Numbers(2 * round + 1));
         rest(&mut other, &mut same, good, &mut Numbers(3 * round + 2));
         assert!(memory == same);
-        other.words[word::SIDE] = one.words[word::SIDE];
+        for side in [word::SIDE, word::TOKEN_SIDE] {
+            other.words[side] = one.words[side];
+        }
         assert_eq!(one.words, other.words);
     }
 }

@@ -10,8 +10,8 @@ const BESIDE: usize = 64;
 const UNTOUCHED: u8 = 0xA5;
 
 #[test]
-fn the_state_takes_at_most_16_500_bytes() {
-    assert!(size_of::<State>() <= 16_500);
+fn the_state_takes_at_most_25_500_bytes() {
+    assert!(size_of::<State>() <= 25_500);
 }
 
 /// The number has 12 bits for each length: none may run into the next.
@@ -21,9 +21,10 @@ fn the_layout_is_the_librarys() {
         size_of::<Words>(),
         size_of::<Entries>(),
         size_of::<Resources>(),
+        size_of::<Tokens>(),
         size_of::<Records>(),
     ];
-    let told = [36, 24, 12, 0].map(|at| (LAYOUT >> at) as usize % 4096);
+    let told = [48, 36, 24, 12, 0].map(|at| (LAYOUT >> at) as usize % 4096);
     assert_eq!(told.map(|words| 8 * words), lengths);
     // SAFETY: it takes nothing, and gives a number.
     assert_eq!(unsafe { library::zelezmut_layout() }, LAYOUT);
@@ -124,9 +125,13 @@ fn words(state: &State) -> Vec<u64> {
         entries,
         first,
         second,
+        first_tokens,
+        second_tokens,
         records,
     } = state;
-    [&words[..], entries, first, second, records].concat()
+    let resources = [&first[..], second].concat();
+    let tokens = [&first_tokens[..], second_tokens].concat();
+    [&words[..], entries, &resources, &tokens, records].concat()
 }
 
 /// An answer on one device; on an equal one the answer alone, and the run alone unless that was refused.

@@ -2,7 +2,7 @@
 use super::fields::Fields;
 use super::packet::{
     Backing, Packet, Row, Shape, CLEAR, COPY_BUFFER, CREATE_BUFFER, CREATE_TEXTURE, DESTROY,
-    DIRTY_RANGE, PACKET_HEADER, SCISSOR, TARGET, VIEWPORT, WRITEBACK,
+    DIRTY_RANGE, EXPORT, IMPORT, PACKET_HEADER, RELEASE, SCISSOR, TARGET, VIEWPORT, WRITEBACK,
 };
 use super::state_packets::{Clear, Scissor, Viewport};
 use super::{MAJOR, STREAM_HEADER, STREAM_MAGIC};
@@ -158,7 +158,7 @@ impl PacketFields<'_> {
 type Reader = fn(PacketFields<'_>) -> Result<Packet, DeviceError>;
 
 /// Every packet that the front knows: its row of the documents' tables, and its reader. A new packet is a row here and a reader below.
-const KNOWN: [(Row, Reader); 9] = [
+const KNOWN: [(Row, Reader); 12] = [
     (CREATE_BUFFER, create_buffer),
     (CREATE_TEXTURE, create_texture),
     (DESTROY, destroy),
@@ -168,6 +168,9 @@ const KNOWN: [(Row, Reader); 9] = [
     (VIEWPORT, viewport),
     (SCISSOR, scissor),
     (CLEAR, clear),
+    (EXPORT, export),
+    (IMPORT, import),
+    (RELEASE, release),
 ];
 
 fn create_buffer(fields: PacketFields<'_>) -> Result<Packet, DeviceError> {
@@ -264,6 +267,26 @@ fn clear(fields: PacketFields<'_>) -> Result<Packet, DeviceError> {
     }))
 }
 
+fn export(fields: PacketFields<'_>) -> Result<Packet, DeviceError> {
+    Ok(Packet::Export {
+        handle: fields.word(8)?,
+        token: fields.long(16)?,
+    })
+}
+
+fn import(fields: PacketFields<'_>) -> Result<Packet, DeviceError> {
+    Ok(Packet::Import {
+        handle: fields.word(8)?,
+        token: fields.long(16)?,
+    })
+}
+
+fn release(fields: PacketFields<'_>) -> Result<Packet, DeviceError> {
+    Ok(Packet::Release {
+        token: fields.long(8)?,
+    })
+}
+
 /// What is wrong with a stream that [`decode`] reads.
 ///
 /// Displayed it is a line for a log: `error 17 at byte 40 of the stream: ..`, with the error's own words behind.
@@ -339,6 +362,7 @@ mod tests {
             .chain([texture(backing), destroy, dirty])
             .chain([copy(false), copy(true)])
             .chain(every_state_packet())
+            .chain(every_token_packet())
             .chain([unknown])
             .collect()
     }
@@ -373,6 +397,20 @@ mod tests {
         ]
     }
 
+    fn every_token_packet() -> [Packet; 3] {
+        [
+            Packet::Export {
+                handle: 16,
+                token: 1 << 35,
+            },
+            Packet::Import {
+                handle: 17,
+                token: u64::MAX,
+            },
+            Packet::Release { token: 1 << 36 },
+        ]
+    }
+
     fn packets(stream: &[u8]) -> Result<Vec<Packet>, StreamError> {
         decode(stream)?.map(|read| Ok(read?.packet)).collect()
     }
@@ -389,12 +427,12 @@ mod tests {
         assert_eq!(packets(&bytes), Ok(written.clone()));
         let grown: Vec<Vec<u8>> = written.iter().map(|p| p.grown(&[1, u32::MAX])).collect();
         let read = packets(&stream_of(&grown)).unwrap();
-        assert_eq!(read[..12], written[..12]);
+        assert_eq!(read[..15], written[..15]);
         let longer = Packet::Unknown {
             opcode: 260,
             size: 28,
         };
-        assert_eq!(read[12..], [longer]);
+        assert_eq!(read[15..], [longer]);
         // What stands behind the stream's own size is nobody's.
         bytes.extend([0xEE; 5]);
         assert_eq!(packets(&bytes), Ok(written));

@@ -51,9 +51,9 @@ pub enum Packet {
         /// Its guest memory.
         backing: Option<Backing>,
     },
-    /// Ends a resource.
+    /// Ends a name of a resource, and with its last name the resource.
     Destroy {
-        /// The resource's handle.
+        /// The name's handle.
         handle: u32,
     },
     /// The guest has changed a range of a backed resource.
@@ -91,6 +91,25 @@ pub enum Packet {
     Scissor(Scissor),
     /// Clears to a colour, a depth and a stencil.
     Clear(Clear),
+    /// Binds a token to a live texture of one mip and one layer, so that other programs may import it.
+    Export {
+        /// One of the texture's names.
+        handle: u32,
+        /// Not 0, never bound to another resource since the last reset, and not released.
+        token: u64,
+    },
+    /// Gives the resource that a token is bound to another name. Destroying one name leaves the others.
+    Import {
+        /// The new name.
+        handle: u32,
+        /// A token that is bound to a live resource.
+        token: u64,
+    },
+    /// Ends a token: nobody can import or export by it any more. The names that were made by it stay.
+    Release {
+        /// A token that is bound to a live resource.
+        token: u64,
+    },
     /// A packet that the front does not know and skips. Written, it has zeros after its header.
     Unknown {
         /// None of those above.
@@ -113,6 +132,9 @@ pub(super) const TARGET: Row = (1024, 16);
 pub(super) const VIEWPORT: Row = (1025, 32);
 pub(super) const SCISSOR: Row = (1026, 24);
 pub(super) const CLEAR: Row = (1536, 36);
+pub(super) const EXPORT: Row = (1808, 24);
+pub(super) const IMPORT: Row = (1809, 24);
+pub(super) const RELEASE: Row = (1810, 16);
 
 /// Opcode and size, of every packet.
 pub(super) const PACKET_HEADER: u32 = 8;
@@ -133,6 +155,9 @@ impl Packet {
             Packet::Viewport(_) => VIEWPORT,
             Packet::Scissor(_) => SCISSOR,
             Packet::Clear(_) => CLEAR,
+            Packet::Export { .. } => EXPORT,
+            Packet::Import { .. } => IMPORT,
+            Packet::Release { .. } => RELEASE,
             Packet::Unknown { opcode, size } => (opcode, size),
         }
     }
@@ -199,6 +224,33 @@ impl Packet {
 
     fn put_fields(&self, bytes: &mut [u8]) {
         match *self {
+            Packet::CreateBuffer { .. } | Packet::CreateTexture { .. } => self.put_create(bytes),
+            Packet::Destroy { handle } | Packet::Target { handle } => put_word(bytes, 8, handle),
+            Packet::DirtyRange {
+                handle,
+                offset,
+                size,
+            } => {
+                put_word(bytes, 8, handle);
+                put_long(bytes, 16, offset);
+                put_long(bytes, 24, size);
+            }
+            Packet::CopyBuffer { .. } => self.put_copy(bytes),
+            Packet::Viewport(viewport) => viewport.put(bytes, 8),
+            Packet::Scissor(scissor) => scissor.put(bytes, 8),
+            Packet::Clear(clear) => clear.put(bytes, 8),
+            Packet::Export { handle, token } | Packet::Import { handle, token } => {
+                put_word(bytes, 8, handle);
+                put_long(bytes, 16, token);
+            }
+            Packet::Release { token } => put_long(bytes, 8, token),
+            Packet::Unknown { .. } => (),
+        }
+    }
+
+    /// The fields of a create, if it is one.
+    fn put_create(&self, bytes: &mut [u8]) {
+        match *self {
             Packet::CreateBuffer {
                 handle,
                 size,
@@ -217,21 +269,7 @@ impl Packet {
                 put_shape(bytes, 16, shape);
                 put_backing(bytes, 40, backing);
             }
-            Packet::Destroy { handle } | Packet::Target { handle } => put_word(bytes, 8, handle),
-            Packet::DirtyRange {
-                handle,
-                offset,
-                size,
-            } => {
-                put_word(bytes, 8, handle);
-                put_long(bytes, 16, offset);
-                put_long(bytes, 24, size);
-            }
-            Packet::CopyBuffer { .. } => self.put_copy(bytes),
-            Packet::Viewport(viewport) => viewport.put(bytes, 8),
-            Packet::Scissor(scissor) => scissor.put(bytes, 8),
-            Packet::Clear(clear) => clear.put(bytes, 8),
-            Packet::Unknown { .. } => (),
+            _ => (),
         }
     }
 

@@ -55,6 +55,12 @@ element-write-words-15 c = search needs
 element-write-words-16 : tie.Need-element-write-words-16
 element-write-words-16 c = search needs
 
+element-write-words-17 : tie.Need-element-write-words-17
+element-write-words-17 c = search needs
+
+element-write-words-18 : tie.Need-element-write-words-18
+element-write-words-18 c = search needs
+
 rest-requires : tie.Need-rest-requires
 rest-requires c κs = search needs
 
@@ -82,5 +88,7 @@ make-spec =
     element-write-words-14
     element-write-words-15
     element-write-words-16
+    element-write-words-17
+    element-write-words-18
     rest-requires
     returns)

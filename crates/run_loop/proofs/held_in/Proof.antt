@@ -16,17 +16,29 @@ element-copy-out-rows-in-2 c = search needs
 rows-in-requires-2 : tie.Need-rows-in-requires-2
 rows-in-requires-2 c κs = search needs
 
-element-copy-out-is-set : tie.Need-element-copy-out-is-set
-element-copy-out-is-set c = search needs
+element-copy-out-mark : tie.Need-element-copy-out-mark
+element-copy-out-mark c = search needs
 
-is-set-requires : tie.Need-is-set-requires
-is-set-requires c κs = search needs
+mark-requires : tie.Need-mark-requires
+mark-requires c κs = search needs
 
 element-copy-out-low32 : tie.Need-element-copy-out-low32
 element-copy-out-low32 c = search needs
 
 low32-requires : tie.Need-low32-requires
 low32-requires c κs = search needs
+
+element-copy-out-tokens-in : tie.Need-element-copy-out-tokens-in
+element-copy-out-tokens-in c = search needs
+
+tokens-in-requires : tie.Need-tokens-in-requires
+tokens-in-requires c κs = search needs
+
+element-copy-out-mark-2 : tie.Need-element-copy-out-mark-2
+element-copy-out-mark-2 c = search needs
+
+mark-requires-2 : tie.Need-mark-requires-2
+mark-requires-2 c κs = search needs
 
 returns : tie.Need-returns
 returns c = search finding-held
@@ -39,8 +51,12 @@ held-in-spec =
     rows-in-requires
     element-copy-out-rows-in-2
     rows-in-requires-2
-    element-copy-out-is-set
-    is-set-requires
+    element-copy-out-mark
+    mark-requires
     element-copy-out-low32
     low32-requires
+    element-copy-out-tokens-in
+    tokens-in-requires
+    element-copy-out-mark-2
+    mark-requires-2
     returns)

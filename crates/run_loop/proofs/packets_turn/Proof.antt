@@ -26,7 +26,7 @@ play-requires : tie.Need-play-requires
 play-requires c κs = search turning-packets
 
 land-packets-requires : tie.Need-land-packets-requires
-land-packets-requires c κs = search (packets-land, c .before .before .before .play .ensures, c .before .before .before .before .before .before .before .before .before .before .before .before .before .before .before .before .pre)
+land-packets-requires c κs = search (packets-land, c .before .before .before .play .ensures, c .before .before .before .before .before .before .before .before .before .before .before .before .before .before .before .before .before .pre)
 
 same-length : tie.Need-same-length
 same-length c = search needs
@@ -35,11 +35,11 @@ returns : tie.Need-returns
 returns c =
     search (
       packets-turned,
-      c .before .before .before .before .before .before .before .before .before .before .before .before .before .before .before .before .before .before .before .pre,
-      c .before .before .before .before .before .before .before .before .before .before .before .before .before .before .before .before .stream-in .ensures,
-      c .before .before .before .before .before .before .before .before .before .before .before .before .before .before .rows-in .ensures,
-      c .before .before .before .before .before .before .before .before .before .before .before .before .word-to-usize .ensures,
-      c .before .before .before .before .before .before .before .before .before .before .held-in .ensures,
+      c .before .before .before .before .before .before .before .before .before .before .before .before .before .before .before .before .before .before .before .before .pre,
+      c .before .before .before .before .before .before .before .before .before .before .before .before .before .before .before .before .before .stream-in .ensures,
+      c .before .before .before .before .before .before .before .before .before .before .before .before .before .before .before .rows-in .ensures,
+      c .before .before .before .before .before .before .before .before .before .before .before .before .before .word-to-usize .ensures,
+      c .before .before .before .before .before .before .before .before .before .before .before .held-in .ensures,
       c .before .before .before .before .before .before .play .ensures,
       c .before .before .land-packets .ensures,
     )

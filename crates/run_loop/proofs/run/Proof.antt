@@ -1,25 +1,25 @@
 -- `run` meets its contract. The invariant: the run of the allowance is the units spent so far and a run of the rest from here, and
--- the same table stays the device's. The measure is the allowance that is left. Assumes nothing.
+-- the same tables stay the device's. The measure is the allowance that is left. Assumes nothing.
 use mathlib.Core.Path.{_≡_}
 use Prim.Native.Nat.{_≤_, _-_}
 use native.Mathlib.Omega.{arith}
-use lib.ListN.{length, getD}
+use lib.ListN.{length}
 use Rattle.machine.specs.Machine.{spent}
 use Rattle.rules.specs.Steps.{run-for}
-use Rattle.run_state.specs.Views.{worldIn}
+use Rattle.run_state.specs.Views.{worldIn, sidesIn}
 use Rattle.run_loop.specs.Turning.{advancing}
 use Rattle.run_loop.proofs.run.Statement.{statement}
 use Rattle.run_loop.proofs.run.Tie as tie
 
 abbrev Inv-loop : tie.InvT-loop
-Inv-loop words₀ mem₀ entries₀ resources own₀ records₀ allowance units₀ words mem entries own records units =
+Inv-loop words₀ mem₀ entries₀ resources own₀ tokens owntokens₀ records₀ allowance units₀ words mem entries own owntokens records units =
     (units ≤ allowance)
     × (length mem ≡ length mem₀)
-    × (run-for allowance (worldIn words₀ entries₀ resources own₀ records₀ mem₀) ≡ spent units (run-for (allowance - units) (worldIn words entries resources own records mem)))
-    × (getD words 28 0 ≡ getD words₀ 28 0)
+    × (run-for allowance (worldIn words₀ entries₀ resources own₀ tokens owntokens₀ records₀ mem₀) ≡ spent units (run-for (allowance - units) (worldIn words entries resources own tokens owntokens records mem)))
+    × (sidesIn words ≡ sidesIn words₀)
 
 abbrev μ-loop : tie.MeasureT-loop
-μ-loop words₀ mem₀ entries₀ resources own₀ records₀ allowance units₀ words mem entries own records units =
+μ-loop words₀ mem₀ entries₀ resources own₀ tokens owntokens₀ records₀ allowance units₀ words mem entries own owntokens records units =
     allowance - units
 
 loop-holds : tie.Need-loop-holds Inv-loop μ-loop

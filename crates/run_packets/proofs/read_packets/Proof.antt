@@ -5,21 +5,21 @@ use Prim.Native.Nat.{_≤_, _-_}
 use native.Mathlib.Omega.{arith}
 use Rattle.machine.specs.Machine.{spent, runFor}
 use Rattle.kept_entries.specs.Views.{entriesOf}
-use Rattle.packet_ranges.specs.Views.{RowsExist}
+use Rattle.packet_apply.specs.Apply.{RoomFor}
 use Rattle.run_packets.specs.Playing.{playing-goes, play-step, playingOf, playing-on}
 use Rattle.run_packets.proofs.read_packets.Statement.{statement}
 use Rattle.run_packets.proofs.read_packets.Tie as tie
 
 abbrev Inv-loop : tie.InvT-loop
-Inv-loop stream end entries n resources own₀ records₀ allowance bound p₀ units₀ own records p units =
+Inv-loop stream end entries n resources own₀ tokens owntokens₀ records₀ allowance bound p₀ units₀ own owntokens records p units =
     (units ≤ allowance)
     × (p .ending ≡ 0)
-    × RowsExist n (p .held .live) (p .held .made)
-    × (runFor playing-goes (play-step (entriesOf n entries) stream end) allowance (playingOf p₀ resources own₀ records₀)
-    ≡ spent units (runFor playing-goes (play-step (entriesOf n entries) stream end) (allowance - units) (playingOf p resources own records)))
+    × RoomFor n (p .held)
+    × (runFor playing-goes (play-step (entriesOf n entries) stream end) allowance (playingOf p₀ resources own₀ tokens owntokens₀ records₀)
+    ≡ spent units (runFor playing-goes (play-step (entriesOf n entries) stream end) (allowance - units) (playingOf p resources own tokens owntokens records)))
 
 abbrev μ-loop : tie.MeasureT-loop
-μ-loop stream end entries n resources own₀ records₀ allowance bound p₀ units₀ own records p units = allowance - units
+μ-loop stream end entries n resources own₀ tokens owntokens₀ records₀ allowance bound p₀ units₀ own owntokens records p units = allowance - units
 
 inner-bound-requires : tie.Need-inner-bound-requires Inv-loop μ-loop
 inner-bound-requires c κs = search playing-on

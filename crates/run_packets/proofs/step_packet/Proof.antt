@@ -13,14 +13,14 @@ enum-known-why c = search needs
 enum-known-size : tie.Need-enum-known-size
 enum-known-size c = search needs
 
-take-packet-requires : tie.Need-take-packet-requires
-take-packet-requires c κs = search needs
-
 u32-to-usize-requires : tie.Need-u32-to-usize-requires
 u32-to-usize-requires c κs = search needs
 
-add-place-after : tie.Need-add-place-after
-add-place-after c = search stepping-packet
+add-next : tie.Need-add-next
+add-next c = search stepping-packet
+
+take-packet-requires : tie.Need-take-packet-requires
+take-packet-requires c κs = search needs
 
 place-after-requires : tie.Need-place-after-requires
 place-after-requires c κs = search needs
@@ -38,9 +38,9 @@ step-packet-spec =
     packet-at-requires
     enum-known-why
     enum-known-size
-    take-packet-requires
     u32-to-usize-requires
-    add-place-after
+    add-next
+    take-packet-requires
     place-after-requires
     returns
     returns-2)

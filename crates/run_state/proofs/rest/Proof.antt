@@ -52,6 +52,12 @@ element-write-words-15 c = search needs
 element-write-words-16 : tie.Need-element-write-words-16
 element-write-words-16 c = search needs
 
+element-write-words-17 : tie.Need-element-write-words-17
+element-write-words-17 c = search needs
+
+element-write-words-18 : tie.Need-element-write-words-18
+element-write-words-18 c = search needs
+
 returns : tie.Need-returns
 returns c = search resting-words
 
@@ -75,4 +81,6 @@ rest-spec =
     element-write-words-14
     element-write-words-15
     element-write-words-16
+    element-write-words-17
+    element-write-words-18
     returns)

@@ -4,7 +4,7 @@ use super::{broken, judged, kept, Aim, PacketTwist};
 use crate::draft::Draft;
 use crate::image::Entry;
 use crate::numbers::error::{BACKING, HANDLE, NO_ENTRY, SHAPE};
-use crate::numbers::{MOST_RECORDS, MOST_RESOURCES};
+use crate::numbers::{MOST_NAMES, MOST_RECORDS};
 use crate::packet::Backing;
 use crate::shape::Shape;
 
@@ -72,7 +72,7 @@ fn backing_id(draft: &mut Draft) -> Option<Aim> {
 
 /// Room for one more resource and one more record, so that no other limit is met.
 pub fn room_for_one(draft: &mut Draft) -> Option<()> {
-    let free = draft.live.len() < MOST_RESOURCES && draft.records < MOST_RECORDS;
+    let free = draft.live.len() < MOST_NAMES && draft.records < MOST_RECORDS;
     free.then_some(())
 }
 

@@ -4,6 +4,7 @@ use super::target::some_target;
 use super::{broken, judged, Aim, PacketTwist};
 use crate::draft::{Draft, Resource};
 use crate::floats::NOT_A_NUMBER;
+use crate::good_shares::Shared;
 use crate::good_state::some_viewport;
 use crate::image::put32;
 use crate::numbers::error::{HANDLE, PACKET, STATE};
@@ -33,6 +34,9 @@ const LEAST_SIZE: Names = [
     "viewport: table size",
     "scissor: table size",
     "clear: table size",
+    "export: table size",
+    "import: table size",
+    "release: table size",
 ];
 
 const TO_THE_END: Names = [
@@ -45,6 +49,9 @@ const TO_THE_END: Names = [
     "viewport: grown to the end of the stream",
     "scissor: grown to the end of the stream",
     "clear: grown to the end of the stream",
+    "export: grown to the end of the stream",
+    "import: grown to the end of the stream",
+    "release: grown to the end of the stream",
 ];
 
 /// Puts in a known packet that is believed to pass, and says which of them it is.
@@ -63,7 +70,8 @@ fn known_packet(draft: &mut Draft) -> Option<usize> {
         5 => some_target(draft).map(drop),
         6 => draft.any_viewport(),
         7 => some_target(draft).and_then(|_| draft.any_scissor()),
-        _ => draft.any_clear(),
+        8 => draft.any_clear(),
+        _ => some_share_packet(draft, which),
     }?;
     Some(which)
 }
@@ -74,6 +82,19 @@ fn some_dirty(draft: &mut Draft) -> Option<Resource> {
         draft.backed_buffer()?;
         draft.any_dirty()
     })
+}
+
+/// An export, import or release, of a texture made for it if need be.
+fn some_share_packet(draft: &mut Draft, which: usize) -> Option<()> {
+    if which == 9 {
+        return draft.any_export().map(drop);
+    }
+    let Shared { token, .. } = draft.some_share()?;
+    if which == 10 {
+        return draft.second_name(token).map(drop);
+    }
+    draft.release(token);
+    Some(())
 }
 
 /// 4 to 64.
@@ -126,10 +147,12 @@ fn grown_not_by_fours(draft: &mut Draft) -> Option<Aim> {
 /// A grown packet is still held to its own rules; those of its size come first.
 fn grown_and_dead(draft: &mut Draft) -> Option<Aim> {
     let handle = draft.dead_handle()?;
-    match draft.random.within(0..=3) {
+    match draft.random.within(0..=5) {
         0 => draft.destroy(handle),
         1 => draft.dirty(handle, 0, 0),
         2 => draft.set_target(handle),
+        3 => draft.export(handle, 0),
+        4 => draft.import(0, 0),
         _ => draft.create_buffer(0, 1, Default::default()),
     }
     let bytes = some_bytes(draft);

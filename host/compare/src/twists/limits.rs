@@ -1,21 +1,29 @@
-//! Twists at the limits of 64 resources and 64 records: 19, and what comes before it.
+//! Twists at the limits of 64 names and 64 records: 19, and what comes before it.
 
 use super::{broken, judged, kept, Aim, PacketTwist};
 use crate::draft::{Draft, Resource};
+use crate::good_shares::Shared;
 use crate::good_state::some_scissor;
 use crate::numbers::error::{
-    BACKING, HANDLE, LIMIT, NO_ENTRY, READ_ONLY, RESOURCE_RANGE, SHAPE, STATE,
+    BACKING, HANDLE, LIMIT, NO_ENTRY, READ_ONLY, RESOURCE_RANGE, SHAPE, STATE, TOKEN_UNBOUND,
 };
-use crate::numbers::{MOST_RECORDS, MOST_RESOURCES, WRITEBACK};
+use crate::numbers::{MOST_NAMES, MOST_RECORDS, WRITEBACK};
 use crate::packet::{Backing, Copying, Scissor};
 
 pub const TWISTS: &[PacketTwist] = &[
     resources,
     resources_and_faults,
+    resources_and_faults,
     room_used_again,
+    names,
+    names,
+    names_and_faults,
+    room_of_a_name_used_again,
+    names_without_names,
     created_records,
     dirty_records,
     dirty_past_the_end_and_records,
+    copy_records,
     copy_records,
     scissor_records,
     scissor_records,
@@ -41,10 +49,23 @@ fn fill_resources(draft: &mut Draft, most: usize) -> Option<()> {
     Some(())
 }
 
+/// Gives a texture made here so many names that so many live in all. Its token comes back.
+pub fn fill_names(draft: &mut Draft, most: usize) -> Option<Shared> {
+    let missing = most.checked_sub(draft.live.len() + 2)?;
+    if !draft.has_room(missing * 24 + 6 * 56) {
+        return None;
+    }
+    let (shared, _) = draft.two_names()?;
+    while draft.live.len() < most {
+        draft.second_name(shared.token)?;
+    }
+    Some(shared)
+}
+
 /// Touches a byte of a backed buffer until there are so many records.
 fn fill_records(draft: &mut Draft, most: usize) -> Option<Resource> {
     let missing = most.checked_sub(draft.records + 2)?;
-    if !draft.has_room(missing * 32 + 5 * 48) || draft.live.len() + 3 > MOST_RESOURCES {
+    if !draft.has_room(missing * 32 + 5 * 48) || draft.live.len() + 3 > MOST_NAMES {
         return None;
     }
     let resource = draft.backed_buffer()?;
@@ -54,17 +75,17 @@ fn fill_records(draft: &mut Draft, most: usize) -> Option<Resource> {
     Some(resource)
 }
 
-/// As many resources or records as there may be, where there is room for them.
+/// As many resources, names or records as there may be, where there is room for them.
 pub fn fill_up(draft: &mut Draft) {
-    if draft.random.coin() {
-        fill_records(draft, MOST_RECORDS);
-    } else {
-        fill_resources(draft, MOST_RESOURCES);
+    match draft.random.within(0..=3) {
+        0..=1 => drop(fill_records(draft, MOST_RECORDS)),
+        2 => drop(fill_resources(draft, MOST_NAMES)),
+        _ => drop(fill_names(draft, MOST_NAMES)),
     }
 }
 
 fn resources(draft: &mut Draft) -> Option<Aim> {
-    let (live, fits) = about(draft, MOST_RESOURCES);
+    let (live, fits) = about(draft, MOST_NAMES);
     fill_resources(draft, live)?;
     let handle = draft.fresh_handle();
     let backing = draft.backing_for(16).filter(|_| draft.random.coin());
@@ -74,7 +95,7 @@ fn resources(draft: &mut Draft) -> Option<Aim> {
 
 /// 18, 20, 21 and 22 come before the limit.
 fn resources_and_faults(draft: &mut Draft) -> Option<Aim> {
-    fill_resources(draft, MOST_RESOURCES)?;
+    fill_resources(draft, MOST_NAMES)?;
     let handle = draft.fresh_handle();
     let host = Backing::default();
     match (draft.random.within(0..=3), draft.backing_for(1)) {
@@ -99,11 +120,69 @@ fn resources_and_faults(draft: &mut Draft) -> Option<Aim> {
 }
 
 fn room_used_again(draft: &mut Draft) -> Option<Aim> {
-    fill_resources(draft, MOST_RESOURCES)?;
+    fill_resources(draft, MOST_NAMES)?;
     let gone = draft.find(|_, _| true)?;
     draft.destroy(gone.handle);
     draft.any_texture()?;
     kept("destroy: room used again")
+}
+
+/// The limit counts names: many of them are one resource's here.
+fn names(draft: &mut Draft) -> Option<Aim> {
+    let (live, fits) = about(draft, MOST_NAMES);
+    let Shared { token, .. } = fill_names(draft, live)?;
+    let handle = draft.fresh_handle();
+    if draft.random.coin() {
+        draft.import(handle, token);
+        return judged("import: 64 names", fits, LIMIT);
+    }
+    draft.create_buffer(handle, 16, Backing::default());
+    judged("create: 64 names", fits, LIMIT)
+}
+
+/// 18 and 29 come before the limit.
+fn names_and_faults(draft: &mut Draft) -> Option<Aim> {
+    let Shared { resource, token } = fill_names(draft, MOST_NAMES)?;
+    if draft.random.coin() {
+        let name = draft.some_name(resource);
+        let handle = draft.random.pick(&[0, name]);
+        draft.import(handle, token);
+        return broken("import: 18 before the 64 names", HANDLE);
+    }
+    let unbound = if draft.random.coin() {
+        draft.release(token);
+        token
+    } else {
+        draft.fresh_token()
+    };
+    let handle = draft.fresh_handle();
+    draft.import(handle, unbound);
+    broken("import: 29 before the 64 names", TOKEN_UNBOUND)
+}
+
+/// Destroying any name gives back one of the 64, for another name or for a resource.
+fn room_of_a_name_used_again(draft: &mut Draft) -> Option<Aim> {
+    let Shared { resource, token } = fill_names(draft, MOST_NAMES)?;
+    let gone = draft.some_name(resource);
+    draft.destroy(gone);
+    if draft.random.coin() {
+        draft.second_name(token)?;
+        return kept("destroy: a name's room used again by a name");
+    }
+    draft.host_buffer()?;
+    kept("destroy: a name's room used again by a resource")
+}
+
+/// What makes no name is not held to their limit.
+fn names_without_names(draft: &mut Draft) -> Option<Aim> {
+    let Shared { resource, token } = fill_names(draft, MOST_NAMES)?;
+    let name = draft.some_name(resource);
+    if draft.random.coin() {
+        draft.release(token);
+    } else {
+        draft.export(name, token);
+    }
+    kept("64 names and none more")
 }
 
 fn created_records(draft: &mut Draft) -> Option<Aim> {

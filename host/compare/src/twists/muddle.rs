@@ -8,10 +8,10 @@ use crate::packet::{Backing, Clear, Copying, Scissor};
 
 /// Puts in a packet whose fields are good or bad each by itself.
 pub fn muddled(draft: &mut Draft) {
-    if draft.random.percent(30) {
-        muddled_state(draft);
-    } else {
-        muddled_resource(draft);
+    match draft.random.within(0..=9) {
+        0..=2 => muddled_state(draft),
+        3..=4 => muddled_share(draft),
+        _ => muddled_resource(draft),
     }
 }
 
@@ -81,6 +81,30 @@ fn muddled_state(draft: &mut Draft) {
             };
             draft.clear(clear);
         }
+    }
+}
+
+fn muddled_share(draft: &mut Draft) {
+    let token = some_token(draft);
+    match draft.random.within(0..=2) {
+        0 => {
+            let handle = some_old_handle(draft);
+            draft.export(handle, token);
+        }
+        1 => {
+            let handle = some_new_handle(draft);
+            draft.import(handle, token);
+        }
+        _ => draft.release(token),
+    }
+}
+
+/// 0, one that was used, or one that was not.
+fn some_token(draft: &mut Draft) -> u64 {
+    match draft.random.within(0..=3) {
+        0 => 0,
+        1..=2 if !draft.tokens.is_empty() => draft.random.pick(&draft.tokens).number,
+        _ => draft.fresh_token(),
     }
 }
 

@@ -111,6 +111,12 @@ fn every_packet_error_gives_the_packets_offset() {
         (viewport([0; 6]), 30),
         (scissor((0, 0), (1, 1)), 30),
         (clear(8, [0; 4], 0, 0), 30),
+        (sized(export(1, 1), 20), 17),
+        (export(9, 1), 18),
+        (export(1, 1), 20),
+        (import(1, 1), 18),
+        (import(9, 1), 29),
+        (release(1), 29),
     ] {
         let mut packets = before.to_vec();
         packets.push(bad);
@@ -186,6 +192,13 @@ fn the_19_of_a_packet_gives_its_offset() {
     let mut scissors = vec![create_texture(1, (1, 5, 3, 1, 1, 0), 0, 0), target(1)];
     scissors.extend((0..65).map(|_| scissor((0, 0), (1, 1))));
     assert_eq!(judged(&scissors), (19, 24 + 56 + 16 + 64 * 24));
+    let surface = create_texture(1, (1, 5, 3, 1, 1, 0), 0, 0);
+    let mut exports = vec![surface];
+    exports.extend((1..=257).map(|token| export(1, token)));
+    assert_eq!(judged(&exports), (19, 24 + 56 + 256 * 24));
+    exports.truncate(2);
+    exports.extend((2..=65).map(|name| import(name, 1)));
+    assert_eq!(judged(&exports), (19, 24 + 56 + 64 * 24));
 }
 
 /// A change to a scene, and the error it gives.

@@ -23,6 +23,10 @@ fn night() -> Vec<Vec<u8>> {
         scissor((-1, 1), (4, 9)),
         clear(7, [0, ONE, ONE, 0], ONE, 9),
         destroy(2),
+        create_texture(2, (1, 5, 3, 1, 1, 20), 0, 0),
+        export(2, 77),
+        import(4, 77),
+        release(77),
     ]
 }
 
@@ -65,9 +69,14 @@ fn the_night_has_every_known_opcode_and_passes() {
     let mut opcodes: Vec<u32> = night().iter().map(|packet| get32(packet, 0)).collect();
     opcodes.sort_unstable();
     opcodes.dedup();
-    assert_eq!(opcodes, [256, 257, 258, 259, 261, 1024, 1025, 1026, 1536]);
-    let (verdict, records, _) = outcome(&night());
-    assert_eq!(verdict, ends_with(0, 9));
+    let known = [
+        256, 257, 258, 259, 261, 1024, 1025, 1026, 1536, 1808, 1809, 1810,
+    ];
+    assert_eq!(opcodes, known);
+    let (verdict, records, desk) = outcome(&night());
+    assert_eq!(verdict, ends_with(0, 13));
+    assert_eq!(desk.names(), [(1, 1), (2, 2), (3, 3), (4, 2)]);
+    assert_eq!(desk.tokens(), [(77, 0)]);
     let expected = [
         record(1, 1, 5, 8256, 256),
         record(1, 3, 6, 12_800, 144),
@@ -200,6 +209,9 @@ fn sizes_come_before_the_packets_own_rules() {
         (viewport([0; 6]), 30),
         (scissor((0, 0), (-1, -1)), 30),
         (clear(8, [0; 4], 0, 0), 30),
+        (export(0, 0), 18),
+        (import(0, 0), 18),
+        (release(0), 29),
     ] {
         let least = size(&bad);
         let long = grown(bad, &[0xDD; 64]);
@@ -242,6 +254,11 @@ fn refusals() -> Vec<(Vec<u8>, u32)> {
         (viewport([0; 6]), 30),
         (scissor((0, 0), (1, 1)), 30),
         (clear(8, [0; 4], 0, 0), 30),
+        (export(9, 1), 18),
+        (export(1, 0), 20),
+        (import(1, 1), 18),
+        (import(9, 1), 29),
+        (release(1), 29),
     ]
 }
 
@@ -342,7 +359,7 @@ fn growing_asks_no_version() {
         for place in [RING, TABLE, STREAM] {
             let mut scene = Scene::with(&ENTRIES, &packets);
             scene.put32(place + 4, 1 << 16 | minor);
-            assert_eq!(scene.verdict(), ends_with(0, 9));
+            assert_eq!(scene.verdict(), ends_with(0, 13));
             assert_eq!((scene.read(0x004), scene.read(0x008)), (65_539, 7));
         }
     }

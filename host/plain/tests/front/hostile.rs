@@ -4,7 +4,7 @@ use crate::scene::*;
 use plain::{packed_size, table_error, table_place, Desk, Ended, Record};
 
 /// A small generator, good enough to move bytes about (SplitMix64).
-struct Random(u64);
+pub struct Random(pub u64);
 
 impl Random {
     fn next(&mut self) -> u64 {
@@ -15,7 +15,7 @@ impl Random {
         z ^ (z >> 31)
     }
 
-    fn below(&mut self, limit: u64) -> u64 {
+    pub fn below(&mut self, limit: u64) -> u64 {
         self.next() % limit
     }
 
@@ -53,7 +53,7 @@ impl Random {
     fn known_packet(&mut self) -> Vec<u8> {
         let handle = self.below(6) as u32;
         let id = self.below(5) as u32;
-        match self.below(15) {
+        match self.below(17) {
             0..=2 => create_buffer(handle, 1 + self.below(256), id, self.below(64) as u32),
             3 => create_buffer(handle, self.number(), id, self.number() as u32),
             4 => {
@@ -82,7 +82,8 @@ impl Random {
                 self.number(),
                 self.below(3) as u32,
             ),
-            _ => self.state_packet(handle),
+            11..=14 => self.state_packet(handle),
+            _ => self.share_packet(handle),
         }
     }
 
@@ -101,6 +102,19 @@ impl Random {
             ),
             3 => self.small_scissor(),
             _ => target(handle),
+        }
+    }
+
+    fn share_packet(&mut self, handle: u32) -> Vec<u8> {
+        let token = match self.below(8) {
+            0 => self.number(),
+            _ => self.below(5),
+        };
+        match self.below(5) {
+            0 => create_texture(handle, (1, 5, 3, 1, 1, 20), self.below(3) as u32, 0),
+            1..=2 => export(handle, token),
+            3 => import(handle, token),
+            _ => release(token),
         }
     }
 
@@ -137,6 +151,19 @@ impl Random {
             .collect()
     }
 
+    /// No packets, or a texture that is made and shared with another name.
+    fn maybe_shared(&mut self) -> Vec<Vec<u8>> {
+        if self.below(3) == 0 {
+            let handle = 6 + self.below(1000) as u32;
+            let token = 5 + self.below(100);
+            let texture = create_texture(handle, (1, 5, 3, 1, 1, 0), 0, 0);
+            let name = 2000 + self.below(1000) as u32;
+            vec![texture, export(handle, token), import(name, token)]
+        } else {
+            Vec::new()
+        }
+    }
+
     /// No packets, or a texture that is made and is the target, and a scissor.
     fn maybe_target(&mut self) -> Vec<Vec<u8>> {
         if self.below(3) == 0 {
@@ -151,6 +178,7 @@ impl Random {
     fn submission(&mut self, scene: &mut Scene) {
         let entries = self.entries();
         let mut packets = self.maybe_target();
+        packets.extend(self.maybe_shared());
         packets.extend((0..self.below(8)).map(|_| self.packet()));
         let fence = self.below(50);
         scene.submit(&entries, &packets, fence);
@@ -215,7 +243,8 @@ fn slices_do_not_matter() {
     }
     assert!(waits > 500, "waits {}", waits);
     let seen = errors.iter().filter(|count| **count > 0).count();
-    assert!(seen > 15 && errors[30] > 0, "errors {:?}", errors);
+    assert!(seen > 17, "errors {:?}", errors);
+    assert!(errors[28..].iter().all(|count| *count > 0), "{:?}", errors);
 }
 
 #[test]
@@ -278,14 +307,16 @@ fn without_place(scene: &Scene) -> Desk {
 #[test]
 fn grown_packets_do_what_those_of_table_size_do() {
     let mut waits = 0;
+    let mut shared = 0;
     let mut errors = [0; 31];
-    for seed in 200..260 {
+    for seed in 200..280 {
         let mut random = Random(seed);
         let mut short = Scene::new();
         let mut long = Scene::new();
         for fence in 1..=200 {
             let entries = random.entries();
             let mut packets = random.maybe_target();
+            packets.extend(random.maybe_shared());
             packets.extend((0..random.below(8)).map(|_| random.known_packet()));
             let longer: Vec<Vec<u8>> = packets
                 .iter()
@@ -304,15 +335,21 @@ fn grown_packets_do_what_those_of_table_size_do() {
                 assert_eq!(short.detail(), place(verdict, &entries, &packets));
                 assert_eq!(long.detail(), place(verdict, &entries, &longer));
             }
-            // Nothing is in work: the devices hold registers and resources.
+            // Nothing is in work: the devices hold registers, resources and
+            // tokens.
             assert_eq!(without_place(&long), without_place(&short));
+            assert_eq!(long.desk.names(), short.desk.names());
+            assert_eq!(long.desk.tokens(), short.desk.tokens());
+            shared += usize::from(short.desk.names().iter().any(|(a, b)| a != b));
             errors[verdict.0 as usize] += 1;
         }
     }
     assert!(waits > 500, "waits {}", waits);
+    assert!(shared > 500, "shared {}", shared);
     assert_eq!(errors[17], 0);
     let seen = errors.iter().filter(|count| **count > 0).count();
-    assert!(seen > 10 && errors[30] > 0, "errors {:?}", errors);
+    assert!(seen > 12, "errors {:?}", errors);
+    assert!(errors[28..].iter().all(|count| *count > 0), "{:?}", errors);
 }
 
 #[test]

@@ -179,6 +179,27 @@ pub fn clear(flags: u32, colour: [u32; 4], depth: u32, stencil: u32) -> Vec<u8> 
     bytes
 }
 
+fn share(opcode: u32, handle: u32, token: u64) -> Vec<u8> {
+    let mut bytes = packet(opcode, 24);
+    put32(&mut bytes, 8, handle);
+    put64(&mut bytes, 16, token);
+    bytes
+}
+
+pub fn export(handle: u32, token: u64) -> Vec<u8> {
+    share(1808, handle, token)
+}
+
+pub fn import(handle: u32, token: u64) -> Vec<u8> {
+    share(1809, handle, token)
+}
+
+pub fn release(token: u64) -> Vec<u8> {
+    let mut bytes = packet(1810, 16);
+    put64(&mut bytes, 8, token);
+    bytes
+}
+
 pub fn record(kind: u32, handle: u32, id: u32, gpa: u64, length: u64) -> Record {
     Record {
         kind,
@@ -312,6 +333,17 @@ impl Scene {
         self.submit(entries, packets, fence);
         assert_eq!(self.run(1000).ended, Ended::Waiting);
         assert_eq!(self.answer(true), 0);
+    }
+
+    /// Submits and runs to the end, with the host's good answer if it waits;
+    /// gives the error, or 0.
+    pub fn settle(&mut self, entries: &[Entry], packets: &[Vec<u8>]) -> u32 {
+        self.submit(entries, packets, 1);
+        let error = self.verdict().0;
+        if error == 0 {
+            assert_eq!(self.answer(true), 0);
+        }
+        error
     }
 
     pub fn completed(&self) -> u64 {

@@ -53,13 +53,16 @@ fn known_opcodes_have_least_sizes() {
         (1025, 32, 30),
         (1026, 24, 30),
         (1536, 36, 30),
+        (1808, 24, 18),
+        (1809, 24, 18),
+        (1810, 16, 29),
     ] {
         for size in 0..200 {
             let mut bytes = packet(opcode, size);
             bytes.resize(200, 0);
             put32(&mut bytes, 8, 0);
             // A good size reaches the packet's own rules; all handles are bad,
-            // as are the viewport's sides and the clear's depth.
+            // as are the viewport's sides, the clear's depth and the token.
             let good = size >= least && size % 4 == 0;
             let expected = if good { error } else { 17 };
             assert_eq!(raw(&bytes), (expected, 2), "{} of {}", opcode, size);
@@ -69,7 +72,20 @@ fn known_opcodes_have_least_sizes() {
 
 #[test]
 fn unknown_opcodes_are_skipped_at_the_price_of_a_unit() {
-    for opcode in [0, 1, 255, 260, 262, 1023, 1027, 1535, 1537, u32::MAX] {
+    for opcode in [
+        0,
+        1,
+        255,
+        260,
+        262,
+        1023,
+        1027,
+        1535,
+        1537,
+        1807,
+        1811,
+        u32::MAX,
+    ] {
         let bytes = [packet(opcode, 8), packet(opcode, 64)].concat();
         assert_eq!(raw(&bytes), (0, 3));
     }

@@ -1,4 +1,4 @@
-//! The sample night: eight submissions of one guest, written as a desk script and played like one, each line of the transcript
+//! The sample night: thirteen submissions of one guest, written as a desk script and played like one, each line of the transcript
 //! with what it means.
 use std::io::{self, Write};
 use zelezmut::guest::{self, Backing, Clear, Descriptor, Entry, Packet, Part};
@@ -34,6 +34,12 @@ const TEXTURE: u32 = 1;
 const SOURCE: u32 = 2;
 const RESULT: u32 = 3;
 const NEVER_MADE: u32 = 9;
+/// The desktop's own names.
+const WINDOW: u32 = 20;
+const ANOTHER_WINDOW: u32 = 21;
+
+/// What the program and the desktop know the shared texture by.
+const TOKEN: u64 = 7_000_000_000;
 
 const WALLPAPER: Shape = Shape {
     format: 1,
@@ -473,13 +479,134 @@ fn without_a_target() -> Scene {
             100,
             "nothing waits any more: answer 3, and nothing is run",
         ),
+    ]);
+    Scene {
+        heading: "Submission 8 is refused: its scissor has no target.",
+        steps,
+    }
+}
+
+fn exported() -> Scene {
+    let mut steps = submit(
+        9,
+        &[Packet::Export {
+            handle: TEXTURE,
+            token: TOKEN,
+        }],
+        "a stream: export texture 1, of one mip and one layer, by a token",
+    );
+    steps.extend([
+        run(100, "four units: opening, two entries, one packet"),
+        record(
+            0,
+            "an export makes no record: the host finds it in the stream",
+        ),
+    ]);
+    Scene {
+        heading: "Submission 9 is a program's: the desktop may show its texture.",
+        steps,
+    }
+}
+
+fn imported() -> Scene {
+    let mut steps = submit(
+        10,
+        &[
+            Packet::Import {
+                handle: WINDOW,
+                token: TOKEN,
+            },
+            Packet::DirtyRange {
+                handle: WINDOW,
+                offset: 256,
+                size: 128,
+            },
+        ],
+        "a stream: import by the token as 20; a row of 20 is dirty",
+    );
+    steps.extend([
+        answer(
+            HostAnswer::Good,
+            100,
+            "good: the token is bound. Then five units of submission 10",
+        ),
+        record(
+            0,
+            "kind 2, by the desktop's name: the texture's third row, at 8704",
+        ),
+        record(1, "an import makes no record either"),
+        answer(
+            HostAnswer::Good,
+            100,
+            "good: 1 and 20 are two names of one texture",
+        ),
+    ]);
+    Scene {
+        heading:
+            "Submission 10 is the desktop's: it has its own name for the texture, and composes.",
+        steps,
+    }
+}
+
+fn one_name_left() -> Scene {
+    let dirty = |handle| Packet::DirtyRange {
+        handle,
+        offset: 0,
+        size: 128,
+    };
+    let mut steps = submit(
+        11,
+        &[Packet::Destroy { handle: TEXTURE }, dirty(WINDOW)],
+        "a stream: the program destroys 1; the desktop composes from 20",
+    );
+    steps.extend([
+        run(100, "five units: the texture lives on under its other name"),
+        record(0, "kind 2: its first row, where it was"),
+        answer(HostAnswer::Good, 100, "good, and no more work"),
+        read(registers::ERROR_COUNT, "no error has been added"),
+    ]);
+    Scene {
+        heading: "Submission 11 ends the first name, and leaves the texture.",
+        steps,
+    }
+}
+
+fn released() -> Scene {
+    let mut steps = submit(
+        12,
+        &[Packet::Release { token: TOKEN }],
+        "a stream: release the token; the name 20 stays",
+    );
+    steps.extend([
+        run(100, "four units"),
+        answer(HostAnswer::Good, 100, "good: the token is spent"),
+    ]);
+    steps.extend(submit(
+        13,
+        &[Packet::Import {
+            handle: ANOTHER_WINDOW,
+            token: TOKEN,
+        }],
+        "a stream: import by the token once more",
+    ));
+    steps.extend([
+        run(100, "four units to the refusal; a fifth finds no more work"),
+        read(
+            registers::ERROR_CODE,
+            "error 29: the token is bound to nothing any more",
+        ),
+        read(
+            registers::ERROR_DETAIL,
+            "detail: the packet 24 bytes into the stream, the first",
+        ),
+        read(registers::ERROR_COUNT, "the fifth error of the night"),
         (
             Operation::State,
             "every readable register, and the hash of guest memory",
         ),
     ]);
     Scene {
-        heading: "Submission 8 is refused: its scissor has no target.",
+        heading: "Submission 12 releases the token, and so submission 13 is refused.",
         steps,
     }
 }
@@ -495,6 +622,10 @@ fn night() -> Vec<Scene> {
         kept_alive(),
         drawing(),
         without_a_target(),
+        exported(),
+        imported(),
+        one_name_left(),
+        released(),
     ]
 }
 

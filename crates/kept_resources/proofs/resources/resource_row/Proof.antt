@@ -63,6 +63,18 @@ element-copy-out-low32-4 c = search needs
 low32-requires-4 : tie.Need-low32-requires-4
 low32-requires-4 c κs = search needs
 
+add-low32-4 : tie.Need-add-low32-4
+add-low32-4 c = search needs
+
+mul-low32-5 : tie.Need-mul-low32-5
+mul-low32-5 c = search needs
+
+element-copy-out-low32-5 : tie.Need-element-copy-out-low32-5
+element-copy-out-low32-5 c = search needs
+
+low32-requires-5 : tie.Need-low32-requires-5
+low32-requires-5 c κs = search needs
+
 returns : tie.Need-returns
 returns c = search reading-resource
 
@@ -90,4 +102,8 @@ resource-row-spec =
     mul-low32-4
     element-copy-out-low32-4
     low32-requires-4
+    add-low32-4
+    mul-low32-5
+    element-copy-out-low32-5
+    low32-requires-5
     returns)

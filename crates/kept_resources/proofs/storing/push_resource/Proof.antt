@@ -117,6 +117,18 @@ mul-resources-11 c = search needs
 element-write-resources-11 : tie.Need-element-write-resources-11
 element-write-resources-11 c = search needs
 
+u32-to-word-requires-5 : tie.Need-u32-to-word-requires-5
+u32-to-word-requires-5 c κs = search needs
+
+add-resources-11 : tie.Need-add-resources-11
+add-resources-11 c = search needs
+
+mul-resources-12 : tie.Need-mul-resources-12
+mul-resources-12 c = search needs
+
+element-write-resources-12 : tie.Need-element-write-resources-12
+element-write-resources-12 c = search needs
+
 returns : tie.Need-returns
 returns c = search pushing-resource
 
@@ -162,4 +174,8 @@ push-resource-spec =
     add-resources-10
     mul-resources-11
     element-write-resources-11
+    u32-to-word-requires-5
+    add-resources-11
+    mul-resources-12
+    element-write-resources-12
     returns)

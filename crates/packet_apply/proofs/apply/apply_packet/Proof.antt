@@ -64,6 +64,24 @@ on-clear-requires c κs = search needs
 with-own-requires-2 : tie.Need-with-own-requires-2
 with-own-requires-2 c κs = search needs
 
+enum-known-p-10 : tie.Need-enum-known-p-10
+enum-known-p-10 c = search needs
+
+export-requires : tie.Need-export-requires
+export-requires c κs = search needs
+
+enum-known-p-11 : tie.Need-enum-known-p-11
+enum-known-p-11 c = search needs
+
+import-requires : tie.Need-import-requires
+import-requires c κs = search needs
+
+enum-known-p-12 : tie.Need-enum-known-p-12
+enum-known-p-12 c = search needs
+
+release-requires : tie.Need-release-requires
+release-requires c κs = search needs
+
 enum-told : tie.Need-enum-told
 enum-told c = search needs
 
@@ -109,6 +127,15 @@ returns-10 c = search applying
 returns-11 : tie.Need-returns-11
 returns-11 c = search applying
 
+returns-12 : tie.Need-returns-12
+returns-12 c = search applying
+
+returns-13 : tie.Need-returns-13
+returns-13 c = search applying
+
+returns-14 : tie.Need-returns-14
+returns-14 c = search applying
+
 pub apply-packet-spec : {M : Type 1} → statement M
 apply-packet-spec =
     tie.close
@@ -133,6 +160,12 @@ apply-packet-spec =
     enum-known-p-9
     on-clear-requires
     with-own-requires-2
+    enum-known-p-10
+    export-requires
+    enum-known-p-11
+    import-requires
+    enum-known-p-12
+    release-requires
     enum-told
     refuse-requires
     with-own-requires-3
@@ -147,4 +180,7 @@ apply-packet-spec =
     returns-8
     returns-9
     returns-10
-    returns-11)
+    returns-11
+    returns-12
+    returns-13
+    returns-14)

@@ -1,6 +1,6 @@
 -- `destroy` meets its contract. Assumes nothing.
 use borrow.Author.Needs.{needs}
-use Rattle.packet_apply.specs.Apply.{changing}
+use Rattle.packet_apply.specs.Apply.{destroying}
 use Rattle.packet_apply.proofs.apply.destroy.Statement.{statement}
 use Rattle.packet_apply.proofs.apply.destroy.Tie as tie
 
@@ -9,6 +9,9 @@ take-own-requires c κs = search needs
 
 on-destroy-requires : tie.Need-on-destroy-requires
 on-destroy-requires c κs = search needs
+
+rebound-requires : tie.Need-rebound-requires
+rebound-requires c κs = search needs
 
 without-requires : tie.Need-without-requires
 without-requires c κs = search needs
@@ -20,7 +23,7 @@ with-own-requires : tie.Need-with-own-requires
 with-own-requires c κs = search needs
 
 returns : tie.Need-returns
-returns c = search changing
+returns c = search destroying
 
 pub destroy-spec : {M : Type 1} → statement M
 destroy-spec =
@@ -28,6 +31,7 @@ destroy-spec =
     (tie.spec
     take-own-requires
     on-destroy-requires
+    rebound-requires
     without-requires
     if-fine-requires
     with-own-requires

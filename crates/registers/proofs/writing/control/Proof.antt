@@ -31,6 +31,9 @@ element-write-words-5 c = search needs
 element-write-words-6 : tie.Need-element-write-words-6
 element-write-words-6 c = search needs
 
+element-write-words-7 : tie.Need-element-write-words-7
+element-write-words-7 c = search needs
+
 rest-requires : tie.Need-rest-requires
 rest-requires c κs = search needs
 
@@ -53,6 +56,7 @@ control-spec =
     element-write-words-4
     element-write-words-5
     element-write-words-6
+    element-write-words-7
     rest-requires
     returns
     returns-2)

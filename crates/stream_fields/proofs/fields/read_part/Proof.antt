@@ -61,11 +61,20 @@ clear-packet-requires c κs = search needs
 returns-10 : tie.Need-returns-10
 returns-10 c = search reading-part
 
+export-fields-requires : tie.Need-export-fields-requires
+export-fields-requires c κs = search needs
+
 returns-11 : tie.Need-returns-11
 returns-11 c = search reading-part
 
+import-fields-requires : tie.Need-import-fields-requires
+import-fields-requires c κs = search needs
+
 returns-12 : tie.Need-returns-12
 returns-12 c = search reading-part
+
+release-fields-requires : tie.Need-release-fields-requires
+release-fields-requires c κs = search needs
 
 returns-13 : tie.Need-returns-13
 returns-13 c = search reading-part
@@ -87,6 +96,24 @@ returns-18 c = search reading-part
 
 returns-19 : tie.Need-returns-19
 returns-19 c = search reading-part
+
+returns-20 : tie.Need-returns-20
+returns-20 c = search reading-part
+
+returns-21 : tie.Need-returns-21
+returns-21 c = search reading-part
+
+returns-22 : tie.Need-returns-22
+returns-22 c = search reading-part
+
+returns-23 : tie.Need-returns-23
+returns-23 c = search reading-part
+
+returns-24 : tie.Need-returns-24
+returns-24 c = search reading-part
+
+returns-25 : tie.Need-returns-25
+returns-25 c = search reading-part
 
 pub read-part-spec : {M : Type 1} → statement M
 read-part-spec =
@@ -111,12 +138,21 @@ read-part-spec =
     returns-9
     clear-packet-requires
     returns-10
+    export-fields-requires
     returns-11
+    import-fields-requires
     returns-12
+    release-fields-requires
     returns-13
     returns-14
     returns-15
     returns-16
     returns-17
     returns-18
-    returns-19)
+    returns-19
+    returns-20
+    returns-21
+    returns-22
+    returns-23
+    returns-24
+    returns-25)

@@ -22,5 +22,8 @@ returns-4 c = search finding-block
 returns-5 : tie.Need-returns-5
 returns-5 c = search finding-block
 
+returns-6 : tie.Need-returns-6
+returns-6 c = search finding-block
+
 pub may-be-known-spec : {M : Type 1} → statement M
-may-be-known-spec = tie.close (tie.spec returns add-if2 returns-2 returns-3 returns-4 returns-5)
+may-be-known-spec = tie.close (tie.spec returns add-if2 returns-2 returns-3 returns-4 returns-5 returns-6)

@@ -1,0 +1,4 @@
+pub mod Bound
+pub mod Export
+pub mod Import
+pub mod Release

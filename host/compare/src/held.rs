@@ -1,0 +1,65 @@
+//! What the guest believes that its device holds between submissions: resources under their names, and tokens.
+
+use crate::packet::Backing;
+
+/// A resource under one of its names.
+#[derive(Clone, Copy, Debug)]
+pub struct Resource {
+    pub handle: u32,
+    /// The same for all names of a resource, and no other's.
+    pub surface: u64,
+    pub texture: bool,
+    /// It has one mip and one layer.
+    pub one_image: bool,
+    /// A texture's sides, in pixels of its first mip.
+    pub width: u32,
+    pub height: u32,
+    /// Of a backed one; a host-backed texture's are never asked for and stand as 0.
+    pub bytes: u64,
+    pub backing: Backing,
+}
+
+impl Resource {
+    pub fn backed(&self) -> bool {
+        self.backing.id != 0
+    }
+
+    /// A texture that may be exported.
+    pub fn exportable(&self) -> bool {
+        self.texture && self.one_image
+    }
+}
+
+/// A token that was used.
+#[derive(Clone, Copy, Debug)]
+pub struct Token {
+    pub number: u64,
+    /// The surface that it was bound to.
+    pub surface: u64,
+    pub released: bool,
+}
+
+#[derive(Clone, Debug, Default)]
+pub struct Held {
+    /// A row for each name.
+    pub live: Vec<Resource>,
+    /// In the order in which they were first used.
+    pub tokens: Vec<Token>,
+}
+
+impl Held {
+    /// Whether a submission between the two used a token or spent one.
+    pub fn has_other_tokens(&self, before: &Held) -> bool {
+        let state = |held: &Held| -> Vec<(u64, bool)> {
+            let is_bound = |token: &Token| {
+                let mut rows = held.live.iter();
+                !token.released && rows.any(|row| row.surface == token.surface)
+            };
+            let tokens = held.tokens.iter();
+            tokens
+                .map(|token| (token.number, is_bound(token)))
+                .collect()
+        };
+        state(self) != state(before)
+    }
+}
