@@ -1,3 +1,3 @@
-// Any packet, by the crate of its kind, in place on lent rows; and in specs/ what holds of resources and records after all of them.
+// Any packet, by the crate of its kind, in place on lent rows.
 pub mod apply;
 pub mod tokens;

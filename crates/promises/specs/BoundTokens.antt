@@ -17,10 +17,10 @@ use Rattle.rules.specs.declared.DestroyResource.{DestroyResource}
 use Rattle.rules.specs.declared.Packet.{Packet}
 use Rattle.rules.specs.declared.Packet.the-variants.{Buffer, Texture, Destroy, Dirty, Copy, Target, Viewport, Scissor, Clear, Export, Import, Release, NotANumber, Unknown}
 use Rattle.rows.specs.Keys.{same-or-not, lookup-pushed-other}
-use Rattle.packet_apply.specs.Names.{none-not-found, found-same, in-found, rebound, renamed-own, renamed-other, lookup-unreleased}
-use Rattle.packet_apply.specs.SoundNames.{SoundNames, others-left, left-sound, token-after-destroy, BoundTo, bound-is, sound-bound, lower-either, token-after-import}
-use Rattle.packet_apply.specs.Effects.{Imported, destroy-or, export-or, import-or, release-or}
-use Rattle.packet_apply.specs.Held.{SoundProgress}
+use Rattle.promises_of_packets.specs.Names.{none-not-found, found-same, in-found, rebound, renamed-own, renamed-other, lookup-unreleased}
+use Rattle.promises_of_packets.specs.SoundNames.{SoundNames, others-left, left-sound, token-after-destroy, BoundTo, bound-is, sound-bound, lower-either, token-after-import}
+use Rattle.promises_of_packets.specs.Effects.{Imported, destroy-or, export-or, import-or, release-or}
+use Rattle.promises_of_packets.specs.Held.{SoundProgress}
 use Rattle.promises.specs.Shared.{OneResource, IsBound, NameOf}
 
 -- ---- the two packets that spend a token

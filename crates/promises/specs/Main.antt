@@ -73,7 +73,7 @@ use Rattle.promises.specs.Places.{OfAnEntry, OfAPacket, sizes-fit, settl
 use Rattle.promises.specs.UnslicedPlaces.{unsliced-tells-where}
 use Rattle.promises_of_units.specs.Bytes.{WrittenBy, calls-write}
 use Rattle.promises_of_units.specs.Ranges.{InOneEntry, ranges-at-the-record-call, kinds-at-the-record-call}
-use Rattle.packet_apply.specs.Held.{Every, OfAKind, LiveTexture, TargetLives, refused-packet-keeps-progress, SoundProgress}
+use Rattle.promises_of_packets.specs.Held.{Every, OfAKind, LiveTexture, TargetLives, refused-packet-keeps-progress, SoundProgress}
 use Rattle.promises_of_submissions.specs.LocalPackets.{framed-is-read}
 use Rattle.promises_of_submissions.specs.FloatBits.{judged-state, ViewportCarried, ClearCarried, bad-viewport-words, bad-clear-words, not-finite-viewport, not-finite-clear, viewport-is-carried, clear-is-carried, viewport-judged-by-its-words, clear-judged-by-its-words}
 use Rattle.promises_of_submissions.specs.FloatOrder.{TheBounds, below-is-the-order, the-bounds}

@@ -28,10 +28,10 @@ use Rattle.rules.specs.declared.Verdict.the-variants.{Fine, Broken}
 use Rattle.rules.specs.declared.Packet.the-variants.{Destroy, Import}
 use Rattle.rule_laws.specs.Fine.{both-left, both-right}
 use Rattle.rows.specs.Keys.{same-or-not, length-removed, lookup-pushed-other}
-use Rattle.packet_apply.specs.Names.{none-not-found, found-same, found-place, found-key, in-found, moved, rebound, renamed-own, renamed-other, length-rename}
-use Rattle.packet_apply.specs.SoundNames.{SoundNames, SoundBut, two-names-shareable, apart-stays, gone, others-left, left-sound, new-found, low-some, name-after-destroy, name-destroyed, other-name-after-destroy, token-after-destroy, BoundTo, sound-bound, with-name-sound, name-after-import, name-imported, other-name-after-import}
-use Rattle.packet_apply.specs.Effects.{Imported, destroyed, imported, destroy-or, import-or}
-use Rattle.packet_apply.specs.Held.{SoundProgress}
+use Rattle.promises_of_packets.specs.Names.{none-not-found, found-same, found-place, found-key, in-found, moved, rebound, renamed-own, renamed-other, length-rename}
+use Rattle.promises_of_packets.specs.SoundNames.{SoundNames, SoundBut, two-names-shareable, apart-stays, gone, others-left, left-sound, new-found, low-some, name-after-destroy, name-destroyed, other-name-after-destroy, token-after-destroy, BoundTo, sound-bound, with-name-sound, name-after-import, name-imported, other-name-after-import}
+use Rattle.promises_of_packets.specs.Effects.{Imported, destroyed, imported, destroy-or, import-or}
+use Rattle.promises_of_packets.specs.Held.{SoundProgress}
 
 -- ---- what a name means, and which names are one resource
 

@@ -20,9 +20,9 @@ use Rattle.rules.specs.declared.ImportSurface.{ImportSurface}
 use Rattle.rules.specs.declared.ReleaseToken.{ReleaseToken}
 use Rattle.rules.specs.declared.Verdict.the-variants.{Fine, Broken}
 use Rattle.rules.specs.declared.Packet.the-variants.{Export, Import, Release}
-use Rattle.packet_apply.specs.Names.{lookup-released, lookup-unreleased}
-use Rattle.packet_apply.specs.SoundNames.{bound-is}
-use Rattle.packet_apply.specs.Effects.{imported}
+use Rattle.promises_of_packets.specs.Names.{lookup-released, lookup-unreleased}
+use Rattle.promises_of_packets.specs.SoundNames.{bound-is}
+use Rattle.promises_of_packets.specs.Effects.{imported}
 use Rattle.promises.specs.Shared.{Spent}
 
 -- ---- "The handle check (18, create's rule for import) comes first, then shape, token, room."

@@ -19,10 +19,10 @@ use Rattle.rules.specs.declared.Frame.{Frame}
 use Rattle.rules.specs.declared.Frame.the-variants.{Whole, Misframed}
 use Rattle.rules.specs.declared.Packet.{Packet}
 use Rattle.rows.specs.Keys.{same-or-not, lookup-pushed-other}
-use Rattle.packet_apply.specs.Names.{none-not-found, found-same, in-found, moved, rebound, renamed-own, renamed-other, lookup-released, lookup-unreleased, found-key}
-use Rattle.packet_apply.specs.SoundNames.{SoundNames, Bindable, SoundBut, lowest-apart, apart-stays, others-left, left-sound, new-found, low-some, name-after-destroy, name-destroyed, other-name-after-destroy, token-after-destroy, BoundTo, bound-is, sound-bound, old-name, with-name-sound, name-after-import, other-name-after-import, token-after-import}
-use Rattle.packet_apply.specs.Effects.{Fresh, Imported, destroyed, imported, pass-or}
-use Rattle.packet_apply.specs.Held.{SoundProgress, pass-sound}
+use Rattle.promises_of_packets.specs.Names.{none-not-found, found-same, in-found, moved, rebound, renamed-own, renamed-other, lookup-released, lookup-unreleased, found-key}
+use Rattle.promises_of_packets.specs.SoundNames.{SoundNames, Bindable, SoundBut, lowest-apart, apart-stays, others-left, left-sound, new-found, low-some, name-after-destroy, name-destroyed, other-name-after-destroy, token-after-destroy, BoundTo, bound-is, sound-bound, old-name, with-name-sound, name-after-import, other-name-after-import, token-after-import}
+use Rattle.promises_of_packets.specs.Effects.{Fresh, Imported, destroyed, imported, pass-or}
+use Rattle.promises_of_packets.specs.Held.{SoundProgress, pass-sound}
 use Rattle.promises.specs.Targets.{held-after}
 use Rattle.promises.specs.Shared.{was, Used, Spent, IsBound, NameOf}
 

@@ -11,7 +11,7 @@ use Rattle.rules.specs.Numbers.{done}
 use Rattle.rules.specs.State.{World}
 use Rattle.rules.specs.Steps.{answered}
 use Rattle.rules.specs.Calls.{call-run, call-answer}
-use Rattle.packet_apply.specs.Held.{Every}
+use Rattle.promises_of_packets.specs.Held.{Every}
 use Rattle.promises_of_submissions.specs.Slices.{waiting-stands-still}
 use Rattle.promises_of_units.specs.Called.{Call, is-reset, after, after-all, units-of-all, taken-by-all}
 use Rattle.promises_of_units.specs.Called.Call.{writes, reads, runs, records, answers}

@@ -34,7 +34,7 @@ use Rattle.rules.specs.declared.Stream.{Stream}
 use Rattle.rules.specs.declared.Shape.{Shape}
 use Rattle.rules.specs.declared.SetScissor.{SetScissor}
 use Rattle.rules.specs.declared.Kind.the-variants.{Texture}
-use Rattle.packet_apply.specs.Held.{LiveTexture, OfAKind}
+use Rattle.promises_of_packets.specs.Held.{LiveTexture, OfAKind}
 use Rattle.promises.specs.NightLog.{zeros}
 use Rattle.promises_of_submissions.specs.LentBytes.{OfBytes, bytes-of, both-bytes}
 use Rattle.promises_of_units.specs.Called.{Called, after}

@@ -35,8 +35,8 @@ use Rattle.rules.specs.declared.Frame.the-variants.{Whole, Misframed}
 use Rattle.rules.specs.declared.Packet.{Packet}
 use Rattle.rules.specs.declared.Packet.the-variants.{Buffer, Texture, Destroy, Dirty, Copy, Target, Viewport, Scissor, Clear, Export, Import, Release, NotANumber, Unknown}
 use Rattle.stream_packets.specs.Framing.{frame-sound}
-use Rattle.packet_apply.specs.Effects.{target-or}
-use Rattle.packet_apply.specs.Held.{Every, LiveTexture, TargetLives}
+use Rattle.promises_of_packets.specs.Effects.{target-or}
+use Rattle.promises_of_packets.specs.Held.{Every, LiveTexture, TargetLives}
 use Rattle.promises_of_units.specs.Called.{Called}
 use Rattle.promises_of_units.specs.Sound.{SoundWork}
 use Rattle.promises_of_units.specs.Units.{Next}

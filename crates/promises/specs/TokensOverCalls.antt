@@ -27,8 +27,8 @@ use Rattle.rules.specs.declared.Opened.{Opened}
 use Rattle.rules.specs.declared.Resource.{Resource}
 use Rattle.rules.specs.declared.Stream.{Stream}
 use Rattle.rules.specs.declared.Token.{Token}
-use Rattle.packet_apply.specs.SoundNames.{two-names-shareable, sound-bound}
-use Rattle.packet_apply.specs.Held.{SoundProgress}
+use Rattle.promises_of_packets.specs.SoundNames.{two-names-shareable, sound-bound}
+use Rattle.promises_of_packets.specs.Held.{SoundProgress}
 use Rattle.promises_of_units.specs.Called.{Call, after, Called, is-reset}
 use Rattle.promises_of_units.specs.Called.Call.{writes, reads, runs, records, answers}
 use Rattle.promises_of_units.specs.Called.Called.{makes, calls}

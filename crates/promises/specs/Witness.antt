@@ -31,7 +31,7 @@ use Rattle.rules.specs.declared.Stream.{Stream}
 use Rattle.rules.specs.declared.Opened.{Opened}
 use Rattle.rules.specs.declared.Opening.the-variants.{Started}
 use Rattle.rows.specs.Keys.{Once}
-use Rattle.packet_apply.specs.Held.{Every, Inside}
+use Rattle.promises_of_packets.specs.Held.{Every, Inside}
 use Rattle.promises.specs.NightLog.{zeros}
 use Rattle.promises_of_submissions.specs.Submission.{LiesOn, opening-lies}
 use Rattle.promises_of_submissions.specs.LocalBytes.{Agree}

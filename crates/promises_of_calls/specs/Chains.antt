@@ -15,7 +15,7 @@ use Rattle.rules.specs.Numbers.{done}
 use Rattle.rules.specs.State.{World}
 use Rattle.rules.specs.Steps.{run-for}
 use Rattle.rules.specs.Calls.{Ran}
-use Rattle.packet_apply.specs.Held.{Every}
+use Rattle.promises_of_packets.specs.Held.{Every}
 use Rattle.promises_of_submissions.specs.Slices.{played}
 use Rattle.promises.specs.Slicing.{is-write, NoWrite, same-units-same-answers}
 use Rattle.promises_of_submissions.specs.Night.{Clear, Night, finished-or-waiting-is-unsliced}

@@ -27,7 +27,7 @@ use Rattle.run_state.specs.Views.{countIn, tokenCountIn, worldIn, rested}
 use Rattle.device.specs.Views.{stateOf, worldOf}
 use Rattle.device.specs.declared.Device.{Device}
 use Rattle.promises.specs.NightLog.{zeros}
-use Rattle.packet_apply.specs.Held.{Every}
+use Rattle.promises_of_packets.specs.Held.{Every}
 use Rattle.zelezmut.specs.Said.{SaysRun, SaysAnswer, SaysRecord}
 use Rattle.registers.specs.Views.{Writes}
 use Rattle.device_calls.specs.Views.{Makes}

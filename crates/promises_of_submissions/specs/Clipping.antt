@@ -22,7 +22,7 @@ use Rattle.rules.specs.declared.Shape.{Shape}
 use Rattle.rules.specs.declared.SetScissor.{SetScissor}
 use Rattle.rules.specs.declared.Verdict.the-variants.{Fine}
 use Rattle.rules.specs.declared.Packet.the-variants.{Scissor}
-use Rattle.packet_apply.specs.Effects.{scissor-or}
+use Rattle.promises_of_packets.specs.Effects.{scissor-or}
 
 -- ---- an i32
 

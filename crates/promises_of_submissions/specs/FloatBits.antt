@@ -22,7 +22,7 @@ use Rattle.rules.specs.declared.ClearValues.{ClearValues}
 use Rattle.rules.specs.declared.Verdict.the-variants.{Fine, Broken}
 use Rattle.rules.specs.declared.Frame.the-variants.{Whole}
 use Rattle.rules.specs.declared.Packet.the-variants.{Viewport, Clear, NotANumber}
-use Rattle.packet_apply.specs.Held.{Every}
+use Rattle.promises_of_packets.specs.Held.{Every}
 use Rattle.promises_of_submissions.specs.LentBytes.{OfBytes, word-fits}
 use Rattle.promises_of_submissions.specs.LocalPackets.{framed-is-read}
 

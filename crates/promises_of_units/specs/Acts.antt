@@ -13,7 +13,7 @@ use Rattle.rules.specs.State.{State, World, with-state, registering}
 use Rattle.rules.specs.Steps.{step, go, run-for, waits, answered}
 use Rattle.rules.specs.Calls.{Ran, call-run, call-answer}
 use Rattle.rules.specs.declared.Registers.{Registers}
-use Rattle.packet_apply.specs.Held.{Every}
+use Rattle.promises_of_packets.specs.Held.{Every}
 use Rattle.promises_of_units.specs.Writes.{resets, registers-written, write-is-by-registers}
 use Rattle.promises_of_units.specs.Runs.{of-run, of-answer}
 use Rattle.promises_of_units.specs.Called.{Call, after, units-of, taken-by, after-all, units-of-all, taken-by-all, is-reset}

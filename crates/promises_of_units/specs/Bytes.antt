@@ -15,7 +15,7 @@ use Rattle.rules.specs.declared.Job.{Job}
 use Rattle.rules.specs.declared.Registers.{Registers}
 use Rattle.settle.specs.Settling.{page-size, head-size}
 use Rattle.settle.specs.Only.{Apart, head-at, written-byte, marked-length, only-head-and-page}
-use Rattle.packet_apply.specs.Held.{Every}
+use Rattle.promises_of_packets.specs.Held.{Every}
 use Rattle.promises_of_units.specs.Called.{Call}
 use Rattle.promises_of_units.specs.Events.{Event, Units, History}
 use Rattle.promises_of_units.specs.Events.Event.{settling, ring-refusal, resetting}

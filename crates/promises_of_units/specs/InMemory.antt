@@ -35,7 +35,7 @@ use Rattle.rules.specs.declared.Verdict.{Verdict}
 use Rattle.rules.specs.declared.Verdict.the-variants.{Fine, Broken}
 use Rattle.rules.specs.declared.Opening.{Opening}
 use Rattle.rules.specs.declared.Opening.the-variants.{BadRing, NoWork, Refused, Started}
-use Rattle.packet_apply.specs.Held.{Every, every-none, every-pushed, Within, Inside}
+use Rattle.promises_of_packets.specs.Held.{Every, every-none, every-pushed, Within, Inside}
 use Rattle.rule_laws.specs.Fine.{fine-first, fine-later, kept-rule}
 use Rattle.settle.specs.Only.{answered-keeps-memory, answered-is-lent-alike}
 use Rattle.promises_of_units.specs.Sound.{SoundState, waiting-ranges-inside}

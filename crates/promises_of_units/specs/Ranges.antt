@@ -23,7 +23,7 @@ use Rattle.rules.specs.declared.Entry.{Entry}
 use Rattle.rules.specs.declared.Record.{Record}
 use Rattle.rules.specs.declared.Job.{Job}
 use Rattle.rows.specs.Keys.{Once}
-use Rattle.packet_apply.specs.Held.{Every, Within, Inside, OfAKind}
+use Rattle.promises_of_packets.specs.Held.{Every, Within, Inside, OfAKind}
 use Rattle.promises_of_units.specs.Sound.{SoundState, made-sound, waiting-ranges-inside, waiting-kinds}
 use Rattle.promises_of_units.specs.Refused.{run-call-keeps-sound, answer-call-keeps-sound, write-call-keeps-sound}
 use Rattle.promises_of_units.specs.InMemory.{Lies, RangeEndsIn, made-lies, run-call-lies, answer-call-lies, write-call-lies, waiting-ranges-in-memory}

@@ -33,8 +33,8 @@ use Rattle.rules.specs.declared.Verdict.the-variants.{Fine, Broken}
 use Rattle.rules.specs.declared.Opening.{Opening}
 use Rattle.rules.specs.declared.Opening.the-variants.{BadRing, NoWork, Refused, Started}
 use Rattle.rows.specs.Keys.{Once, once-nil, once-pushed}
-use Rattle.packet_apply.specs.Effects.{KeepsBytes}
-use Rattle.packet_apply.specs.Held.{Every, Inside, OfAKind, SoundBelongings, nothing-sound, SoundProgress, first-sound, left-sound, take-sound}
+use Rattle.promises_of_packets.specs.Effects.{KeepsBytes}
+use Rattle.promises_of_packets.specs.Held.{Every, Inside, OfAKind, SoundBelongings, nothing-sound, SoundProgress, first-sound, left-sound, take-sound}
 use Rattle.rule_laws.specs.Fine.{fine-later, kept-rule, both-left}
 
 -- ---- the entries of a table: at most 64, each id once

@@ -14,7 +14,7 @@ use Rattle.rules.specs.State.{State, made, with-regs}
 use Rattle.rules.specs.Registers.{Write, with-enabled, bit-of, reset-registers, reset, controlled, writable, write-offset, write-of}
 use Rattle.rules.specs.Calls.{wrote, call-write}
 use Rattle.rules.specs.declared.Registers.{Registers}
-use Rattle.packet_apply.specs.Held.{Every}
+use Rattle.promises_of_packets.specs.Held.{Every}
 
 -- "Control .. Bit 1 resets"
 abbrev pub resets : ℕ → ℕ → Bool

@@ -32,9 +32,9 @@ use Rattle.rules.specs.declared.Frame.the-variants.{Whole, Misframed}
 use Rattle.rules.specs.declared.Packet.{Packet}
 use Rattle.rules.specs.declared.Verdict.the-variants.{Fine, Broken}
 use Rattle.rows.specs.Keys.{same-or-not, lookup-here, lookup-later, Once, once-nil, once-pushed, once-removed, lookup-nil, lookup-pushed-other, lookup-removed-other, length-removed}
-use Rattle.packet_apply.specs.Effects.{KeepsBytes, bytes-by-any-name, Fresh, InRange, Imported, pass-or}
-use Rattle.packet_apply.specs.Names.{none-not-found, found-same, found-place, in-found, moved, lookup-rename, length-rename, once-rename}
-use Rattle.packet_apply.specs.SoundNames.{SoundNames, no-names, SoundTokens, no-tokens, names-stored, tokens-stored, name-after-destroy, names-destroyed, tokens-destroyed-sound, BoundTo, bound-is, sound-bound, names-imported, tokens-imported-sound, tokens-exported-sound, tokens-released-sound}
+use Rattle.promises_of_packets.specs.Effects.{KeepsBytes, bytes-by-any-name, Fresh, InRange, Imported, pass-or}
+use Rattle.promises_of_packets.specs.Names.{none-not-found, found-same, found-place, in-found, moved, lookup-rename, length-rename, once-rename}
+use Rattle.promises_of_packets.specs.SoundNames.{SoundNames, no-names, SoundTokens, no-tokens, names-stored, tokens-stored, name-after-destroy, names-destroyed, tokens-destroyed-sound, BoundTo, bound-is, sound-bound, names-imported, tokens-imported-sound, tokens-exported-sound, tokens-released-sound}
 
 -- ---- every member of a list
 

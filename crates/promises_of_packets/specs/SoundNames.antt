@@ -19,7 +19,7 @@ use Rattle.rules.specs.Packets.{handle-of, bound-in, bound}
 use Rattle.rules.specs.declared.Resource.{Resource}
 use Rattle.rules.specs.declared.Token.{Token}
 use Rattle.rows.specs.Keys.{same-or-not, Once, once-nil, once-pushed, once-removed, lookup-nil, lookup-once, lookup-pushed-other, lookup-pushed-same, lookup-removed-same, lookup-removed-other}
-use Rattle.packet_apply.specs.Names.{none-not-found, found-same, true-not-false, found-place, found-key, in-found, moved, rebound, lookup-rename, lookup-rebind, length-rebind, once-rebind, renamed-own, renamed-other, moved-own, moved-other, left-least, Left, left-member, lookup-released, lookup-unreleased, length-released, once-released}
+use Rattle.promises_of_packets.specs.Names.{none-not-found, found-same, true-not-false, found-place, found-key, in-found, moved, rebound, lookup-rename, lookup-rebind, length-rebind, once-rebind, renamed-own, renamed-other, moved-own, moved-other, left-least, Left, left-member, lookup-released, lookup-unreleased, length-released, once-released}
 
 -- ---- names
 
