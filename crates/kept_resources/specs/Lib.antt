@@ -1,4 +1,3 @@
 pub mod Views
 pub mod Resources
 pub mod Storing
-pub mod Naming

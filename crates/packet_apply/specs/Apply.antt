@@ -34,19 +34,20 @@ use Rattle.kept_resources.specs.Views.{resourcesOf, holdingsOf, progressOf}
 use Rattle.kept_tokens.specs.Views.{spentAt}
 use Rattle.packet_ranges.specs.Views.{Applies, RowsExist, refusedWith}
 use Rattle.packet_destroy.specs.Destroy.{Destroys}
-use Rattle.packet_share.specs.Export.{Exports}
+use Rattle.packet_export.specs.Export.{Exports}
 use Rattle.packet_share.specs.Import.{Imports}
 use Rattle.packet_share.specs.Release.{Releases}
-use Rattle.packet_share.specs.declared.export.Exported.{Exported}
+use Rattle.packet_export.specs.declared.export.Exported.{Exported}
 use Rattle.packet_share.specs.declared.release.Released.{Released}
 use Rattle.packet_state.specs.Target.{Targets}
 use Rattle.packet_state.specs.Values.{Views, Clears}
 use Rattle.packet_ranges.specs.declared.applied.Applied.{Applied}
 use Rattle.packet_ranges.specs.declared.applied.Renamed.{Renamed}
-use Rattle.packet_apply.specs.Tokens.{ownIn, tokensHeld, Retokened}
-use Rattle.packet_apply.specs.declared.tokens.HeldTokens.{HeldTokens}
-use Rattle.packet_apply.specs.declared.apply.Held.{Held}
-use Rattle.packet_apply.specs.declared.apply.Changed.{Changed}
+use Rattle.packet_held.specs.Tokens.{ownIn, tokensHeld, Retokened}
+use Rattle.packet_held.specs.Held.{changedOf}
+use Rattle.packet_held.specs.declared.tokens.HeldTokens.{HeldTokens}
+use Rattle.packet_held.specs.declared.held.Held.{Held}
+use Rattle.packet_held.specs.declared.held.Changed.{Changed}
 
 -- the resources and records that are held, with the device's rows, the submission's own rows and its records: the resources are in its own table
 -- or still in the device's
@@ -56,10 +57,6 @@ holdingsHeld x r h c = holdingsOf (x .live) (pick (ownIn (x .copied)) h r) (x .m
 -- all that is held; the tokens, too, are in its own table or still in the device's
 abbrev pub heldOf : Held → List ℕ → List ℕ → List ℕ → List ℕ → List ℕ → Progress
 heldOf x r h dt ot c = progressOf (x .target) (x .live) (pick (ownIn (x .copied)) h r) (x .made) c (tokensHeld (x .tokens) dt ot)
-
-abbrev pub changedOf : Applied → ℕ → ℕ → HeldTokens → Changed
-changedOf a copied target tokens =
-    record { verdict = a .verdict; held = record { live = a .live; made = a .made; copied = copied; target = target; tokens = tokens } }
 
 -- so many entries, and what is held: their rows are there
 pub record RoomFor (n : ℕ) (x : Held) : Type 0 where
@@ -85,37 +82,6 @@ pub record Leaves (k : Held) (o : Outcome) (t : ℕ) (r : List ℕ) (x : Changed
   pub tokens : x .held .tokens ≡ k .tokens
   pub live : x .held .live ≤ most
   pub made : x .held .made ≤ most
-
--- ---- if_fine, without
-
-module _ (v : Verdict) (new old : ℕ) where
-  pub fine-new : v ≡ Fine → new ≡ if-fine v new old
-  fine-new e = rw e
-
-  pub broken-old : (r : Refusal) → v ≡ Broken r → old ≡ if-fine v new old
-  broken-old r e = rw e
-
-pub ruleset leaving-target = (fine-new, broken-old, needs)
-
-module _ (handle target : ℕ) where
-  pub none-after : handle ≡ target → 0 ≡ pick (eqb handle target) 0 target
-  none-after e = rw (eq-eqb handle target e)
-
-  pub same-after : (handle ≡ target → ⊥) → target ≡ pick (eqb handle target) 0 target
-  same-after n = rw (ne-eqb handle target n)
-
-pub ruleset ending-target = (none-after, same-after, needs)
-
--- ---- take_own
-
-module _ (live copied : ℕ) (r h : List ℕ) where
-  pub owned-before : (copied ≡ 0 → ⊥) → resourcesOf live h ≡ resourcesOf live (pick (ownIn copied) h r)
-  owned-before n = rw (ne-eqb copied 0 n)
-
-  pub owned-now : (h′ : List ℕ) → copied ≡ 0 → resourcesOf live h′ ≡ resourcesOf live r → resourcesOf live h′ ≡ resourcesOf live (pick (ownIn copied) h r)
-  owned-now h′ z e = rw (eq-eqb copied 0 z) e
-
-pub ruleset owning = (owned-before, owned-now, needs)
 
 -- ---- make_buffer, make_texture: on the submission's own table
 

@@ -1,25 +1,29 @@
 // One packet that was framed and read, whatever it is. One whose opcode we do not know touches nothing.
 // A submission's resources are the device's until its first create, destroy or import; that copies them to a table of its own.
-use crate::tokens::HeldTokens;
-use crate::tokens::chosen_tokens;
-use crate::tokens::rebound;
-use crate::tokens::with_token;
-use crate::tokens::without_token;
 use kept_entries::Entries;
 use kept_records::Records;
 use kept_resources::resources::Resources;
-use kept_resources::storing::copy_resources;
 use kept_tokens::Tokens;
 use packet_copy::copy::on_copy;
 use packet_create::create::on_buffer;
 use packet_create::create::on_texture;
 use packet_destroy::destroy::on_destroy;
 use packet_dirty::dirty::on_dirty;
-use packet_ranges::applied::Applied;
+use packet_export::export::Exported;
+use packet_export::export::on_export;
+use packet_held::held::Changed;
+use packet_held::held::Held;
+use packet_held::held::chosen;
+use packet_held::held::if_fine;
+use packet_held::held::take_own;
+use packet_held::held::with_own;
+use packet_held::held::without;
+use packet_held::tokens::chosen_tokens;
+use packet_held::tokens::rebound;
+use packet_held::tokens::with_token;
+use packet_held::tokens::without_token;
 use packet_ranges::applied::Renamed;
 use packet_ranges::applied::refuse;
-use packet_share::export::Exported;
-use packet_share::export::on_export;
 use packet_share::import::on_import;
 use packet_share::release::Released;
 use packet_share::release::on_release;
@@ -44,83 +48,17 @@ use rules::numbers::BAD_STATE;
 use widths::u32_to_usize;
 ghost use mathlib.Core.Path.{_≡_};
 ghost use Prim.Native.Nat.{_≤_};
-ghost use lib.Dec.{eqb};
 ghost use Rattle.machine.specs.Machine.{pick};
 ghost use Rattle.rules.specs.Numbers.{most, most-tokens};
-ghost use Rattle.rules.specs.Packets.{on-buffer-packet, on-texture-packet, on-destroy-packet, on-dirty-packet, on-copy-packet, on-target-packet, on-scissor-packet, on-export-packet, on-import-packet, on-release-packet, if-fine, target-after, passed, pass};
+ghost use Rattle.rules.specs.Packets.{on-buffer-packet, on-texture-packet, on-destroy-packet, on-dirty-packet, on-copy-packet, on-target-packet, on-scissor-packet, on-export-packet, on-import-packet, on-release-packet, target-after, passed, pass};
 ghost use Rattle.rules.specs.declared.Packet.the-variants.{Destroy, Target, Export, Import, Release};
 ghost use Rattle.kept_entries.specs.Views.{entriesOf};
-ghost use Rattle.kept_resources.specs.Views.{resourcesOf};
 ghost use Rattle.packet_ranges.specs.Views.{RowsExist};
-ghost use Rattle.packet_share.specs.Export.{Exports};
+ghost use Rattle.packet_export.specs.Export.{Exports};
 ghost use Rattle.packet_share.specs.Import.{Imports};
 ghost use Rattle.packet_share.specs.Release.{Releases};
-ghost use Rattle.packet_apply.specs.Tokens.{ownIn, tokensHeld};
-ghost use Rattle.packet_apply.specs.Apply.{holdingsHeld, heldOf, changedOf, Leaves, RoomFor, Changes};
-
-// What a submission holds, beside the rows of its tables: how many resources and records there are, whether the resources are in the
-// submission's own table, 0 if not, the handle of its target, 0 for none, and its tokens.
-pub struct Held {
-    pub live: usize,
-    pub made: usize,
-    pub copied: u32,
-    pub target: u32,
-    pub tokens: HeldTokens,
-}
-
-// What a packet came to: its verdict, and what is held after it.
-pub struct Changed {
-    pub verdict: Verdict,
-    pub held: Held,
-}
-
-fn with_own(a: Applied, copied: u32, target: u32, tokens: HeldTokens) -> Changed
-    ensures { λ x. ⌜ x ≡ changedOf a copied target tokens ⌝ }
-{
-    let verdict = a.verdict;
-    let held = Held {
-        live: a.live,
-        made: a.made,
-        copied,
-        target,
-        tokens,
-    };
-    Changed { verdict, held }
-}
-
-// The target after a packet that would change it: one that is refused does not.
-fn if_fine(verdict: Verdict, new: u32, old: u32) -> u32
-    ensures { λ r. ⌜ r ≡ if-fine verdict new old ⌝ }
-{
-    match verdict {
-        Verdict::Fine => new,
-        Verdict::Broken(_) => old,
-    }
-}
-
-// The target once a handle is destroyed: none, if it was that one.
-fn without(handle: u32, target: u32) -> u32
-    ensures { λ r. ⌜ r ≡ pick (eqb handle target) 0 target ⌝ }
-{
-    if handle == target { 0 } else { target }
-}
-
-// The table that has the submission's resources.
-fn chosen<'a>(resources: &'a Resources, own: &'a Resources, copied: u32) -> &'a Resources
-    ensures { λ r. ⌜ now r ≡ pick (ownIn copied) (now (own .entry)) (now (resources .entry)) ⌝ }
-{
-    if copied == 0 { resources } else { own }
-}
-
-// Sees that the submission's resources are in its own table.
-fn take_own(resources: &Resources, own: &mut Resources, copied: u32, live: usize)
-    requires { ⌜ live ≤ most ⌝ }
-    ensures { λ _. ⌜ resourcesOf live (now (own .exit)) ≡ resourcesOf live (pick (ownIn copied) (now (own .entry)) (now (resources .entry))) ⌝ }
-{
-    if copied == 0 {
-        copy_resources(resources, own, live);
-    }
-}
+ghost use Rattle.packet_held.specs.Tokens.{ownIn, tokensHeld};
+ghost use Rattle.packet_apply.specs.Apply.{holdingsHeld, heldOf, Leaves, RoomFor, Changes};
 
 fn make_buffer(
     entries: &Entries,

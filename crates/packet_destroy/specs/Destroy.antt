@@ -17,7 +17,7 @@ use Rattle.rules.specs.declared.Resource.{Resource}
 use Rattle.rows.specs.Rows.{rowAt}
 use Rattle.kept_resources.specs.Views.{resourceOf, resourcesOf, holdingsOf}
 use Rattle.kept_resources.specs.Resources.{resource-found, resource-missing}
-use Rattle.kept_resources.specs.Naming.{RenamesLeft}
+use Rattle.kept_names.specs.Naming.{RenamesLeft}
 use Rattle.packet_ranges.specs.Views.{Applies, Rebinds, refusedWith, renamedNothing, rebind-same}
 use Rattle.packet_ranges.specs.Handout.{acceptedWith}
 use Rattle.packet_ranges.specs.declared.applied.Renamed.{Renamed}

@@ -1,8 +1,8 @@
 // The destroy packet: a name of a live resource is gone, and the last of the others takes its row. Where the resource may have other
 // names, its lowest name is the lowest of those that are left (02, wish 5).
 // The records are not lent: the contract holds whatever they are. Nor are the tokens: the answer says how they follow.
-use kept_resources::naming::rename_left;
-use kept_resources::naming::shareable;
+use kept_names::naming::rename_left;
+use kept_names::naming::shareable;
 use kept_resources::resources::Resources;
 use kept_resources::resources::find_resource;
 use kept_resources::resources::resource_row;

@@ -20,7 +20,7 @@ use Rattle.words.specs.Over.{below-or-not}
 use Rattle.rows.specs.Rows.{rowAt, length-table}
 use Rattle.kept_resources.specs.Views.{resourceOf, resourcesOf, holdingsOf}
 use Rattle.kept_resources.specs.Resources.{resource-found, resource-missing}
-use Rattle.kept_resources.specs.Naming.{rename-same}
+use Rattle.kept_names.specs.Naming.{rename-same}
 use Rattle.kept_tokens.specs.Views.{tokensOf}
 use Rattle.packet_ranges.specs.Views.{Applies, refusedWith, renamedNothing, rebind-same}
 use Rattle.packet_ranges.specs.Handout.{acceptedWith}

@@ -1,4 +1,3 @@
 pub mod Bound
-pub mod Export
 pub mod Import
 pub mod Release

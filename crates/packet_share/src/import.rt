@@ -1,6 +1,6 @@
 // The import packet: a handle becomes another name for the texture that a token is bound to.
 use crate::bound::bound_row;
-use kept_resources::naming::rename;
+use kept_names::naming::rename;
 use kept_resources::resources::Resources;
 use kept_resources::resources::find_resource;
 use kept_resources::resources::resource_row;

@@ -27,7 +27,7 @@ use Rattle.stream_packets.specs.Framing.{FrameFits, frame-sound, packetAt, WasW
 use Rattle.stream_packets.specs.declared.framing.PacketRead.{PacketRead}
 use Rattle.stream_packets.specs.declared.framing.PacketRead.the-variants.{Whole as WholePacket, Misframed as NoPacket}
 use Rattle.packet_apply.specs.Apply.{heldOf, RoomFor, Changes, unknown-applied}
-use Rattle.packet_apply.specs.declared.apply.Changed.{Changed}
+use Rattle.packet_held.specs.declared.held.Changed.{Changed}
 use Rattle.run_entries.specs.Ending.{Ending, onward, ending-at, endingOf, is-going, is-done, is-broken, goes, ends, phase-on, phase-left}
 use Rattle.run_entries.specs.Ending.Ending.{Going, Done, Broken}
 use Rattle.run_packets.specs.declared.PacketsPlace.{PacketsPlace}

@@ -3,10 +3,10 @@ use Rattle.packet_apply.specs.Apply.{exporting}
 use borrow.Author.Needs.{needs}
 use Rattle.packet_apply.proofs.apply.export.Statement.{statement}
 use Rattle.packet_apply.proofs.apply.export.Tie as tie
-use Rattle.packet_apply.proofs.apply.chosen.Reads as chosen-reads
+use Rattle.packet_held.proofs.held.chosen.Reads as chosen-reads
 use Rattle.packet_apply.proofs.apply.judge_export.Reads as judge-export-reads
-use Rattle.packet_apply.proofs.apply.with_own.Reads as with-own-reads
-use Rattle.packet_apply.proofs.tokens.with_token.Reads as with-token-reads
+use Rattle.packet_held.proofs.held.with_own.Reads as with-own-reads
+use Rattle.packet_held.proofs.tokens.with_token.Reads as with-token-reads
 
 chosen-requires : tie.Need-chosen-requires
 chosen-requires c κs = search needs

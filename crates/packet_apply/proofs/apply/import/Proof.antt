@@ -4,9 +4,9 @@ use borrow.Author.Needs.{needs}
 use Rattle.packet_apply.proofs.apply.import.Statement.{statement}
 use Rattle.packet_apply.proofs.apply.import.Tie as tie
 use Rattle.packet_apply.proofs.apply.judge_import.Reads as judge-import-reads
-use Rattle.packet_apply.proofs.apply.take_own.Reads as take-own-reads
-use Rattle.packet_apply.proofs.apply.with_own.Reads as with-own-reads
-use Rattle.packet_apply.proofs.tokens.rebound.Reads as rebound-reads
+use Rattle.packet_held.proofs.held.take_own.Reads as take-own-reads
+use Rattle.packet_held.proofs.held.with_own.Reads as with-own-reads
+use Rattle.packet_held.proofs.tokens.rebound.Reads as rebound-reads
 
 take-own-requires : tie.Need-take-own-requires
 take-own-requires c κs = search needs

@@ -3,7 +3,7 @@ use Rattle.packet_apply.specs.Apply.{judging}
 use borrow.Author.Needs.{needs}
 use Rattle.packet_apply.proofs.apply.judge_release.Statement.{statement}
 use Rattle.packet_apply.proofs.apply.judge_release.Tie as tie
-use Rattle.packet_apply.proofs.tokens.chosen_tokens.Reads as chosen-tokens-reads
+use Rattle.packet_held.proofs.tokens.chosen_tokens.Reads as chosen-tokens-reads
 use Rattle.packet_share.proofs.release.on_release.Reads as on-release-reads
 
 chosen-tokens-requires : tie.Need-chosen-tokens-requires

@@ -3,10 +3,10 @@ use Rattle.packet_apply.specs.Apply.{releasing}
 use borrow.Author.Needs.{needs}
 use Rattle.packet_apply.proofs.apply.release.Statement.{statement}
 use Rattle.packet_apply.proofs.apply.release.Tie as tie
-use Rattle.packet_apply.proofs.apply.chosen.Reads as chosen-reads
+use Rattle.packet_held.proofs.held.chosen.Reads as chosen-reads
 use Rattle.packet_apply.proofs.apply.judge_release.Reads as judge-release-reads
-use Rattle.packet_apply.proofs.apply.with_own.Reads as with-own-reads
-use Rattle.packet_apply.proofs.tokens.without_token.Reads as without-token-reads
+use Rattle.packet_held.proofs.held.with_own.Reads as with-own-reads
+use Rattle.packet_held.proofs.tokens.without_token.Reads as without-token-reads
 
 chosen-requires : tie.Need-chosen-requires
 chosen-requires c κs = search needs
