@@ -4,12 +4,6 @@ pub mod Courses
 pub mod ChainsStand
 pub mod Places
 pub mod UnslicedPlaces
-pub mod Targets
-pub mod Shared
-pub mod SharedTokens
-pub mod BoundTokens
-pub mod SharedPackets
-pub mod TokensOverCalls
 pub mod Witness
 pub mod StateWitness
 pub mod SharedWitness

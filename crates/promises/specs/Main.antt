@@ -77,13 +77,13 @@ use Rattle.promises_of_packets.specs.Held.{Every, OfAKind, LiveTexture, TargetL
 use Rattle.promises_of_submissions.specs.LocalPackets.{framed-is-read}
 use Rattle.promises_of_submissions.specs.FloatBits.{judged-state, ViewportCarried, ClearCarried, bad-viewport-words, bad-clear-words, not-finite-viewport, not-finite-clear, viewport-is-carried, clear-is-carried, viewport-judged-by-its-words, clear-judged-by-its-words}
 use Rattle.promises_of_submissions.specs.FloatOrder.{TheBounds, below-is-the-order, the-bounds}
-use Rattle.promises.specs.Targets.{target-is-set, target-is-refused, other-packets-keep-the-target, destroyed-ends-the-target, another-destroyed-keeps-the-target, held-after, ended-target-stays-ended, scissor-without-a-target, scissor-with-negative-sides, scissor-past-the-last-record, scissor-is-accepted, called-target-lives, first-packet-finds-no-target}
+use Rattle.promises_of_sharing.specs.Targets.{target-is-set, target-is-refused, other-packets-keep-the-target, destroyed-ends-the-target, another-destroyed-keeps-the-target, held-after, ended-target-stays-ended, scissor-without-a-target, scissor-with-negative-sides, scissor-past-the-last-record, scissor-is-accepted, called-target-lives, first-packet-finds-no-target}
 use Rattle.promises_of_units.specs.Writes.{resets}
-use Rattle.promises.specs.Shared.{OneResource, OneMipOneLayer, IsBound, Destroyed, SecondName, destroying-a-name-leaves-the-others, an-import-is-a-second-name}
-use Rattle.promises.specs.SharedTokens.{TokensGoOn, TokensStay, tokens-stay}
-use Rattle.promises.specs.BoundTokens.{BoundUnless, a-bound-token-is-spent-only-by-its-release-or-with-its-last-name}
-use Rattle.promises.specs.SharedPackets.{ExportPacket, ImportPacket, ReleasePacket, when-an-export-is-accepted, when-an-import-is-accepted, when-a-release-is-accepted}
-use Rattle.promises.specs.TokensOverCalls.{CalledOn, tokens-go-on-between-resets, a-reset-forgets-the-tokens, a-failed-submission-leaves-the-tokens, at-most-256-tokens, shared-is-one-mip-one-layer, bound-is-one-mip-one-layer, what-is-held-is-sound}
+use Rattle.promises_of_sharing.specs.Shared.{OneResource, OneMipOneLayer, IsBound, Destroyed, SecondName, destroying-a-name-leaves-the-others, an-import-is-a-second-name}
+use Rattle.promises_of_sharing.specs.SharedTokens.{TokensGoOn, TokensStay, tokens-stay}
+use Rattle.promises_of_sharing.specs.BoundTokens.{BoundUnless, a-bound-token-is-spent-only-by-its-release-or-with-its-last-name}
+use Rattle.promises_of_sharing.specs.SharedPackets.{ExportPacket, ImportPacket, ReleasePacket, when-an-export-is-accepted, when-an-import-is-accepted, when-a-release-is-accepted}
+use Rattle.promises_of_sharing.specs.TokensOverCalls.{CalledOn, tokens-go-on-between-resets, a-reset-forgets-the-tokens, a-failed-submission-leaves-the-tokens, at-most-256-tokens, shared-is-one-mip-one-layer, bound-is-one-mip-one-layer, what-is-held-is-sound}
 use Rattle.promises_of_submissions.specs.Clipping.{Scissored, accepted-scissor-is-clipped}
 use Rattle.promises_of_submissions.specs.Locality.{lent, SameWhereRead, SameRun, run-of-one-reads-only}
 

@@ -31,8 +31,8 @@ use Rattle.promises_of_units.specs.Called.{Called, after}
 use Rattle.promises_of_units.specs.Called.Call.{writes, runs, answers}
 use Rattle.promises_of_units.specs.Called.Called.{makes, calls}
 use Rattle.promises.specs.Witness.{in-bytes, ring-words}
-use Rattle.promises.specs.Shared.{Used, OneMipOneLayer}
-use Rattle.promises.specs.TokensOverCalls.{CalledOn, tokens-go-on-between-resets, bound-is-one-mip-one-layer}
+use Rattle.promises_of_sharing.specs.Shared.{Used, OneMipOneLayer}
+use Rattle.promises_of_sharing.specs.TokensOverCalls.{CalledOn, tokens-go-on-between-resets, bound-is-one-mip-one-layer}
 use Rattle.promises.specs.StateWitness.{textured, destroyed, stream-with, judged-words, the-shape, the-job}
 
 -- ---- packets, word by word; every token is 7 + 2^32, or has another low word

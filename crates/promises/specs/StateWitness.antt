@@ -42,7 +42,7 @@ use Rattle.promises_of_units.specs.Called.Call.{writes, runs}
 use Rattle.promises_of_units.specs.Called.Called.{makes, calls}
 use Rattle.promises_of_units.specs.Ranges.{kinds-at-the-record-call}
 use Rattle.promises_of_submissions.specs.Clipping.{ClippedTo, clip-is-the-common-part}
-use Rattle.promises.specs.Targets.{called-target-lives, first-packet-finds-no-target}
+use Rattle.promises_of_sharing.specs.Targets.{called-target-lives, first-packet-finds-no-target}
 use Rattle.promises_of_submissions.specs.FloatBits.{ViewportCarried, viewport-is-carried}
 use Rattle.promises.specs.Witness.{in-bytes, ring-words}
 

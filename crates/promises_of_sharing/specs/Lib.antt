@@ -1,0 +1,6 @@
+pub mod Targets
+pub mod Shared
+pub mod SharedTokens
+pub mod BoundTokens
+pub mod SharedPackets
+pub mod TokensOverCalls
