@@ -246,7 +246,8 @@ impl Desk {
     /// serve(&mut Desk::new(4096), &mut [0; 4096], |record| println!("{:?}", record))?;
     /// # Ok::<(), Refused>(())
     /// ```
-    #[inline]
+    // Its call lends so much that compilers would leave it one call more.
+    #[inline(always)]
     pub fn answer(
         &mut self,
         memory: &mut [u8],

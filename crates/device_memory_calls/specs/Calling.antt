@@ -4,6 +4,7 @@ use mathlib.Core.Bool.{Bool, true, false}
 use mathlib.Core.List.{List}
 use Prim.Native.Nat.{ℕ, _≤_, _<_}
 use borrow.Author.Needs.{needs}
+use native.Mathlib.Omega.{arith}
 use borrow.Author.Tests.{eq-eqb, ne-eqb}
 use lib.ListN.{length, getD}
 use Rattle.machine.specs.Machine.{pick}
@@ -18,6 +19,7 @@ use Rattle.settle.specs.Only.{answered-is-lent-alike}
 use Rattle.device_memory_calls.specs.Views.{refusedWith, CarriesOn, Runs, Answers}
 use Rattle.run_answered.specs.Views.{Ends, SettlesAnswered}
 use Rattle.run_sides.specs.Views.{RanOn}
+use Rattle.run_sides.specs.Sides.{on-nothing}
 use Rattle.device_memory_calls.specs.declared.Spent.{Spent}
 
 -- ---- as many units as are allowed, and how the device then stands
@@ -26,6 +28,10 @@ pub carries-on : (allowance u : ℕ) (k : Ended) (s e a b ft st c m s′ e′ a�
     → CarriesOn allowance (lent s e a b ft st c m) (record { answer = done; units = u; ended = k }) (lent s′ e′ a′ b′ ft′ st′ c′ m′)
 carries-on allowance u k s e a b ft st c m s′ e′ a′ b′ ft′ st′ c′ m′ x ends =
     record { carried = rw (ends .ended e′ (pick (sideIn s′) b′ a′) (pick (sideIn s′) a′ b′) (pick (tokenSideIn s′) st′ ft′) (pick (tokenSideIn s′) ft′ st′) c′ m′) (ap ran (x .run)) }
+
+-- no unit is allowed: the device stands as it is
+pub carries-nothing : (allowance : ℕ) (k : Ended) (s e a b ft st c m : List ℕ) → allowance ≤ 0 → Ends s k → CarriesOn allowance (lent s e a b ft st c m) (record { answer = done; units = 0; ended = k }) (lent s e a b ft st c m)
+carries-nothing allowance k s e a b ft st c m z = carries-on allowance 0 k s e a b ft st c m s e a b ft st c m (on-nothing allowance s e a b ft st c m (omega arith))
 
 -- ---- the memory that is lent
 
@@ -95,4 +101,4 @@ module _ (s e a b ft st c m : List ℕ) (good : Bool) (allowance memory : ℕ) (
             still = λ q. absurd (q (not-refused allowance s₁ e a b ft st c m₁ s′ e′ a′ b′ ft′ st′ c′ m′ x k));
           }
 
-pub ruleset answering = (answers-other, answers-unasked, answers-done, carries-on, needs)
+pub ruleset answering = (answers-other, answers-unasked, answers-done, carries-on, carries-nothing, needs)

@@ -140,21 +140,29 @@ pub fn answer(
         return refused(NOTHING_WAITS);
     }
     settle_answered(words, mem, good);
-    let units = run_on(
-        words,
-        entries,
-        first,
-        second,
-        firsttokens,
-        secondtokens,
-        records,
-        mem,
-        allowance,
-    );
+    if allowance > 0 {
+        let units = run_on(
+            words,
+            entries,
+            first,
+            second,
+            firsttokens,
+            secondtokens,
+            records,
+            mem,
+            allowance,
+        );
+        let ended = ended_in(words);
+        return Spent {
+            answer: DONE,
+            units,
+            ended,
+        };
+    }
     let ended = ended_in(words);
     Spent {
         answer: DONE,
-        units,
+        units: 0,
         ended,
     }
 }
