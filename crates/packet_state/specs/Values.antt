@@ -1,16 +1,19 @@
 -- When a viewport or a clear is bad, and what it comes to, a law for each end. Assumes nothing.
-use mathlib.Core.Path.{_≡_, refl, _∙_}
+use mathlib.Core.Path.{_≡_, refl, sym, ap, _∙_}
 use mathlib.Core.Bool.{Bool, true, false, not, _||_}
 use mathlib.Core.List.{List}
-use Prim.Native.Nat.{ℕ, _≤_}
+use Prim.Native.Nat.{ℕ, _+_, _%_, _≤_}
+use native.Mathlib.Omega.{arith}
 use borrow.Author.Needs.{needs}
+use borrow.Author.Tests.{le-ltb, lt-leb}
 use lib.Dec.{ltb}
 use Rattle.rules.specs.Numbers.{bad-state, most, most-flags}
-use Rattle.rules.specs.Floats.{bits-of, not-finite, below, float-zero, outside}
+use Rattle.rules.specs.Floats.{bits-of, not-finite, sign-bit, infinity, key, below, float-zero, float-one, outside}
 use Rattle.rules.specs.StatePackets.{bad-bounds, bad-viewport, bad-values, bad-clear}
 use Rattle.rules.specs.Packets.{on-viewport-packet, on-clear-packet}
 use Rattle.rules.specs.declared.SetViewport.{SetViewport}
 use Rattle.rules.specs.declared.ClearValues.{ClearValues}
+use Rattle.floats.specs.Bits.{key-up}
 use Rattle.kept_resources.specs.Views.{holdingsOf}
 use Rattle.packet_ranges.specs.Views.{Applies, refusedWith}
 use Rattle.packet_ranges.specs.Handout.{acceptedWith}
@@ -34,9 +37,38 @@ module _ (p q a : Bool) (is : a ≡ p) where
 
 pub ruleset deciding = (first-holds, second-decides, first-fails, second-fails, needs)
 
+-- ---- bad_depths, bad_depth
+
+-- bits up to those of 1 are floats in order
+low-key : (b : ℕ) → b ≤ float-one → key b ≡ sign-bit + b
+low-key b h = sym (key-up b (omega arith))
+
+in-order : (a b : ℕ) → a ≤ float-one → b ≤ a → below a b ≡ false
+unfolding below
+in-order a b h l = rw (low-key a h, low-key b (omega arith)) (le-ltb (sign-bit + a) (sign-bit + b) (omega arith))
+
+low-finite : (b : ℕ) → b ≤ float-one → not-finite b ≡ false
+unfolding not-finite
+low-finite b h = lt-leb infinity (b % sign-bit) (omega arith)
+
+pub depths-good : (near far : ℕ) → near ≤ far → far ≤ float-one → false ≡ ((not-finite near || not-finite far) || (below far near || (outside near || outside far)))
+depths-good near far l h =
+    let low : near ≤ float-one = omega arith in
+    rw (low-finite near low, low-finite far h, in-order far near h l, in-order near float-zero low (omega arith), in-order float-one near (omega arith) low, in-order far float-zero h (omega arith), in-order float-one far (omega arith) h)
+
+pub depth-good : (depth : ℕ) → depth ≤ float-one → false ≡ (not-finite depth || outside depth)
+depth-good depth h = rw (low-finite depth h, in-order depth float-zero h (omega arith), in-order float-one depth (omega arith) h)
+
+pub ruleset deciding-depths = (depths-good, depth-good, deciding)
+
 or-assoc : (a b c : Bool) → ((a || b) || c) ≡ (a || (b || c))
 or-assoc true b c = refl
 or-assoc false b c = refl
+
+or-swap : (a b c : Bool) → (a || (b || c)) ≡ (b || (a || c))
+or-swap true true c = refl
+or-swap true false c = refl
+or-swap false b c = refl
 
 -- ---- bad_bounds, bad_viewport
 
@@ -46,12 +78,16 @@ module _ (x y width height near far : ℕ) where
   bounds-tests =
       (not-finite x || not-finite y)
       || ((not-finite width || not-finite height)
-      || ((not-finite near || not-finite far)
-      || ((not (below float-zero width) || not (below float-zero height)) || (below far near || (outside near || outside far)))))
+      || ((not (below float-zero width) || not (below float-zero height))
+      || ((not-finite near || not-finite far) || (below far near || (outside near || outside far)))))
 
   pub bounds-told : (r : Bool) → r ≡ bounds-tests → r ≡ bad-bounds x y width height near far
   unfolding bad-bounds
-  bounds-told r e = e ∙ simp or-assoc
+  bounds-told r e =
+      e
+      ∙ (ap (λ (t : Bool). (not-finite x || not-finite y) || ((not-finite width || not-finite height) || t))
+      (or-swap (not (below float-zero width) || not (below float-zero height)) (not-finite near || not-finite far) (below far near || (outside near || outside far)))
+      ∙ simp or-assoc)
 
   pub viewport-told : (v : SetViewport) (r : Bool) → x ≡ bits-of (v .x) → y ≡ bits-of (v .y) → width ≡ bits-of (v .width) → height ≡ bits-of (v .height)
       → near ≡ bits-of (v .near) → far ≡ bits-of (v .far) → r ≡ bad-bounds x y width height near far → r ≡ bad-viewport v
@@ -64,7 +100,7 @@ module _ (flags red green blue alpha depth : ℕ) where
   abbrev values-tests : Bool
   values-tests =
       (not-finite red || not-finite green)
-      || ((not-finite blue || not-finite alpha) || (not-finite depth || (outside depth || ltb most-flags flags)))
+      || ((not-finite blue || not-finite alpha) || ((not-finite depth || outside depth) || ltb most-flags flags))
 
   pub values-told : (r : Bool) → r ≡ values-tests → r ≡ bad-values flags red green blue alpha depth
   unfolding bad-values

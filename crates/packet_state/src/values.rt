@@ -22,6 +22,9 @@ ghost use Rattle.packet_state.specs.Values.{Views, Clears};
 // The bits of 0.
 const FLOAT_ZERO: u32 = 0;
 
+// The bits of 1.
+const FLOAT_ONE: u32 = 1065353216;
+
 // Whether one of two floats is infinite or a NaN.
 fn either_not_finite(a: u32, b: u32) -> bool
     ensures { λ r. ⌜ r ≡ (not-finite a || not-finite b) ⌝ }
@@ -42,10 +45,19 @@ fn bad_area(width: u32, height: u32) -> bool
     true
 }
 
-// Whether the near depth is above the far one, or either is outside 0 to 1.
+// Whether one of two depths is no number or outside 0 to 1, or the near one is above the far one. Two that have no sign are in order as their
+// bits are.
 fn bad_depths(near: u32, far: u32) -> bool
-    ensures { λ r. ⌜ r ≡ (is-below far near || (is-outside near || is-outside far)) ⌝ }
+    ensures { λ r. ⌜ r ≡ ((not-finite near || not-finite far) || (is-below far near || (is-outside near || is-outside far))) ⌝ }
 {
+    if near <= far {
+        if far <= FLOAT_ONE {
+            return false;
+        }
+    }
+    if either_not_finite(near, far) {
+        return true;
+    }
     if below(far, near) {
         return true;
     }
@@ -53,6 +65,19 @@ fn bad_depths(near: u32, far: u32) -> bool
         return true;
     }
     outside(far)
+}
+
+// Whether a depth is no number or outside 0 to 1.
+fn bad_depth(depth: u32) -> bool
+    ensures { λ r. ⌜ r ≡ (not-finite depth || is-outside depth) ⌝ }
+{
+    if depth <= FLOAT_ONE {
+        return false;
+    }
+    if not_finite(depth) {
+        return true;
+    }
+    outside(depth)
 }
 
 // Whether the bits of a viewport's floats are bad.
@@ -63,9 +88,6 @@ fn bad_bounds(x: u32, y: u32, width: u32, height: u32, near: u32, far: u32) -> b
         return true;
     }
     if either_not_finite(width, height) {
-        return true;
-    }
-    if either_not_finite(near, far) {
         return true;
     }
     if bad_area(width, height) {
@@ -113,10 +135,7 @@ fn bad_values(flags: u32, red: u32, green: u32, blue: u32, alpha: u32, depth: u3
     if either_not_finite(blue, alpha) {
         return true;
     }
-    if not_finite(depth) {
-        return true;
-    }
-    if outside(depth) {
+    if bad_depth(depth) {
         return true;
     }
     flags > MOST_FLAGS
