@@ -38,6 +38,12 @@ pub record Refuses (s m : List ℕ) (why : Fault) (s′ m′ : List ℕ) : Type 
 abbrev pub turnedIf : Bool → Bool → Bool
 turnedIf side own = pick own (not side) side
 
+-- by word `at`, one of two tables is the device's: the other one from now on, if word `own` says that the submission has it for its own
+pub record Turns (at own : ℕ) (s s′ : List ℕ) : Type 0 where
+  pub side : ℕ
+  pub words : s′ ≡ set s at side
+  pub turned : setIn side ≡ turnedIf (setIn (getD s at 0)) (setIn (getD s own 0))
+
 -- settled as good, whatever the rows of the tables are: those that the submission held are the device's, and no word is left of the work
 pub record Accepts (s m s′ m′ : List ℕ) : Type 0 where
   pub world : (e a b ft st c : List ℕ) → deskIn s′ e a b ft st c m′

@@ -32,8 +32,9 @@ use settle_registers::one_more;
 use widths::u32_to_word;
 use words::low32;
 ghost use mathlib.Core.Path.{_≡_};
+ghost use mathlib.Core.Bool.{not};
 ghost use Rattle.run_state.specs.Views.{setIn};
-ghost use Rattle.run_settle.specs.Views.{Signals, turnedIf, Finishes, Refuses, Accepts};
+ghost use Rattle.run_settle.specs.Views.{Signals, Turns, Finishes, Refuses, Accepts};
 
 // The fence of the submission in work is signalled, and nothing is in work.
 fn signal(words: &mut Words)
@@ -75,28 +76,45 @@ pub fn settle_refused(words: &mut Words, mem: &mut [u8], why: Fault)
     finish(words, mem);
 }
 
-// Which table is the device's after a good answer: the other one, if the submission had it for its own.
-fn turned_if(side: u64, own: u64) -> u64
-    ensures { λ r. ⌜ setIn r ≡ turnedIf (setIn side) (setIn own) ⌝ }
+// The other of two tables: 0 is the first, any other number the second.
+fn other_side(side: u64) -> u64
+    ensures { λ r. ⌜ setIn r ≡ not (setIn side) ⌝ }
 {
-    if own == 0 {
-        return side;
-    }
     if side == 0 { 1 } else { 0 }
+}
+
+// Which table of resources is the device's after a good answer: the other one, if the submission had it for its own. Few have.
+fn turn_resources(words: &mut Words)
+    ensures { λ _. ⌜ Turns 28 29 (now (words .entry)) (now (words .exit)) ⌝ }
+{
+    if words[COPIED] == 0 {
+        return;
+    }
+    let side = other_side(words[SIDE]);
+    words[SIDE] = side;
+}
+
+// The same of the tables of tokens.
+fn turn_tokens(words: &mut Words)
+    ensures { λ _. ⌜ Turns 34 35 (now (words .entry)) (now (words .exit)) ⌝ }
+{
+    if words[TOKENS_COPIED] == 0 {
+        return;
+    }
+    let side = other_side(words[TOKEN_SIDE]);
+    words[TOKEN_SIDE] = side;
 }
 
 // Settles the submission in work without an error: its resources and tokens become the device's, and none is copied.
 pub fn settle_accepted(words: &mut Words, mem: &mut [u8])
     ensures { λ _. ⌜ Accepts (now (words .entry)) (now (mem .entry)) (now (words .exit)) (now (mem .exit)) ⌝ }
 {
-    let side = turned_if(words[SIDE], words[COPIED]);
     let held = words[HELD];
-    let token_side = turned_if(words[TOKEN_SIDE], words[TOKENS_COPIED]);
     let used = words[HELD_TOKENS];
     let all = &words[..];
-    words[SIDE] = side;
+    turn_resources(words);
+    turn_tokens(words);
     words[LIVE] = held;
-    words[TOKEN_SIDE] = token_side;
     words[TOKENS] = used;
     finish(words, mem);
 }

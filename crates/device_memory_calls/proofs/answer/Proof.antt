@@ -1,72 +1,51 @@
+-- `answer` meets its contract. Assumes nothing.
 use Rattle.device_memory_calls.specs.Calling.{answering}
 use borrow.Author.Needs.{needs}
 use Rattle.device_memory_calls.proofs.answer.Statement.{statement}
 use Rattle.device_memory_calls.proofs.answer.Tie as tie
-use Rattle.device_memory_calls.proofs.answer.Reads as reads
-use Rattle.device_memory_calls.proofs.answer.Lts as lts
-use Rattle.device_memory_calls.proofs.ended_in.Reads as ended-in-reads
-use Rattle.device_memory_calls.proofs.refused.Reads as refused-reads
-use Rattle.device_memory_calls.proofs.run_on.Reads as run-on-reads
-use Rattle.device_memory_calls.proofs.settle_answered.Reads as settle-answered-reads
-use Rattle.widths.proofs.word_to_usize.Reads as word-to-usize-reads
 
--- src/lib.rt:302:32
 element-copy-out-word-to-usize : tie.Need-element-copy-out-word-to-usize
 element-copy-out-word-to-usize c = search needs
 
--- src/lib.rt:302:9
 word-to-usize-requires : tie.Need-word-to-usize-requires
 word-to-usize-requires c κs = search needs
 
--- src/lib.rt:304:9
 refused-requires : tie.Need-refused-requires
 refused-requires c κs = search needs
 
--- src/lib.rt:304:9
 returns : tie.Need-returns
 returns c = search answering
 
--- src/lib.rt:306:8
 element-copy-out-if2 : tie.Need-element-copy-out-if2
 element-copy-out-if2 c = search needs
 
--- src/lib.rt:307:9
 refused-requires-2 : tie.Need-refused-requires-2
 refused-requires-2 c κs = search needs
 
--- src/lib.rt:307:9
 returns-2 : tie.Need-returns-2
 returns-2 c = search answering
 
--- src/lib.rt:309:5
 settle-answered-requires : tie.Need-settle-answered-requires
 settle-answered-requires c κs = search needs
 
--- src/lib.rt:311:13
 run-on-requires : tie.Need-run-on-requires
 run-on-requires c κs = search needs
 
--- src/lib.rt:322:13
 ended-in-requires : tie.Need-ended-in-requires
 ended-in-requires c κs = search needs
 
--- src/lib.rt:323:9
 same-length : tie.Need-same-length
 same-length c = search needs
 
--- src/lib.rt:323:9
 returns-3 : tie.Need-returns-3
 returns-3 c = search answering
 
--- src/lib.rt:329:9
 ended-in-requires-2 : tie.Need-ended-in-requires-2
 ended-in-requires-2 c κs = search needs
 
--- src/lib.rt:267:1
 same-length-2 : tie.Need-same-length-2
 same-length-2 c = search needs
 
--- src/lib.rt:267:1
 returns-4 : tie.Need-returns-4
 returns-4 c = search answering
 
