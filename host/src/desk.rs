@@ -246,7 +246,7 @@ impl Desk {
     /// serve(&mut Desk::new(4096), &mut [0; 4096], |record| println!("{:?}", record))?;
     /// # Ok::<(), Refused>(())
     /// ```
-    // Its call lends so much that compilers would leave it one call more.
+    // It lends so much that the compiler, left alone, makes it a call of its own: 41 instructions more.
     #[inline(always)]
     pub fn answer(
         &mut self,
