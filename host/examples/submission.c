@@ -1,4 +1,5 @@
-/* A submission from ring to fence, by the exports alone: what the crate's documentation plays in Rust. From host/:
+/* A submission from ring to fence, by the exports alone: what the crate's documentation plays in Rust. Then the device is saved, and loaded
+ * as another one. From host/:
  *
  *   cc -Iinclude examples/submission.c -o submission ../target/staticlib/libzelezmut.a
  */
@@ -13,7 +14,9 @@
 #define STREAM 2048
 
 static struct zelezmut_state device;
+static struct zelezmut_state moved;
 static uint8_t memory[MEMORY];
+static uint8_t file[ZELEZMUT_LONGEST_SAVED];
 
 /* The guest's memory is little-endian, and so is x86-64. */
 static void put32(size_t at, uint32_t value) { memcpy(memory + at, &value, sizeof value); }
@@ -66,6 +69,21 @@ static void print_ran(const char *call, uint64_t said) {
     printf("%s %u %u %s\n", call, zelezmut_ran_answer(said), zelezmut_ran_units(said), endings[zelezmut_ran_ended(said)]);
 }
 
+/* The device goes into a file and comes out of it as another one; a file that is a byte short does not. Whoever moves a device elsewhere
+ * moves guest memory, too. */
+static void move_device(void) {
+    uint64_t said = zelezmut_save(device.words, device.first, device.second, file, sizeof file);
+    uint32_t length = zelezmut_saved_length(said);
+    printf("save %u, %u bytes\n", zelezmut_saved_answer(said), length);
+    if (zelezmut_saved_answer(said) != ZELEZMUT_DONE)
+        return;
+    said = zelezmut_load(moved.words, moved.first, file, length - 1);
+    printf("load %u, byte %u\n", zelezmut_loaded_answer(said), zelezmut_loaded_place(said));
+    said = zelezmut_load(moved.words, moved.first, file, length);
+    printf("load %u\n", zelezmut_loaded_answer(said));
+    printf("fence %u\n", (unsigned)zelezmut_read(moved.words, 0x130));
+}
+
 /* Whether the library is the one of the header: else its arrays may be larger than those that it is lent. */
 static int layout_fits(void) {
     if (zelezmut_layout() == ZELEZMUT_LAYOUT)
@@ -96,5 +114,6 @@ int main(void) {
     print_ran("answer", zelezmut_answer(device.words, device.entries, device.first, device.second, device.first_tokens,
                                         device.second_tokens, device.records, memory, MEMORY, 1, 100));
     printf("fence %u\n", (unsigned)zelezmut_read(device.words, 0x130));
+    move_device();
     return 0;
 }

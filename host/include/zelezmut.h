@@ -18,7 +18,7 @@
  *   Any other number is that of a library with other arrays, or other meanings of their words: build library and header from one tree.
  *
  * A refused call, one whose answer is not 0, has changed nothing. The meaning of registers, records and errors is in docs/01-scope.md, and
- * of what came later in docs/LANDINGS.md; examples/submission.c plays a submission.
+ * of what came later in docs/LANDINGS.md; examples/submission.c plays a submission, and saves and loads the device.
  */
 #ifndef ZELEZMUT_H
 #define ZELEZMUT_H
@@ -51,7 +51,8 @@ extern "C" {
     (((uint64_t)ZELEZMUT_LAYOUT_VERSION << 60) | ((uint64_t)ZELEZMUT_WORDS << 48) | ((uint64_t)ZELEZMUT_ENTRIES << 36) | \
      ((uint64_t)ZELEZMUT_RESOURCES << 24) | ((uint64_t)ZELEZMUT_TOKENS << 12) | (uint64_t)ZELEZMUT_RECORDS)
 
-/* A device. Its words are the library's own business: zelezmut_make sets them, and the host keeps them. It may be copied. */
+/* A device. Its words are the library's own business: zelezmut_make or zelezmut_load sets them, and the host keeps them. It may be
+ * copied; to be kept for another version of the library it is saved. */
 struct zelezmut_state {
     uint64_t words[ZELEZMUT_WORDS];
     uint64_t entries[ZELEZMUT_ENTRIES];
@@ -68,7 +69,11 @@ enum {
     ZELEZMUT_OTHER_MEMORY = 1,  /* the memory lent has another length than the device was made for */
     ZELEZMUT_NO_REGISTER = 2,   /* no such register, or not readable, or not writable */
     ZELEZMUT_NOTHING_WAITS = 3, /* no submission waits for the host's answer */
-    ZELEZMUT_NO_RECORD = 4      /* no submission waits, or it has no record of this index */
+    ZELEZMUT_NO_RECORD = 4,     /* no submission waits, or it has no record of this index */
+    ZELEZMUT_IN_WORK = 5,       /* a submission is in work: only a device at rest is saved */
+    ZELEZMUT_TOO_SHORT = 6,     /* the buffer is too short for the saved device */
+    ZELEZMUT_BAD_FILE = 7,      /* a field is missing or breaks a rule, or a byte follows the last */
+    ZELEZMUT_NOT_IN_FORM = 8    /* form 1 has no field for a token that was used, a second name, or an error detail that is not 0 */
 };
 
 /* How a run ended. */
@@ -116,12 +121,33 @@ uint64_t zelezmut_answer(uint64_t words[ZELEZMUT_WORDS], uint64_t entries[ZELEZM
                          uint64_t second_tokens[ZELEZMUT_TOKENS], uint64_t records[ZELEZMUT_RECORDS], uint8_t *memory, size_t len,
                          uint32_t good, uint16_t allowance);
 
+/* The most bytes of a saved device: one with so many resources. docs/SAVED-DESK.md has the form, field by field. */
+#define ZELEZMUT_LONGEST_SAVED (92 + 48 * ZELEZMUT_MOST)
+
+/* Saves a device at rest in form 1: registers, the memory's length, the doorbell flag and the resources. The length in the low 32 bits,
+ * the answer in the high ones: ZELEZMUT_IN_WORK, else ZELEZMUT_NOT_IN_FORM, else ZELEZMUT_TOO_SHORT, each beside length 0 and with the
+ * buffer untouched. Bytes of the buffer behind the length are kept. Guest memory is not saved: the host moves it beside the file. */
+uint64_t zelezmut_save(const uint64_t words[ZELEZMUT_WORDS], const uint64_t first[ZELEZMUT_RESOURCES],
+                       const uint64_t second[ZELEZMUT_RESOURCES], uint8_t *buffer, size_t len);
+
+/* Loads a saved device. Words and arrays may hold anything: what was in work is gone, nothing of it settles, and no guest byte changes. The
+ * device is for the memory length that the file says. The answer in the high 32 bits: ZELEZMUT_DONE, or ZELEZMUT_BAD_FILE with the offset of
+ * the first field that is missing or breaks a rule, or of the first byte too many, in the low ones. An answer that the host still owes
+ * to a submission from before is to be dropped, as after a reset. */
+uint64_t zelezmut_load(uint64_t words[ZELEZMUT_WORDS], uint64_t first[ZELEZMUT_RESOURCES], const uint8_t *file, size_t len);
+
 /* The bytes of a backed texture, 0 for a bad shape. */
 uint64_t zelezmut_packed_size(uint32_t format, uint32_t width, uint32_t height, uint32_t mips, uint32_t layers, uint32_t pitch);
 
 /* The first error of an allocation table for a guest memory of so many bytes, 0 for none; and for errors 14 and 15 its entry's index. */
 uint32_t zelezmut_table_error(const uint8_t *table, size_t len, uint64_t memory);
 uint32_t zelezmut_table_place(const uint8_t *table, size_t len, uint64_t memory);
+
+/* The parts of what zelezmut_save and zelezmut_load say. */
+static inline uint32_t zelezmut_saved_answer(uint64_t said) { return (uint32_t)(said >> 32); }
+static inline uint32_t zelezmut_saved_length(uint64_t said) { return (uint32_t)said; }
+static inline uint32_t zelezmut_loaded_answer(uint64_t said) { return (uint32_t)(said >> 32); }
+static inline uint32_t zelezmut_loaded_place(uint64_t said) { return (uint32_t)said; }
 
 /* The parts of what zelezmut_run and zelezmut_answer say. */
 static inline uint32_t zelezmut_ran_answer(uint64_t said) { return (uint8_t)said; }

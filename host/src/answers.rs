@@ -12,7 +12,9 @@ pub(crate) fn none_of_ours(what: &str, number: u64) -> ! {
     )
 }
 
-/// Why a call was refused. A refused call has changed no state and no byte of memory.
+/// Why a call was refused. A refused call has changed no state and no byte of what it was lent.
+///
+/// A load is refused in words of its own: [`BadFile`](crate::BadFile), call answer 7.
 #[derive(Clone, Copy, Debug, PartialEq, Eq, Hash)]
 pub enum Refused {
     /// The lent memory has another length than the desk was made for.
@@ -23,21 +25,31 @@ pub enum Refused {
     NothingWaits,
     /// No submission waits, or it has no record of this index.
     NoRecord,
+    /// The desk cannot be saved now: a submission is in work, from its opening to its settling.
+    InWork,
+    /// The lent buffer is too short for the saved desk.
+    TooShort,
+    /// The device has what a saved desk of form 1 has no field for: a token that was used since the last reset or load, a second name, or
+    /// an error detail that is not 0.
+    NotInForm,
     /// The host answered a submission that is over, and another one waits. This crate's own refusal, which has no number.
     StaleTicket,
 }
 
 impl Refused {
     /// Every reason, those with a number first, by rising number.
-    pub const ALL: [Refused; 5] = [
+    pub const ALL: [Refused; 8] = [
         Refused::OtherMemory,
         Refused::NoRegister,
         Refused::NothingWaits,
         Refused::NoRecord,
+        Refused::InWork,
+        Refused::TooShort,
+        Refused::NotInForm,
         Refused::StaleTicket,
     ];
 
-    /// The call answer of document 01, 1 to 4; `None` for [`Refused::StaleTicket`], which that document does not know.
+    /// The call answer of documents 01 and 02, 1 to 6 or 8; `None` for [`Refused::StaleTicket`], which they do not know.
     #[inline]
     pub fn number(self) -> Option<u32> {
         match self {
@@ -45,6 +57,9 @@ impl Refused {
             Refused::NoRegister => Some(2),
             Refused::NothingWaits => Some(3),
             Refused::NoRecord => Some(4),
+            Refused::InWork => Some(5),
+            Refused::TooShort => Some(6),
+            Refused::NotInForm => Some(8),
             Refused::StaleTicket => None,
         }
     }
@@ -75,6 +90,11 @@ impl fmt::Display for Refused {
             Refused::NoRegister => "no such register, or not readable or writable",
             Refused::NothingWaits => "no submission waits for the host's answer",
             Refused::NoRecord => "no such record, or no submission waits",
+            Refused::InWork => "a submission is in work, and only a desk at rest is saved",
+            Refused::TooShort => "the buffer is too short for the saved desk",
+            Refused::NotInForm => {
+                "form 1 has no field for a token that was used, a second name or an error's detail"
+            }
             Refused::StaleTicket => "the submission answered is over, and another one waits",
         })
     }
@@ -357,9 +377,11 @@ mod tests {
     use std::collections::HashSet;
 
     #[test]
-    fn call_answers_are_1_to_4() {
-        let numbers: Vec<Option<u32>> = Refused::ALL.iter().map(|r| r.number()).collect();
-        assert_eq!(numbers, [Some(1), Some(2), Some(3), Some(4), None]);
+    fn call_answers_are_1_to_6_and_8() {
+        let numbers: Vec<u32> = Refused::ALL.iter().filter_map(|r| r.number()).collect();
+        assert_eq!(numbers, [1, 2, 3, 4, 5, 6, 8]);
+        assert_eq!(Refused::StaleTicket.number(), None);
+        assert_eq!(Refused::ALL.len(), numbers.len() + 1);
         assert_eq!(Refused::from_answer(0), Ok(()));
         for refused in Refused::ALL {
             if let Some(number) = refused.number() {
@@ -408,9 +430,9 @@ mod tests {
     }
 
     #[test]
-    #[should_panic(expected = "no call answer of number 5")]
+    #[should_panic(expected = "no call answer of number 9")]
     fn another_call_answer_is_another_library() {
-        let _ = Refused::from_answer(5);
+        let _ = Refused::from_answer(9);
     }
 
     #[test]

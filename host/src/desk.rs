@@ -1,4 +1,6 @@
 //! The desk: the proved front with its state, as a Rust value with safe methods.
+mod saving;
+
 use crate::answers::{DeviceError, Ended, HostAnswer, Refused, Written};
 use crate::place::{write_error_at, Place};
 use crate::record::Record;
@@ -118,7 +120,7 @@ impl Desk {
         }
     }
 
-    /// The bytes of the guest memory that the desk was made for.
+    /// The bytes of the guest memory that the desk was made for, or that a loaded file said.
     #[inline]
     pub fn memory_len(&self) -> usize {
         self.state.memory() as usize
@@ -287,7 +289,7 @@ impl Desk {
         self.state.names()
     }
 
-    /// The tokens that were used since the last reset, in rising order, each beside the lowest name of the resource that it is bound to;
+    /// The tokens that were used since the last reset or load, in rising order, each beside the lowest name of the resource that it is bound to;
     /// `None` if it is spent: released, or its resource is gone. A submission in work has changed nothing here.
     pub fn tokens(&self) -> Vec<(u64, Option<u32>)> {
         self.state.tokens()
@@ -303,7 +305,7 @@ impl Desk {
         self.known(registers::IRQ_STATUS) & self.known(registers::IRQ_ENABLE) != 0
     }
 
-    /// The last error since the desk was made; a reset keeps it.
+    /// The last error since the desk was made; a reset keeps it, and a loaded file has its own, without the place.
     pub fn last_error(&self) -> Option<ErrorReport> {
         let error = DeviceError::from_front(self.known(registers::ERROR_CODE))?;
         Some(ErrorReport {

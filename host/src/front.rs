@@ -73,6 +73,21 @@ mod library {
             good: u32,
             allowance: u16,
         ) -> u64;
+        /// The length written, and 2^32 times the answer.
+        pub fn zelezmut_save(
+            words: &Words,
+            first: &Resources,
+            second: &Resources,
+            buffer: *mut u8,
+            len: usize,
+        ) -> u64;
+        /// The place that is bad, and 2^32 times the answer.
+        pub fn zelezmut_load(
+            words: &mut Words,
+            first: &mut Resources,
+            file: *const u8,
+            len: usize,
+        ) -> u64;
     }
 }
 
@@ -157,12 +172,17 @@ pub(crate) fn write(state: &mut State, offset: u32, value: u32) -> u32 {
     unsafe { library::zelezmut_write(&mut state.words, offset, value) }
 }
 
+/// An answer in the high half, and what stands beside it in the low one.
+#[inline]
+fn halves(said: u64) -> (u32, u32) {
+    ((said >> 32) as u32, said as u32)
+}
+
 /// The call's answer, and the register's value.
 #[inline]
 pub(crate) fn read(state: &State, offset: u32) -> (u32, u32) {
     // SAFETY: a reference and a number.
-    let said = unsafe { library::zelezmut_read(&state.words, offset) };
-    ((said >> 32) as u32, said as u32)
+    halves(unsafe { library::zelezmut_read(&state.words, offset) })
 }
 
 /// The three parts of the number that a call says which runs.
@@ -225,9 +245,40 @@ pub(crate) fn answer(state: &mut State, memory: &mut [u8], good: bool, allowance
     })
 }
 
+/// The call's answer, and how many bytes of the buffer are the saved desk.
+#[inline]
+pub(crate) fn save(state: &State, buffer: &mut [u8]) -> (u32, u32) {
+    // SAFETY: references; the buffer's own pointer and length.
+    halves(unsafe {
+        library::zelezmut_save(
+            &state.words,
+            &state.first,
+            &state.second,
+            buffer.as_mut_ptr(),
+            buffer.len(),
+        )
+    })
+}
+
+/// The call's answer, and the place in the file that is bad.
+#[inline]
+pub(crate) fn load(state: &mut State, file: &[u8]) -> (u32, u32) {
+    // SAFETY: references; the file's own pointer and length, and it is only read.
+    halves(unsafe {
+        library::zelezmut_load(
+            &mut state.words,
+            &mut state.first,
+            file.as_ptr(),
+            file.len(),
+        )
+    })
+}
+
 #[cfg(test)]
 mod fuzz;
 #[cfg(test)]
 mod resting;
+#[cfg(test)]
+mod saving;
 #[cfg(test)]
 mod tests;

@@ -91,6 +91,33 @@
 //!   forgets all of them.
 //! - [`Desk::names`] and [`Desk::tokens`] list what the device has, for a host that shows it or holds its own lists against it.
 //!
+//! # A desk that moves
+//!
+//! [`Desk::save`] gives a desk at rest as a file of at most [`LONGEST_SAVED_DESK`] bytes, and [`Desk::from_saved`] makes a desk of one, in
+//! another program or on another machine; [`Desk::load`] does so in a desk that there is. `docs/SAVED-DESK.md` publishes the form.
+//!
+//! ```
+//! use zelezmut::{Desk, Refused};
+//!
+//! let desk = Desk::new(4096);
+//! let file = match desk.save() {
+//!     Ok(file) => file,
+//!     Err(Refused::InWork) => todo!("run on, carry out and answer what waits, and save then"),
+//!     Err(refused) => panic!("it cannot be saved: {}", refused),
+//! };
+//! // Elsewhere: the file, and guest memory, which is not in it.
+//! let moved = Desk::from_saved(&file).unwrap_or_else(|bad| panic!("no saved desk: {}", bad));
+//! assert_eq!(moved, desk);
+//! ```
+//!
+//! - Guest memory is the host's to move, and so is what it keeps for resources. The loaded desk is for a memory of the length that it had.
+//! - A submission in work is not saved: [`Refused::InWork`]. What waits is answered first. What is only pending in the ring is guest memory.
+//! - Form 1 has no fields for tokens, second names and the error detail: [`Refused::NotInForm`] while there are any.
+//! - A file is judged field by field, and a [`BadFile`] says which is wrong. It comes from outside: no file makes a load panic.
+//! - A load ends what was before: tickets are used up, what was in work is gone, and nothing of it settles.
+//!
+//! `examples/saved_desk.rs` plays a night of which one half is played by another program: `cargo run --example saved_desk`.
+//!
 //! # What a host has to know
 //!
 //! - Memory is lent to [`Desk::run`] and [`Desk::answer`] as `&mut [u8]`: nobody else, no virtual processor either, may touch
@@ -108,8 +135,8 @@
 //! - A submission that breaks a rule ends within the run. [`Desk::last_error`] says which rule, and at which table entry or packet.
 //! - A call ends. One unit is one step (an opening, a table entry or a packet), and a run, behind an answer or by itself, takes no
 //!   more than its allowance.
-//! - No call panics on what a guest wrote, and none allocates once the desk is made, but for the two that give lists, [`Desk::names`] and
-//!   [`Desk::tokens`].
+//! - No call panics on what a guest wrote, and none allocates once the desk is made, but for those that give lists, [`Desk::names`],
+//!   [`Desk::tokens`] and [`Desk::save`]; [`Desk::save_into`] takes a lent buffer.
 //! - Desks compare by meaning: `==` of two that came to the same by different slices holds.
 //! - The static library is code for 64-bit Linux on x86-64, and a build for anything else is refused. `rt staticlib zelezmut` in
 //!   the project's root builds it, and so does `./play` there; the build script warns if it is missing. Checking and documentation
@@ -131,6 +158,7 @@ mod numbers;
 mod place;
 mod record;
 pub mod registers;
+mod saved;
 pub mod script;
 mod state;
 mod ticket;
@@ -139,4 +167,5 @@ pub use answers::{DeviceError, Ended, HostAnswer, RecordKind, Refused, UnknownKi
 pub use desk::{packed_size, table_error, Desk, ErrorReport, Ran, TableError};
 pub use place::Place;
 pub use record::{Range, Record, Rectangle};
+pub use saved::{BadFile, FileField, ResourceField, LONGEST_SAVED_DESK};
 pub use ticket::{Ticket, Waiting};

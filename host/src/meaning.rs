@@ -241,9 +241,10 @@ fn resource(row: &[u64]) -> [u64; RESOURCE_WORDS] {
 #[cfg(test)]
 mod tests {
     use super::*;
-    use crate::front::{answer, make, record, run, write};
+    use crate::front::{answer, make, record, run, save, write};
     use crate::numbers::Numbers;
     use crate::registers;
+    use crate::saved::LONGEST_SAVED_DESK;
 
     const MEMORY_BYTES: usize = 4096;
     const SMALL: [usize; 10] = [
@@ -474,6 +475,12 @@ mod tests {
         other.second_tokens[..most].copy_from_slice(&state.second_tokens[..most]);
     }
 
+    /// What a save says, and the buffer after it.
+    fn saved(state: &State) -> ((u32, u32), Vec<u8>) {
+        let mut buffer = vec![0; LONGEST_SAVED_DESK];
+        (save(state, &mut buffer), buffer)
+    }
+
     /// Calls of all kinds on two states that are the same in other words: they say the same, and leave what is the same.
     #[test]
     fn what_is_equal_is_the_same_to_every_call() {
@@ -489,6 +496,7 @@ mod tests {
             let mut beside = memory.clone();
             let [i, value] = [(); 2].map(|()| numbers.next() as u32);
             assert_eq!(record(&one, i), record(&other, i));
+            assert_eq!(saved(&one), saved(&other));
             let offset = registers::WRITABLE[value as usize % 9];
             let (good, allowance) = (value % 2 == 0, numbers.next() as u16);
             for which in [numbers.next() % 3, numbers.next() % 3] {

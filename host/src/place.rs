@@ -14,7 +14,8 @@ use std::fmt;
 /// ```
 #[derive(Clone, Copy, Debug, PartialEq, Eq, Hash)]
 pub enum Place {
-    /// At no entry and no packet: it was the ring, the descriptor, a header, the table's count of entries, or the host.
+    /// At no entry and no packet: it was the ring, the descriptor, a header, the table's count of entries, or the host. Or it is not
+    /// known: a loaded file may have a packet's error, and form 1 has no field for its place.
     Nowhere,
     /// At the table entry of this index; they count from 0.
     Entry(u32),
@@ -26,8 +27,8 @@ pub enum Place {
 impl Place {
     /// The place that an error and its detail tell of. The detail alone does not say: 0 is the first entry's too.
     ///
-    /// [`DeviceError::TooMany`] has two sources: a packet, which never stands at 0, and the table's count of entries, which has
-    /// no place.
+    /// No packet stands at 0. [`DeviceError::TooMany`] has two sources, a packet and the table's count of entries, and the second has no
+    /// place; beside the other errors of packets a desk has detail 0 only if a file said so.
     pub fn of(error: DeviceError, detail: u32) -> Place {
         match error {
             DeviceError::BadRing
@@ -37,7 +38,7 @@ impl Place {
             | DeviceError::BadStream
             | DeviceError::HostFailed => Place::Nowhere,
             DeviceError::BadEntry | DeviceError::TwiceInTable => Place::Entry(detail),
-            DeviceError::TooMany if detail == 0 => Place::Nowhere,
+            _ if detail == 0 => Place::Nowhere,
             DeviceError::BadPacket
             | DeviceError::BadHandle
             | DeviceError::TooMany
@@ -88,7 +89,7 @@ mod tests {
             for detail in [0, 1, 24, 40, u32::MAX] {
                 let expected = match (error.number(), detail) {
                     (14 | 15, _) => Place::Entry(detail),
-                    (10 | 11 | 12 | 13 | 16 | 27, _) | (19, 0) => Place::Nowhere,
+                    (10 | 11 | 12 | 13 | 16 | 27, _) | (_, 0) => Place::Nowhere,
                     _ => Place::Packet(detail),
                 };
                 assert_eq!(Place::of(error, detail), expected, "{:?}", error);

@@ -27,13 +27,16 @@ use std::fmt;
 const MAGIC: [u8; 4] = *b"DSK2";
 
 /// What [`encode`] says of itself: bit N for wish N. Nobody who plays a script asks for it.
-const WISHES: u32 = 1 << 2 | 1 << 5 | 1 << 6 | 1 << 7 | 1 << 9;
+const WISHES: u32 = 1 << 1 | 1 << 2 | 1 << 5 | 1 << 6 | 1 << 7 | 1 << 9;
 
 /// The most bytes that a script has.
 pub const LONGEST_SCRIPT: usize = 1 << 20;
 
 /// The most bytes that a script's memories have.
 pub const LONGEST_MEMORY: u32 = 1 << 16;
+
+/// The most bytes of a buffer that a script has a desk saved into.
+pub const LONGEST_BUFFER: u32 = 1 << 16;
 
 const POKE: u8 = 1;
 const WRITE: u8 = 2;
@@ -44,6 +47,8 @@ const ANSWER: u8 = 6;
 const STATE: u8 = 7;
 const RUN_ELSEWHERE: u8 = 8;
 const ANSWER_ELSEWHERE: u8 = 9;
+const SAVE: u8 = 10;
+const LOAD: u8 = 11;
 
 /// One operation of a script.
 #[derive(Clone, Debug, PartialEq, Eq)]
@@ -102,6 +107,16 @@ pub enum Operation {
         /// The other memory's bytes.
         length: u32,
     },
+    /// The host saves the desk, into a buffer in which every byte is AA (hex) before.
+    Save {
+        /// The buffer's bytes.
+        length: u32,
+    },
+    /// The host loads a desk. It may be one for another memory length than the script's memory has: nothing runs then.
+    Load {
+        /// What is to be a saved desk.
+        file: Vec<u8>,
+    },
 }
 
 /// Why a script cannot be played on. It ends the transcript with a line of its own.
@@ -113,6 +128,8 @@ pub enum Fault {
     NoMagic,
     /// A memory of so many bytes is asked for, more than [`LONGEST_MEMORY`].
     LongMemory(u32),
+    /// A buffer of so many bytes is asked for, more than [`LONGEST_BUFFER`].
+    LongBuffer(u32),
     /// It ends within its header or within an operation.
     Truncated,
     /// No operation has this tag.
@@ -123,7 +140,9 @@ impl Fault {
     /// The transcript's last line.
     pub fn line(self) -> String {
         match self {
-            Fault::LongScript | Fault::NoMagic | Fault::LongMemory(_) => "bad script".to_string(),
+            Fault::LongScript | Fault::NoMagic | Fault::LongMemory(_) | Fault::LongBuffer(_) => {
+                "bad script".to_string()
+            }
             Fault::Truncated => "truncated".to_string(),
             Fault::UnknownTag(tag) => format!("unknown tag {}", tag),
         }
@@ -146,6 +165,11 @@ impl fmt::Display for Fault {
                 f,
                 "a memory of {} bytes is asked for, more than {}",
                 length, LONGEST_MEMORY
+            ),
+            Fault::LongBuffer(length) => write!(
+                f,
+                "a buffer of {} bytes is asked for, more than {}",
+                length, LONGEST_BUFFER
             ),
             Fault::Truncated => write!(f, "the script is cut short"),
             Fault::UnknownTag(tag) => write!(f, "no operation has tag {}", tag),
@@ -208,15 +232,20 @@ fn memory_length(length: u32) -> Result<u32, Fault> {
     Ok(length)
 }
 
+fn buffer_length(length: u32) -> Result<u32, Fault> {
+    if length > LONGEST_BUFFER {
+        return Err(Fault::LongBuffer(length));
+    }
+    Ok(length)
+}
+
 /// The operation of this tag, whose fields stand at the front of the rest.
 fn operation(tag: u8, rest: &mut Reader<'_>) -> Result<Operation, Fault> {
     Ok(match tag {
-        POKE => {
-            let address = rest.u32()?;
-            let count = rest.u32()?;
-            let bytes = rest.take(count as usize)?.to_vec();
-            Operation::Poke { address, bytes }
-        }
+        POKE => Operation::Poke {
+            address: rest.u32()?,
+            bytes: rest.counted()?,
+        },
         WRITE => Operation::Write {
             offset: rest.u32()?,
             value: rest.u32()?,
@@ -241,6 +270,19 @@ fn operation(tag: u8, rest: &mut Reader<'_>) -> Result<Operation, Fault> {
             answer: rest.answer()?,
             allowance: rest.u16()?,
             length: memory_length(rest.u32()?)?,
+        },
+        _ => saving_operation(tag, rest)?,
+    })
+}
+
+/// Likewise, of the operations that came with saved desks.
+fn saving_operation(tag: u8, rest: &mut Reader<'_>) -> Result<Operation, Fault> {
+    Ok(match tag {
+        SAVE => Operation::Save {
+            length: buffer_length(rest.u32()?)?,
+        },
+        LOAD => Operation::Load {
+            file: rest.counted()?,
         },
         _ => return Err(Fault::UnknownTag(tag)),
     })
@@ -275,6 +317,12 @@ impl<'a> Reader<'a> {
         self.field().map(u32::from_le_bytes)
     }
 
+    /// A count, and so many bytes.
+    fn counted(&mut self) -> Result<Vec<u8>, Fault> {
+        let count = self.u32()?;
+        self.take(count as usize).map(<[u8]>::to_vec)
+    }
+
     fn answer(&mut self) -> Result<HostAnswer, Fault> {
         let [told] = self.field()?;
         Ok(if told == 1 {
@@ -288,7 +336,7 @@ impl<'a> Reader<'a> {
 /// Writes a script. What is longer than a script may be is written all the same, and is refused by whoever plays it.
 ///
 /// # Panics
-/// If a poke has 4 GiB or more, which no script can say.
+/// If a poke or a file to be loaded has 4 GiB or more, which no script can say.
 pub fn encode(memory: u32, operations: &[Operation]) -> Vec<u8> {
     let mut script = MAGIC.to_vec();
     script.extend(memory.to_le_bytes());
@@ -302,55 +350,58 @@ pub fn encode(memory: u32, operations: &[Operation]) -> Vec<u8> {
 fn encode_operation(script: &mut Vec<u8>, operation: &Operation) {
     match operation {
         Operation::Poke { address, bytes } => {
-            let count = u32::try_from(bytes.len()).expect("a poke of less than 4 GiB");
-            script.push(POKE);
-            script.extend(address.to_le_bytes());
-            script.extend(count.to_le_bytes());
-            script.extend(bytes);
+            put(
+                script,
+                POKE,
+                &[&address.to_le_bytes(), &count(bytes), bytes],
+            );
         }
         Operation::Write { offset, value } => {
-            script.push(WRITE);
-            script.extend(offset.to_le_bytes());
-            script.extend(value.to_le_bytes());
+            put(
+                script,
+                WRITE,
+                &[&offset.to_le_bytes(), &value.to_le_bytes()],
+            );
         }
-        Operation::Read { offset } => {
-            script.push(READ);
-            script.extend(offset.to_le_bytes());
-        }
-        Operation::Run { allowance } => {
-            script.push(RUN);
-            script.extend(allowance.to_le_bytes());
-        }
-        Operation::Record { index } => {
-            script.push(RECORD);
-            script.extend(index.to_le_bytes());
-        }
+        Operation::Read { offset } => put(script, READ, &[&offset.to_le_bytes()]),
+        Operation::Run { allowance } => put(script, RUN, &[&allowance.to_le_bytes()]),
+        Operation::Record { index } => put(script, RECORD, &[&index.to_le_bytes()]),
         Operation::Answer { answer, allowance } => {
-            script.extend([ANSWER, told(*answer)]);
-            script.extend(allowance.to_le_bytes());
+            put(script, ANSWER, &[&told(*answer), &allowance.to_le_bytes()]);
         }
-        Operation::State => script.push(STATE),
+        Operation::State => put(script, STATE, &[]),
         Operation::RunElsewhere { allowance, length } => {
-            script.push(RUN_ELSEWHERE);
-            script.extend(allowance.to_le_bytes());
-            script.extend(length.to_le_bytes());
+            let fields = [&allowance.to_le_bytes()[..], &length.to_le_bytes()];
+            put(script, RUN_ELSEWHERE, &fields);
         }
         Operation::AnswerElsewhere {
             answer,
             allowance,
             length,
         } => {
-            script.extend([ANSWER_ELSEWHERE, told(*answer)]);
-            script.extend(allowance.to_le_bytes());
-            script.extend(length.to_le_bytes());
+            let run = [&allowance.to_le_bytes()[..], &length.to_le_bytes()].concat();
+            put(script, ANSWER_ELSEWHERE, &[&told(*answer), &run]);
         }
+        Operation::Save { length } => put(script, SAVE, &[&length.to_le_bytes()]),
+        Operation::Load { file } => put(script, LOAD, &[&count(file), file]),
     }
 }
 
-fn told(answer: HostAnswer) -> u8 {
+/// A tag and the fields behind it.
+fn put(script: &mut Vec<u8>, tag: u8, fields: &[&[u8]]) {
+    script.push(tag);
+    script.extend(fields.concat());
+}
+
+fn count(bytes: &[u8]) -> [u8; 4] {
+    let count = u32::try_from(bytes.len()).expect("a poke or a file of less than 4 GiB");
+    count.to_le_bytes()
+}
+
+fn told(answer: HostAnswer) -> [u8; 1] {
     match answer {
-        HostAnswer::Good => 1,
-        HostAnswer::Failed => 0,
+        HostAnswer::Good => [1],
+        HostAnswer::Failed => [0],
     }
 }
 
@@ -390,6 +441,12 @@ mod tests {
                 allowance: 258,
                 length: 0,
             },
+            Operation::Save {
+                length: LONGEST_BUFFER,
+            },
+            Operation::Load {
+                file: vec![21, 0, 0, 0, 65],
+            },
         ]
     }
 
@@ -428,12 +485,16 @@ mod tests {
                 allowance,
                 length: 0x1234,
             },
+            Operation::Save { length: 0x1234 },
+            Operation::Load {
+                file: b"AGP".to_vec(),
+            },
         ];
         let bytes = encode(0x1234, &operations);
-        assert_eq!(bytes[..HEAD], *b"DSK2\x34\x12\x00\x00\xE4\x02\x00\x00");
+        assert_eq!(bytes[..HEAD], *b"DSK2\x34\x12\x00\x00\xE6\x02\x00\x00");
         assert_eq!(
             bytes[HEAD..],
-            *b"\x04\x06\x05\x06\x01\x06\x05\x09\x01\x06\x05\x34\x12\x00\x00"
+            *b"\x04\x06\x05\x06\x01\x06\x05\x09\x01\x06\x05\x34\x12\x00\x00\x0A\x34\x12\x00\x00\x0B\x03\x00\x00\x00AGP"
         );
     }
 
@@ -534,6 +595,30 @@ mod tests {
     }
 
     #[test]
+    fn buffers_have_at_most_64_kib_and_files_what_the_script_has() {
+        let [longest, longer] = [65_536, 65_537].map(|length| Operation::Save { length });
+        let bytes = encode(16, &[longest.clone(), longer]);
+        let longest = [longest];
+        let script = decode(&bytes);
+        assert_eq!(script.operations, longest);
+        assert_eq!(script.fault, Some(Fault::LongBuffer(65_537)));
+        assert_eq!(Fault::LongBuffer(65_537).line(), "bad script");
+        // Its length is judged once it is read.
+        for cut in 1..=4 {
+            let script = decode(&bytes[..bytes.len() - cut]);
+            assert_eq!(script.operations, longest);
+            assert_eq!(script.fault, Some(Fault::Truncated));
+        }
+        let load = [Operation::Load {
+            file: vec![7; 100_000],
+        }];
+        assert_eq!(decode(&encode(16, &load)).operations, load);
+        let mut promised = encode(16, &[]);
+        promised.extend([LOAD, 0xFF, 0xFF, 0xFF, 0xFF, 1, 2]);
+        assert_eq!(decode(&promised).fault, Some(Fault::Truncated));
+    }
+
+    #[test]
     fn a_script_has_at_most_1_mib() {
         let fill = |length: usize| {
             let header = encode(
@@ -553,14 +638,14 @@ mod tests {
 
     #[test]
     fn an_unknown_tag_ends_the_script() {
-        for tag in (0..=255).filter(|tag| !(1..=9).contains(tag)) {
+        for tag in (0..=255).filter(|tag| !(1..=11).contains(tag)) {
             let mut bytes = encode(16, &[Operation::State]);
             bytes.extend([tag, STATE]);
             let script = decode(&bytes);
             assert_eq!(script.operations, [Operation::State]);
             assert_eq!(script.fault, Some(Fault::UnknownTag(tag)));
         }
-        assert_eq!(Fault::UnknownTag(10).line(), "unknown tag 10");
+        assert_eq!(Fault::UnknownTag(12).line(), "unknown tag 12");
     }
 
     #[test]

@@ -7,7 +7,7 @@ use std::sync::atomic::{AtomicU64, Ordering};
 /// Names one submission that waits, or waited, at one desk. [`Desk::waiting`](crate::Desk::waiting) gives it, and
 /// [`Desk::answer`](crate::Desk::answer) asks for it.
 ///
-/// A ticket is used up by the answer and by a reset. No other submission ever has it: not at this desk, not at another one of this
+/// A ticket is used up by the answer, by a reset and by a load. No other submission ever has it: not at this desk, not at another one of this
 /// program, and not at a clone, which gives a ticket of its own to what waits there.
 #[derive(Clone, Copy, Debug, PartialEq, Eq, Hash)]
 pub struct Ticket {

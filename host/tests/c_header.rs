@@ -3,6 +3,7 @@ mod project;
 
 use project::{c_compiler, library_folder, said, started, Folder, Said};
 use std::path::Path;
+use zelezmut::{BadFile, Refused, LONGEST_SAVED_DESK};
 
 /// Calls the C compiler, with every warning an error.
 fn compile(words: &[&str]) -> Said {
@@ -35,6 +36,10 @@ fn the_c_example_plays_a_submission() {
          record 0: kind 1, handle 1, id 5, 256 bytes at 8256\n\
          record 1: kind 2, handle 1, id 5, 32 bytes at 8272\n\
          answer 0 1 idle\n\
+         fence 1\n\
+         save 0, 140 bytes\n\
+         load 7, byte 136\n\
+         load 0\n\
          fence 1\n"
     );
     assert_eq!(played.status, Some(0));
@@ -65,6 +70,47 @@ fn the_c_example_tells_a_library_of_another_layout() {
     assert!(played.all.starts_with("the library has layout 0x"));
     assert!(played.all.ends_with(": build the two from one tree\n"));
     assert_eq!(played.status, Some(1));
+}
+
+/// An array of one byte if the numbers are the same, else of a length that no array has.
+const LONGEST: &str = "#include \"zelezmut.h\"\n\
+    typedef char longest[ZELEZMUT_LONGEST_SAVED == LONGEST ? 1 : -1];\n";
+
+#[test]
+fn the_header_has_the_length_of_the_longest_file() {
+    let folder = Folder::new("c-longest");
+    for (length, good) in [(LONGEST_SAVED_DESK, true), (LONGEST_SAVED_DESK + 1, false)] {
+        folder.put("longest.c", LONGEST);
+        let [source, object] = ["longest.c", "longest.o"].map(|name| folder.path(name));
+        let built = compile(&[
+            &format!("-DLONGEST={}", length),
+            "-c",
+            source.to_str().expect("a path of text"),
+            "-o",
+            object.to_str().expect("a path of text"),
+        ]);
+        assert_eq!(built.good(), good, "{}", built.all);
+    }
+}
+
+/// The numbers of the call answers are those that refusals have in Rust.
+#[test]
+fn the_header_has_the_call_answers() {
+    let header = include_str!("../include/zelezmut.h");
+    for (refused, name) in [
+        (Refused::OtherMemory, "OTHER_MEMORY"),
+        (Refused::NoRegister, "NO_REGISTER"),
+        (Refused::NothingWaits, "NOTHING_WAITS"),
+        (Refused::NoRecord, "NO_RECORD"),
+        (Refused::InWork, "IN_WORK"),
+        (Refused::TooShort, "TOO_SHORT"),
+        (Refused::NotInForm, "NOT_IN_FORM"),
+    ] {
+        let number = number_behind(header, &format!(" ZELEZMUT_{} = ", name));
+        assert_eq!(Some(number as u32), refused.number(), "{}", name);
+    }
+    let bad = BadFile::GoesOn(92).number();
+    assert_eq!(number_behind(header, " ZELEZMUT_BAD_FILE = "), bad.into());
 }
 
 /// The number that stands behind these words.

@@ -10,10 +10,15 @@ use Rattle.registers.specs.Views.{Writes}
 use Rattle.device_calls.specs.Views.{valueOf, recordReadOf, Makes, Reads, GivesRecord}
 use Rattle.device_calls.specs.declared.ValueRead.{ValueRead}
 use Rattle.device_calls.specs.declared.RecordRead.{RecordRead}
+use Rattle.rules.specs.Saved.{call-save, call-load}
+use Rattle.saved_save.specs.Views.{savedOf, Saves}
+use Rattle.saved_save.specs.declared.FileSaved.{FileSaved}
+use Rattle.saved_load.specs.Views.{Loads}
+use Rattle.saved_load.specs.declared.FileLoaded.{FileLoaded}
 use Rattle.run_state.specs.Views.{lent}
 use Rattle.device_memory_calls.specs.Views.{Runs, Answers}
 use Rattle.device_memory_calls.specs.declared.Spent.{Spent}
-use Rattle.device.specs.Views.{stateOf, worldOf, wroteOf, ranOf}
+use Rattle.device.specs.Views.{stateOf, worldOf, wroteOf, ranOf, loadedOf}
 use Rattle.device.specs.declared.Device.{Device}
 
 pub is-made : (memory : ℕ) (s e a b ft st c : List ℕ) → Makes memory s → stateOf (record { words = s; entries = e; first = a; second = b; firsttokens = ft; secondtokens = st; records = c }) ≡ made memory
@@ -38,4 +43,11 @@ module _ (d : Device) where
       → ranOf (record { answer = x .answer; units = x .units; ended = x .ended; device = record { words = s′; entries = e′; first = a′; second = b′; firsttokens = ft′; secondtokens = st′; records = c′ } }) m′ ≡ call-answer (worldOf d m) good allowance
   answered m good allowance x s′ e′ a′ b′ ft′ st′ c′ m′ k = k .ran
 
-pub ruleset calling = (is-made, wrote, read, record-read, ran, answered, needs)
+  pub saved : (buffer buffer′ : List ℕ) (x : FileSaved) → Saves (d .words) (d .first) (d .second) buffer x buffer′ → savedOf x buffer′ ≡ call-save (stateOf d) buffer
+  saved buffer buffer′ x k = k .saves (d .entries) (d .firsttokens) (d .secondtokens) (d .records)
+
+  pub loaded : (file : List ℕ) (x : FileLoaded) (s′ a′ : List ℕ) → Loads file (d .words) (d .first) s′ a′ x
+      → loadedOf (record { answer = x .answer; place = x .place; device = record { words = s′; entries = d .entries; first = a′; second = d .second; firsttokens = d .firsttokens; secondtokens = d .secondtokens; records = d .records } }) ≡ call-load (stateOf d) file
+  loaded file x s′ a′ k = k .loads (d .entries) (d .second) (d .firsttokens) (d .secondtokens) (d .records)
+
+pub ruleset calling = (is-made, wrote, read, record-read, ran, answered, saved, loaded, needs)

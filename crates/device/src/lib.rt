@@ -4,11 +4,14 @@
 use device_calls::RecordRead;
 use device_calls::ValueRead;
 use rules::Ended;
+use saved_save::FileSaved;
 ghost use mathlib.Core.Path.{_≡_};
 ghost use Rattle.rules.specs.State.{made};
 ghost use Rattle.rules.specs.Calls.{call-write, call-read, call-run, call-record, call-answer};
+ghost use Rattle.rules.specs.Saved.{call-save, call-load};
 ghost use Rattle.device_calls.specs.Views.{valueOf, recordReadOf};
-ghost use Rattle.device.specs.Views.{stateOf, worldOf, wroteOf, ranOf};
+ghost use Rattle.saved_save.specs.Views.{savedOf};
+ghost use Rattle.device.specs.Views.{stateOf, worldOf, wroteOf, ranOf, loadedOf};
 
 // A device by value: its words, the entries kept, the two tables of resources, the two of tokens, and the records.
 pub struct Device {
@@ -32,6 +35,13 @@ pub struct Ran {
     pub answer: u32,
     pub units: u16,
     pub ended: Ended,
+    pub device: Device,
+}
+
+// What a load answers, the place of the first field or byte that is bad, and the device after it.
+pub struct Loaded {
+    pub answer: u32,
+    pub place: u32,
     pub device: Device,
 }
 
@@ -172,6 +182,44 @@ impl Device {
             answer: x.answer,
             units: x.units,
             ended,
+            device,
+        }
+    }
+
+    // Writes the device, at rest, into the lent buffer, in form 1 of a saved desk; says how many bytes those are.
+    pub fn save(self, buffer: &mut [u8]) -> FileSaved
+        ensures { λ r. ⌜ savedOf r (now (buffer .exit)) ≡ call-save (stateOf self) (now (buffer .entry)) ⌝ }
+    {
+        let words = self.words;
+        let first = self.first;
+        let second = self.second;
+        saved_save::save(&words, &first, &second, buffer)
+    }
+
+    // What a saved desk makes of the device, whatever it was; a bad file leaves it.
+    pub fn load(self, file: &[u8]) -> Loaded
+        ensures { λ r. ⌜ loadedOf r ≡ call-load (stateOf self) (now (file .entry)) ⌝ }
+    {
+        let mut words = self.words;
+        let entries = self.entries;
+        let mut first = self.first;
+        let second = self.second;
+        let firsttokens = self.firsttokens;
+        let secondtokens = self.secondtokens;
+        let records = self.records;
+        let x = saved_load::load(&mut words, &mut first, file);
+        let device = Device {
+            words,
+            entries,
+            first,
+            second,
+            firsttokens,
+            secondtokens,
+            records,
+        };
+        Loaded {
+            answer: x.answer,
+            place: x.place,
             device,
         }
     }

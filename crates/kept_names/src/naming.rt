@@ -1,4 +1,5 @@
 // The names of a resource: those that are left, and which of them is the lowest (02, wish 5).
+use kept_resources::resources::LOWEST;
 use kept_resources::resources::Resources;
 use kept_resources::resources::WORDS;
 use rules::Kind;
@@ -10,9 +11,6 @@ ghost use Rattle.rules.specs.Names.{shareable, rename, lowest-left};
 ghost use Rattle.rows.specs.Rows.{rowAt};
 ghost use Rattle.kept_resources.specs.Views.{resourcesOf};
 ghost use Rattle.kept_names.specs.Naming.{withRow, RenamesLeft};
-
-// The word of a row that has the lowest name.
-const LOWEST: usize = 11;
 
 // Whether a resource may have tokens, and several names: a texture with one mip and one layer.
 pub fn shareable(kind: Kind) -> bool

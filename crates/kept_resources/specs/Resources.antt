@@ -40,7 +40,13 @@ row-read l i a p y o w k e q r s t u =
     let base : getD (rowAt 12 l i) 0 0 ≡ getD l (12 * i) 0 = rw (row-field 12 l i 0 (omega arith), add-zero) in
     rw (e, q, r, s, t, u, base, kind-of-row l i, row-field 12 l i 2 (omega arith), row-field 12 l i 8 (omega arith), row-field 12 l i 9 (omega arith), row-field 12 l i 10 (omega arith), row-field 12 l i 11 (omega arith))
 
-pub ruleset reading-resource = (kind-buffer-at, kind-texture-at, row-read, needs)
+pub handle-read : (l : List ℕ) (i v : ℕ) → v ≡ getD l (12 * i) 0 % 4294967296 → v ≡ resourceOf (rowAt 12 l i) .handle
+handle-read l i v e = rw (row-field 12 l i 0 (omega arith), add-zero) e
+
+pub lowest-read : (l : List ℕ) (i v : ℕ) → v ≡ getD l (12 * i + 11) 0 % 4294967296 → v ≡ resourceOf (rowAt 12 l i) .lowest
+lowest-read l i v e = rw (row-field 12 l i 11 (omega arith)) e
+
+pub ruleset reading-resource = (kind-buffer-at, kind-texture-at, row-read, handle-read, lowest-read, needs)
 
 -- ---- find_resource
 

@@ -17,6 +17,9 @@ pub type Resources = [u64; 768];
 // The words of a resource.
 pub const WORDS: usize = 12;
 
+// The word of a row that has the lowest name.
+pub const LOWEST: usize = 11;
+
 pub const BUFFER: u64 = 0;
 
 // What the resource of a row is.
@@ -52,6 +55,22 @@ pub fn resource_row(resources: &Resources, i: usize) -> Resource
         offset: words::low32(resources[b + 10]),
         lowest: words::low32(resources[b + 11]),
     }
+}
+
+// The handle of row i.
+pub fn handle_at(resources: &Resources, i: usize) -> u32
+    requires { ⌜ i < most ⌝ }
+    ensures { λ r. ⌜ r ≡ resourceOf (rowAt 12 (now (resources .entry)) i) .handle ⌝ }
+{
+    words::low32(resources[WORDS * i])
+}
+
+// The lowest name of the resource of row i.
+pub fn lowest_at(resources: &Resources, i: usize) -> u32
+    requires { ⌜ i < most ⌝ }
+    ensures { λ r. ⌜ r ≡ resourceOf (rowAt 12 (now (resources .entry)) i) .lowest ⌝ }
+{
+    words::low32(resources[WORDS * i + LOWEST])
 }
 
 // The place of the live resource that has a handle, or `live`.

@@ -2,6 +2,7 @@
 // What cannot be played on ends the transcript with a line that says why.
 mod lines;
 mod operations;
+mod saved;
 mod script;
 mod state;
 

@@ -1,8 +1,11 @@
 // The operations of a desk script: each reads its fields, calls the device and prints its line.
 // One whose fields are cut short does nothing and prints nothing.
 use crate::lines::say_answer;
+use crate::saved::load;
+use crate::saved::save;
 use crate::script::ANSWER;
 use crate::script::ANSWER_ELSEWHERE;
+use crate::script::LOAD;
 use crate::script::LONGEST_MEMORY;
 use crate::script::Next;
 use crate::script::POKE;
@@ -10,6 +13,7 @@ use crate::script::READ;
 use crate::script::RECORD;
 use crate::script::RUN;
 use crate::script::RUN_ELSEWHERE;
+use crate::script::SAVE;
 use crate::script::STATE;
 use crate::script::WRITE;
 use crate::script::u16_at;
@@ -241,6 +245,7 @@ fn answer_elsewhere(device: Device, fields: &[u8]) -> Played {
 fn look(tag: u8, device: Device, memory: &[u8], fields: &[u8]) -> Next {
     match tag {
         READ => read_register(device, fields),
+        SAVE => save(device, fields),
         RECORD => record(device, fields),
         STATE => {
             say_state(device, memory);
@@ -262,6 +267,7 @@ pub fn operation(tag: u8, device: Device, memory: &mut [u8], fields: &[u8]) -> P
         ANSWER => answer(device, memory, fields),
         RUN_ELSEWHERE => run_elsewhere(device, fields),
         ANSWER_ELSEWHERE => answer_elsewhere(device, fields),
+        LOAD => load(device, fields),
         _ => Played {
             device,
             next: look(tag, device, memory, fields),

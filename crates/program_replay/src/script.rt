@@ -37,6 +37,10 @@ pub const RUN_ELSEWHERE: u8 = 8;
 
 pub const ANSWER_ELSEWHERE: u8 = 9;
 
+pub const SAVE: u8 = 10;
+
+pub const LOAD: u8 = 11;
+
 // ---- operations
 
 // How an operation went: played, with the bytes taken after its tag; or the script ends here.

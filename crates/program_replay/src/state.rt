@@ -45,7 +45,8 @@ fn with_byte(h: u64, byte: u8) -> u64 {
     times_prime(h ^ byte as u64)
 }
 
-fn hash(memory: &[u8]) -> u64 {
+// The FNV-1a hash of some bytes.
+pub fn hash(memory: &[u8]) -> u64 {
     let mut h = HASH_START;
     let mut i: usize = 0;
     while i < memory.len() {

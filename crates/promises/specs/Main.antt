@@ -1,7 +1,7 @@
 -- What is promised, in the user's words and order: ten statements about the calls that a host makes, and those of wishes that have landed. `Call`,
 -- `after` and what a call reports are in Called.antt; the calls' own definitions in rules/specs/Calls.antt are what the code's contracts cite. All
 -- else in this crate serves these. Assumes nothing.
-use mathlib.Core.Path.{_≡_, refl, ap, _∙_}
+use mathlib.Core.Path.{_≡_, refl, ap, _∙_, sym, subst}
 use mathlib.Core.Bool.{Bool, true, false}
 use mathlib.Core.List.{List, []}
 use mathlib.Core.Logic.{_⊎_}
@@ -9,8 +9,8 @@ use native.Mathlib.Omega.{arith}
 use Rattle.machine.specs.Machine.{pick, run-none, run-stop}
 use Prim.Native.Nat.{ℕ, _^_, _≤_, _<_}
 use lib.Ieee.{lt}
-use lib.ListN.{length}
-use Rattle.rules.specs.Numbers.{done, no-record, host-failed, clips, bad-handle, bad-state, too-many, most as most-records, set-target, set-viewport, set-scissor, clear as clear-opcode, export-surface, import-surface, release-token}
+use lib.ListN.{length, take}
+use Rattle.rules.specs.Numbers.{done, no-record, host-failed, clips, bad-handle, bad-state, too-many, most as most-records, set-target, set-viewport, set-scissor, clear as clear-opcode, export-surface, import-surface, release-token, bad-file, in-work, not-in-form, too-short}
 use Rattle.rules.specs.Ring.{opening-of}
 use Rattle.rules.specs.Table.{entries-of}
 use Rattle.rules.specs.Layouts.{stream-header-size, target-fields, viewport-floats, viewport-fields, scissor-fields, clear-floats, clear-fields, word, long, export-fields, import-fields, release-fields}
@@ -26,8 +26,8 @@ use Rattle.rules.specs.State.Work.{resting, packets, waiting}
 use Rattle.rules.specs.Settle.{settled, settled-keeping}
 use Rattle.rules.specs.Steps.{go, step, waits-on, waits, answered}
 use Rattle.rules.specs.Unsliced.{Submission, submission, finished, submitted-on}
-use Rattle.rules.specs.Calls.{lent-another, ending, Ran, ran, Answered, valued, record-read, handed-out, no-range, call-write, call-read, call-run, call-record, answer-alone, call-answer}
-use Rattle.rules.specs.Lists.{Found, nth}
+use Rattle.rules.specs.Calls.{lent-another, ending, Ran, ran, Answered, valued, record-read, handed-out, no-range, call-write, call-read, call-run, call-record, answer-alone, call-answer, at-rest}
+use Rattle.rules.specs.Lists.{Found, nth, over}
 use Rattle.rules.specs.Lists.Found.{none, found}
 use Rattle.rules.specs.declared.Ended.the-variants.{Idle, Paused}
 use Rattle.rules.specs.declared.Entry.{Entry}
@@ -72,7 +72,7 @@ use Rattle.promises_of_submissions.specs.LentBytes.{OfBytes}
 use Rattle.promises.specs.Places.{OfAnEntry, OfAPacket, sizes-fit, settling-tells, TellsWhere, each-settling-tells-where}
 use Rattle.promises.specs.UnslicedPlaces.{unsliced-tells-where}
 use Rattle.promises_of_units.specs.Bytes.{WrittenBy, calls-write}
-use Rattle.promises_of_units.specs.Ranges.{InOneEntry, ranges-at-the-record-call, kinds-at-the-record-call}
+use Rattle.promises_of_units.specs.Ranges.{InOneEntry, ranges-at-the-record-call, kinds-at-the-record-call, called-sound}
 use Rattle.promises_of_packets.specs.Held.{Every, OfAKind, LiveTexture, TargetLives, refused-packet-keeps-progress, SoundProgress}
 use Rattle.promises_of_submissions.specs.LocalPackets.{framed-is-read}
 use Rattle.promises_of_submissions.specs.FloatBits.{judged-state, ViewportCarried, ClearCarried, bad-viewport-words, bad-clear-words, not-finite-viewport, not-finite-clear, viewport-is-carried, clear-is-carried, viewport-judged-by-its-words, clear-judged-by-its-words}
@@ -86,6 +86,17 @@ use Rattle.promises_of_sharing.specs.SharedPackets.{ExportPacket, ImportPacket,
 use Rattle.promises_of_sharing.specs.TokensOverCalls.{CalledOn, tokens-go-on-between-resets, a-reset-forgets-the-tokens, a-failed-submission-leaves-the-tokens, at-most-256-tokens, shared-is-one-mip-one-layer, bound-is-one-mip-one-layer, what-is-held-is-sound}
 use Rattle.promises_of_submissions.specs.Clipping.{Scissored, accepted-scissor-is-clipped}
 use Rattle.promises_of_submissions.specs.Locality.{lent, SameWhereRead, SameRun, run-of-one-reads-only}
+use Rattle.rules.specs.Saved.{file-rules, bad-place, loaded, call-save, call-load, saved, not-saved, beyond-form-1, Loaded}
+use Rattle.promises_of_units.specs.Called.Called.{loads}
+use Rattle.promises_of_units.specs.Sound.{SoundState}
+use Rattle.promises_of_units.specs.LoadedSound.{loaded-sound}
+use Rattle.promises_of_saving.specs.Savable.{Fits, Savable}
+use Rattle.promises_of_saving.specs.SameDevice.{SameDevice}
+use Rattle.promises_of_saving.specs.FirstBroken.{FirstBroken, Kept}
+use Rattle.promises_of_saving.specs.Refusals.{refused-exactly, refused-load-leaves-the-device, SaveDone, SaveRefused, SaveWritten, save-done-exactly, refused-save-leaves-the-buffer, done-save-keeps-later-bytes, save-in-work, save-not-in-form, save-too-short, loaded-exactly, loaded-or-refused, kept-is-good, load-of-good}
+use Rattle.promises_of_saving.specs.Places.{reported-place-is-in-the-file}
+use Rattle.promises_of_saving.specs.SaveOfLoad.{equal-devices-equal-files, load-then-save}
+use Rattle.promises_of_saving.specs.LoadOfSave.{LoadedBack, load-of-save}
 
 -- ---- demand 1
 
@@ -519,3 +530,82 @@ pub record Leaves (w : World) : Type 0 where
 pub when-tokens-are-left-and-when-forgotten : (w : World) → Leaves w
 when-tokens-are-left-and-when-forgotten w =
     record { forgotten = a-reset-forgets-the-tokens (w .state); refused = unit-keeps-belongings w; failed = a-failed-submission-leaves-the-tokens w }
+
+-- ---- wish 1: a desk that can be saved
+
+-- what soundness says of every device that was made, called or loaded; that its numbers fit the fields of a file is so of all that stand in words
+called-is-savable : (s : State) → Called s → Fits s → Savable s
+called-is-savable s k fits =
+    let sound : SoundState s = called-sound s k in
+    record {
+      error = sound .error;
+      few = sound .belongings .resources .few;
+      some = sound .belongings .resources .some;
+      once = sound .belongings .resources .once;
+      created = sound .belongings .resources .created;
+      fits = fits;
+    }
+
+-- "the device at rest written into a lent buffer and read back elsewhere": what was saved is loaded as the same device, whatever the device it is
+-- loaded into was: the same memory length, registers and flag, the same resources by their handles, no token, nothing in work
+pub a-saved-desk-is-read-back-elsewhere : (s : State) → Called s → Fits s → (buffer : List ℕ) → call-save s buffer .answer ≡ done
+    → (t : State) → LoadedBack s (call-load t (take (call-save s buffer .length) (call-save s buffer .buffer)))
+a-saved-desk-is-read-back-elsewhere s k fits = load-of-save s (called-is-savable s k fits)
+
+-- "Saving while a submission is in work answers 5; then a buffer too short answers 6; both leave it untouched. It gives the length and keeps later
+-- bytes." And by wish 5, "Saving in form 1 answers 8 (after 5, before 6)".
+pub record Saving (s : State) (buffer : List ℕ) : Type 0 where
+  pub five : at-rest (s .work) ≡ false → call-save s buffer ≡ not-saved in-work buffer
+  pub eight : at-rest (s .work) ≡ true → beyond-form-1 s ≡ true → call-save s buffer ≡ not-saved not-in-form buffer
+  pub six : at-rest (s .work) ≡ true → beyond-form-1 s ≡ false → length buffer < length (saved s) → call-save s buffer ≡ not-saved too-short buffer
+  pub done-when : (call-save s buffer .answer ≡ done → SaveDone s buffer) × (SaveDone s buffer → call-save s buffer .answer ≡ done)
+  pub untouched : (call-save s buffer .answer ≡ done → ⊥) → SaveRefused s buffer
+  pub later-bytes : call-save s buffer .answer ≡ done → SaveWritten s buffer
+
+pub when-a-desk-is-saved : (s : State) (buffer : List ℕ) → Saving s buffer
+when-a-desk-is-saved s buffer =
+    record {
+      five = save-in-work s buffer;
+      eight = save-not-in-form s buffer;
+      six = save-too-short s buffer;
+      done-when = save-done-exactly s buffer;
+      untouched = refused-save-leaves-the-buffer s buffer;
+      later-bytes = done-save-keeps-later-bytes s buffer;
+    }
+
+-- "Loading answers 7, device unchanged, exactly when a field is missing or breaks a rule, or a byte follows the last .. It gives the offset of the first
+-- such field .. or byte": the list of rules is `file-rules`
+pub record Loading (s : State) (b : List ℕ) : Type 0 where
+  pub bad-when : (call-load s b .answer ≡ bad-file → FirstBroken (file-rules b) (call-load s b .place)) × ((p : ℕ) → FirstBroken (file-rules b) p → call-load s b ≡ record { answer = bad-file; place = p; state = s })
+  pub unchanged : call-load s b .answer ≡ bad-file → call-load s b .state ≡ s
+  pub in-the-file : call-load s b .answer ≡ bad-file → call-load s b .place ≤ length b
+  -- and else the device is what the file says, whatever it was
+  pub good-when : (call-load s b .answer ≡ done → Every Kept (file-rules b)) × (Every Kept (file-rules b) → call-load s b ≡ record { answer = done; place = 0; state = loaded b })
+  pub either : (call-load s b .answer ≡ done) ⊎ (call-load s b .answer ≡ bad-file)
+
+pub when-a-file-is-loaded : (s : State) (b : List ℕ) → Loading s b
+when-a-file-is-loaded s b =
+    record {
+      bad-when = refused-exactly s b;
+      unchanged = refused-load-leaves-the-device s b;
+      in-the-file = reported-place-is-in-the-file s b;
+      good-when = loaded-exactly s b;
+      either = loaded-or-refused s b;
+    }
+
+-- and a good file and the device that it says are one thing in two forms: saving what was loaded gives the same bytes, and two files of the same device
+-- are equal
+pub what-was-loaded-is-saved-again : (s : State) (b : List ℕ) → OfBytes b → call-load s b .answer ≡ done → (buffer : List ℕ) → length b ≤ length buffer
+    → call-save (call-load s b .state) buffer ≡ record { answer = done; length = length b; buffer = over 0 b buffer }
+what-was-loaded-is-saved-again = load-then-save
+
+pub one-device-has-one-file : (b c : List ℕ) → OfBytes b → OfBytes c → bad-place b ≡ none → bad-place c ≡ none → SameDevice (loaded b) (loaded c) → b ≡ c
+one-device-has-one-file = equal-devices-equal-files
+
+-- "Demands 2 and 3 read from the loaded state on": the statements above are of any device, or of any that is `Called`. A device that was loaded is so, and
+-- it is sound
+pub demands-read-from-the-loaded-state-on : (s : State) (b : List ℕ) → call-load s b .answer ≡ done
+    → Called (call-load s b .state) × SoundState (call-load s b .state)
+demands-read-from-the-loaded-state-on s b d =
+    let good : bad-place b ≡ none = kept-is-good b (loaded-exactly s b .0 d) in
+    subst (λ (l : Loaded). Called (l .state) × SoundState (l .state)) (sym (load-of-good s b good)) (loads b good, loaded-sound b good)

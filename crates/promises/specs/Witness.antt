@@ -206,7 +206,7 @@ awaiting-is-sound : SoundState (awaiting .state)
 unfolding after asking
 awaiting-is-sound =
     subst (λ (w : World). SoundState (w .state)) (two-guests .run-accepted)
-    (run-call-keeps-sound (asking 1) 65535 (record { belongings = made-sound 248 .belongings; work = made-sound 248 .work }))
+    (run-call-keeps-sound (asking 1) 65535 (record { belongings = made-sound 248 .belongings; work = made-sound 248 .work; error = made-sound 248 .error }))
 
 awaiting-lies : Lies (awaiting .state)
 unfolding after asking

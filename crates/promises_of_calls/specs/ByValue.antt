@@ -1,19 +1,24 @@
 -- The calls of the device by value, as a layer: each is a method of `Device` that was called, with what its contract says of what it handed
 -- back. Assumes nothing.
-use mathlib.Core.Path.{_≡_, refl, ap}
+use mathlib.Core.Path.{_≡_, refl, sym, ap, _∙_}
 use mathlib.Core.Bool.{Bool}
 use mathlib.Core.List.{List}
 use Prim.Native.Nat.{ℕ}
 use Rattle.rules.specs.State.{World, made}
 use Rattle.rules.specs.Calls.{Wrote as WroteBy, Value, Ran as RanBy, RecordRead as RecordReadBy, call-write, call-read, call-run, call-record, call-answer}
+use Rattle.rules.specs.Numbers.{done}
+use Rattle.rules.specs.Lists.Found.{none}
+use Rattle.rules.specs.Saved.{bad-place, loaded, Loaded as LoadedBy, call-load}
 use Rattle.run_state.specs.Views.{worldIn}
 use Rattle.device_calls.specs.Views.{valueOf, recordReadOf}
 use Rattle.device_calls.specs.declared.ValueRead.{ValueRead}
 use Rattle.device_calls.specs.declared.RecordRead.{RecordRead}
-use Rattle.device.specs.Views.{stateOf, worldOf, wroteOf, ranOf}
+use Rattle.device.specs.Views.{stateOf, worldOf, wroteOf, ranOf, loadedOf}
 use Rattle.device.specs.declared.Device.{Device}
 use Rattle.device.specs.declared.Wrote.{Wrote}
 use Rattle.device.specs.declared.Ran.{Ran}
+use Rattle.device.specs.declared.Loaded.{Loaded}
+use Rattle.promises_of_saving.specs.Refusals.{load-of-good, kept-is-good, loaded-exactly}
 use Rattle.promises_of_units.specs.Called.{Call, after}
 use Rattle.promises_of_units.specs.Called.Call.{writes, reads, runs, records, answers}
 use Rattle.promises_of_submissions.specs.Locality.{lent}
@@ -31,6 +36,20 @@ pub data Gives (d : Device) (m : List ℕ) : Call → Reply → Device → List 
 -- `Device::new` handed it back
 abbrev pub Makes : ℕ → Device → Type 0
 Makes memory d = stateOf d ≡ made memory
+
+-- `Device::load` of this file handed it back, of whatever device, and answered 0
+pub record Loads (b : List ℕ) (d : Device) : Type 0 where
+  pub before : Device
+  pub reply : Loaded
+  pub loads : loadedOf reply ≡ call-load (stateOf before) b
+  pub answered : reply .answer ≡ done
+  pub leaves : reply .device ≡ d
+
+-- the file is good, and the device is what it says
+pub loads-loaded : (b : List ℕ) (d : Device) → Loads b d → (bad-place b ≡ none) × (stateOf d ≡ loaded b)
+loads-loaded b d k =
+    let good : bad-place b ≡ none = kept-is-good b (loaded-exactly (stateOf (k .before)) b .0 (sym (ap (λ (l : LoadedBy). l .answer) (k .loads)) ∙ k .answered)) in
+    (good, sym (ap stateOf (k .leaves)) ∙ (ap (λ (l : LoadedBy). l .state) (k .loads) ∙ ap (λ (l : LoadedBy). l .state) (load-of-good (stateOf (k .before)) b good)))
 
 -- its reply is the rules' reply
 pub gives-reply : (d : Device) (m : List ℕ) (c : Call) (r : Reply) (d′ : Device) (m′ : List ℕ) → Gives d m c r d′ m′ → r ≡ reply-to c (lent (stateOf d) m)
@@ -55,10 +74,10 @@ unfolding reply-to
 reply-answers good n w = refl
 
 -- a layer whose devices are such structs and whose calls are calls of the device by value: what was made, what was called, and why both are so
-abbrev pub layer-of : (Made : ℕ → Device → Type 0) (Called : Device → List ℕ → Call → Reply → Device → List ℕ → Type 0)
-    → ((memory : ℕ) (d : Device) → Made memory d → Makes memory d)
+abbrev pub layer-of : (Made : ℕ → Device → Type 0) (Load : List ℕ → Device → Type 0) (Called : Device → List ℕ → Call → Reply → Device → List ℕ → Type 0)
+    → ((memory : ℕ) (d : Device) → Made memory d → Makes memory d) → ((b : List ℕ) (d : Device) → Load b d → Loads b d)
     → ((d : Device) (m : List ℕ) (c : Call) (r : Reply) (d′ : Device) (m′ : List ℕ) → Called d m c r d′ m′ → Gives d m c r d′ m′) → Layer
-layer-of Made Called is-made is-called =
+layer-of Made Load Called is-made is-loaded is-called =
     record {
       Device = Device;
       state = stateOf;
@@ -68,15 +87,17 @@ layer-of Made Called is-made is-called =
       answered = λ r. r .answer;
       record-read = λ r. record { answer = r .answer; range = r .range };
       Makes = Made;
+      Loads = Load;
       Gives = Called;
       units-read = λ c w. refl;
       answered-as = λ good n w. reply-answers good n w;
       record-read-as = λ i r. refl;
       makes-made = is-made;
+      loads-loaded = λ b d k. loads-loaded b d (is-loaded b d k);
       gives-reply = λ d m c r d′ m′ k. gives-reply d m c r d′ m′ (is-called d m c r d′ m′ k);
       gives-world = λ d m c r d′ m′ k. gives-world d m c r d′ m′ (is-called d m c r d′ m′ k);
     }
 
 -- the layer
 abbrev pub by-value : Layer
-by-value = layer-of Makes Gives (λ memory d k. k) (λ d m c r d′ m′ k. k)
+by-value = layer-of Makes Loads Gives (λ memory d k. k) (λ b d k. k) (λ d m c r d′ m′ k. k)

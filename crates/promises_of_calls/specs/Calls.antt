@@ -13,7 +13,7 @@ use Rattle.rules.specs.Steps.{go}
 use Rattle.rules.specs.Calls.{RecordRead, call-run, call-record, call-answer}
 use Rattle.promises_of_units.specs.Called.{Call, after, units-of, taken-by, Called}
 use Rattle.promises_of_units.specs.Called.Call.{writes, reads, runs, records, answers}
-use Rattle.promises_of_units.specs.Called.Called.{makes, calls}
+use Rattle.promises_of_units.specs.Called.Called.{makes, loads, calls}
 use Rattle.promises_of_units.specs.Acts.{Act, in-a-row, acts-of}
 use Rattle.promises_of_units.specs.Acts.Act.{write, answer}
 use Rattle.promises_of_units.specs.Ranges.{InOneEntry, ranges-at-the-record-call}
@@ -109,11 +109,15 @@ call-is-the-rules {L} {c} k =
 -- any calls, each lent any memory at all, of whatever length
 pub data MadeAndCalled (L : Layer) : L .Device → Type 0 where
   made-one : {d : L .Device} (memory : ℕ) → L .Makes memory d → MadeAndCalled L d
+  -- or, in place of being made, loaded from a good file
+  loaded-one : {d : L .Device} (b : List ℕ) → L .Loads b d → MadeAndCalled L d
   called-one : {d d′ : L .Device} (m m′ : List ℕ) (c : Call) (x : L .Said) → L .Gives d m c x d′ m′ → MadeAndCalled L d → MadeAndCalled L d′
 
 -- its state is one that the rules' calls lead to
 pub made-and-called : (L : Layer) (d : L .Device) → MadeAndCalled L d → Called (L .state d)
 made-and-called L d (made-one memory k) = subst Called (sym (L .makes-made memory d k)) (makes memory)
+made-and-called L d (loaded-one b k) =
+    let l = L .loads-loaded b d k in subst Called (sym (l .1)) (loads b (l .0))
 made-and-called L d (called-one {d = b} m m′ c x k earlier) =
     subst (λ (w : World). Called (w .state)) (sym (L .gives-world b m c x d m′ k)) (calls c m (made-and-called L b earlier))
 

@@ -1,11 +1,14 @@
 -- The exports, as a layer: a host's words and tables are those of a `Device`, and what a call says stands in the number that it returns, and
 -- for a record in five words. Assumes nothing.
-use mathlib.Core.Path.{_≡_, refl, ap, _∙_}
+use mathlib.Core.Path.{_≡_, refl, sym, ap, _∙_}
 use mathlib.Core.Bool.{Bool}
 use mathlib.Core.List.{List, []}
 use Prim.Native.Nat.{ℕ, _+_, _*_, _/_, _%_, _≤_}
 use native.Mathlib.Omega.{arith}
 use lib.ListN.{getD}
+use Rattle.rules.specs.Numbers.{done}
+use Rattle.rules.specs.Lists.Found.{none}
+use Rattle.rules.specs.Saved.{bad-place, loaded, Loaded, call-load}
 use Rattle.rules.specs.State.{World}
 use Rattle.rules.specs.Calls.{ended-number, Ran, call-run, call-record, call-answer}
 use Rattle.rules.specs.declared.Record.{Record}
@@ -17,13 +20,14 @@ use Rattle.device_calls.specs.Views.{Makes}
 use Rattle.device.specs.Views.{stateOf}
 use Rattle.device.specs.Calling.{is-made}
 use Rattle.device.specs.declared.Device.{Device}
-use Rattle.zelezmut.specs.Said.{saidValue, recordWords, SaysValue, SaysRun, SaysAnswer, SaysRecord}
+use Rattle.zelezmut.specs.Said.{saidValue, recordWords, SaysValue, SaysRun, SaysAnswer, SaysRecord, SaysLoaded}
+use Rattle.promises_of_saving.specs.Refusals.{load-of-good, kept-is-good, loaded-exactly}
 use Rattle.promises_of_units.specs.Called.{Call, after}
 use Rattle.promises_of_units.specs.Called.Call.{writes, reads, runs, records, answers}
 use Rattle.promises_of_units.specs.Runs.{of-run, of-answer}
 use Rattle.promises_of_submissions.specs.Locality.{lent}
 use Rattle.promises_of_calls.specs.Layers.{Reply, reply-to, Layer}
-use Rattle.promises_of_calls.specs.OverLent.{with-words, lent-of, over-lent}
+use Rattle.promises_of_calls.specs.OverLent.{with-words, lent-of, over-lent, with-loaded}
 use Rattle.promises_of_calls.specs.OverLent.Gives.{lent-write}
 
 -- the number that an export returns, and the words that it says a record in
@@ -114,6 +118,26 @@ gives-world d m c x d′ m′ (zelezmut-run allowance n e n′ k) = k .world
 gives-world d m c x d′ m′ (zelezmut-record i n words k) = refl
 gives-world d m c x d′ m′ (zelezmut-answer good allowance n e n′ k) = k .world
 
+-- `zelezmut_load` of this file was lent words and tables, whatever stood there, left these, and the number that it returned has 0 for its answer
+pub record LoadsSaid (b : List ℕ) (d : Device) : Type 0 where
+  pub before : Device
+  pub said : ℕ
+  pub loads : SaysLoaded (before .words) (before .first) b said (d .words) (d .first)
+  pub answered : said / 4294967296 ≡ done
+  pub leaves : with-loaded (d .words) (d .first) before ≡ d
+
+-- the file is good, and the device is what it says
+pub loads-loaded : (b : List ℕ) (d : Device) → LoadsSaid b d → (bad-place b ≡ none) × (stateOf d ≡ loaded b)
+loads-loaded b d k =
+    let old : Device = k .before in
+    let place = k .loads .place (old .entries) (old .second) (old .firsttokens) (old .secondtokens) (old .records) in
+    let zero : call-load (stateOf old) b .answer ≡ done = omega (arith, place, k .answered) in
+    let good : bad-place b ≡ none = kept-is-good b (loaded-exactly (stateOf old) b .0 zero) in (
+      good,
+      sym (ap stateOf (k .leaves))
+          ∙ (k .loads .state (old .entries) (old .second) (old .firsttokens) (old .secondtokens) (old .records) ∙ ap (λ (l : Loaded). l .state) (load-of-good (stateOf old) b good)),
+    )
+
 -- the layer
 abbrev pub exports : Layer
 exports =
@@ -126,11 +150,13 @@ exports =
       answered = λ x. x .number % 256;
       record-read = λ x. record { answer = x .number; range = range-in (x .words) };
       Makes = λ memory d. Makes memory (d .words);
+      Loads = LoadsSaid;
       Gives = Gives;
       units-read = units-read;
       answered-as = answered-read;
       record-read-as = λ i r. refl;
       makes-made = λ memory d k. is-made memory (d .words) (d .entries) (d .first) (d .second) (d .firsttokens) (d .secondtokens) (d .records) k;
+      loads-loaded = loads-loaded;
       gives-reply = gives-reply;
       gives-world = gives-world;
     }

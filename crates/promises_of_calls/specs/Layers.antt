@@ -9,6 +9,8 @@ use Rattle.machine.specs.Machine.{pick}
 use Rattle.rules.specs.Numbers.{done}
 use Rattle.rules.specs.State.{State, World, made}
 use Rattle.rules.specs.Calls.{no-range, RecordRead, call-write, call-read, call-run, call-record, call-answer}
+use Rattle.rules.specs.Lists.Found.{none}
+use Rattle.rules.specs.Saved.{bad-place, loaded}
 use Rattle.rules.specs.declared.Record.{Record}
 use Rattle.rules.specs.declared.Ended.{Ended}
 use Rattle.rules.specs.declared.Ended.the-variants.{Idle}
@@ -73,6 +75,8 @@ pub record Layer : Type 1 where
   pub record-read : Said → RecordRead
   -- this device was made for a memory of so many bytes
   pub Makes : ℕ → Device → Type 0
+  -- this device is what a load of this file left, and the load answered 0
+  pub Loads : List ℕ → Device → Type 0
   -- this call was made of a device that was lent a memory: what it said, and the device and the memory that it left
   pub Gives : Device → List ℕ → Call → Said → Device → List ℕ → Type 0
   -- and so the contracts say of each what the rules say
@@ -80,6 +84,7 @@ pub record Layer : Type 1 where
   pub answered-as : (good : Bool) (n : ℕ) (w : World) → answered (said (answers good n) (reply-to (answers good n) w)) ≡ call-answer w good n .answer
   pub record-read-as : (i : ℕ) (r : Reply) → record-read (said (records i) r) ≡ record { answer = r .answer; range = r .range }
   pub makes-made : (memory : ℕ) (d : Device) → Makes memory d → state d ≡ made memory
+  pub loads-loaded : (b : List ℕ) (d : Device) → Loads b d → (bad-place b ≡ none) × (state d ≡ loaded b)
   pub gives-reply : (d : Device) (m : List ℕ) (c : Call) (x : Said) (d′ : Device) (m′ : List ℕ) → Gives d m c x d′ m′ → x ≡ said c (reply-to c (lent (state d) m))
   pub gives-world : (d : Device) (m : List ℕ) (c : Call) (x : Said) (d′ : Device) (m′ : List ℕ) → Gives d m c x d′ m′ → lent (state d′) m′ ≡ after c (lent (state d) m)
 

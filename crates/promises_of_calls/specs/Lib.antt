@@ -5,4 +5,5 @@ pub mod Exports
 pub mod Calls
 pub mod Chains
 pub mod Contracts
+pub mod Saving
 pub mod Examples

@@ -1,8 +1,10 @@
 -- The calls over state that a host lends, as a layer: the words and tables are those of a `Device`, and each call works on those that it is
 -- lent. Every such call is one of the device by value. Assumes nothing.
+use mathlib.Core.Path.{_≡_}
 use mathlib.Core.List.{List}
 use mathlib.Core.Bool.{Bool}
 use Prim.Native.Nat.{ℕ}
+use Rattle.rules.specs.Numbers.{done}
 use Rattle.run_state.specs.Views.{Lent, lent as lending}
 use Rattle.registers.specs.Views.{Writes}
 use Rattle.device_calls.specs.Views.{Makes, Reads, GivesRecord}
@@ -10,12 +12,14 @@ use Rattle.device_calls.specs.declared.ValueRead.{ValueRead}
 use Rattle.device_calls.specs.declared.RecordRead.{RecordRead}
 use Rattle.device_memory_calls.specs.Views.{Runs, Answers}
 use Rattle.device_memory_calls.specs.declared.Spent.{Spent}
-use Rattle.device.specs.Calling.{is-made, wrote, read, record-read, ran, answered}
+use Rattle.saved_load.specs.Views.{Loads as LoadsOver}
+use Rattle.saved_load.specs.declared.FileLoaded.{FileLoaded}
+use Rattle.device.specs.Calling.{is-made, wrote, read, record-read, ran, answered, loaded}
 use Rattle.device.specs.declared.Device.{Device}
 use Rattle.promises_of_units.specs.Called.{Call}
 use Rattle.promises_of_units.specs.Called.Call.{writes, reads, runs, records, answers}
 use Rattle.promises_of_calls.specs.Layers.{Reply, answering, showing, spending, handing, Layer}
-use Rattle.promises_of_calls.specs.ByValue.{Gives as GivesByValue, layer-of}
+use Rattle.promises_of_calls.specs.ByValue.{Gives as GivesByValue, Loads, layer-of}
 use Rattle.promises_of_calls.specs.ByValue.Gives.{write-gives, read-gives, run-gives, record-gives, answer-gives}
 
 -- the same tables under other words
@@ -47,8 +51,30 @@ is-by-value {d} {m} (lent-answer good n x d′ m′ k) =
     answer-gives good n (record { answer = x .answer; units = x .units; ended = x .ended; device = d′ }) m′
     (answered d m good n x (d′ .words) (d′ .entries) (d′ .first) (d′ .second) (d′ .firsttokens) (d′ .secondtokens) (d′ .records) m′ k)
 
+-- the same tables under other words, with another first table of resources
+abbrev pub with-loaded : List ℕ → List ℕ → Device → Device
+with-loaded s a d = record { words = s; entries = d .entries; first = a; second = d .second; firsttokens = d .firsttokens; secondtokens = d .secondtokens; records = d .records }
+
+-- a load of this file was lent words and tables, whatever stood there, left these, and answered 0
+pub record LoadsLent (b : List ℕ) (d : Device) : Type 0 where
+  pub before : Device
+  pub reply : FileLoaded
+  pub loads : LoadsOver b (before .words) (before .first) (d .words) (d .first) reply
+  pub answered : reply .answer ≡ done
+  pub leaves : with-loaded (d .words) (d .first) before ≡ d
+
+pub lent-load-is-by-value : (b : List ℕ) (d : Device) → LoadsLent b d → Loads b d
+lent-load-is-by-value b d k =
+    record {
+      before = k .before;
+      reply = record { answer = k .reply .answer; place = k .reply .place; device = with-loaded (d .words) (d .first) (k .before) };
+      loads = loaded (k .before) b (k .reply) (d .words) (d .first) (k .loads);
+      answered = k .answered;
+      leaves = k .leaves;
+    }
+
 -- the layer
 abbrev pub over-lent : Layer
 over-lent =
-    layer-of (λ memory d. Makes memory (d .words)) Gives
-    (λ memory d k. is-made memory (d .words) (d .entries) (d .first) (d .second) (d .firsttokens) (d .secondtokens) (d .records) k) (λ d m c r d′ m′ k. is-by-value k)
+    layer-of (λ memory d. Makes memory (d .words)) LoadsLent Gives
+    (λ memory d k. is-made memory (d .words) (d .entries) (d .first) (d .second) (d .firsttokens) (d .secondtokens) (d .records) k) (λ b d k. lent-load-is-by-value b d k) (λ d m c r d′ m′ k. is-by-value k)

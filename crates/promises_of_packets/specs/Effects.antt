@@ -14,10 +14,10 @@ use Rattle.rules.specs.Lists.{Found, lookup}
 use Rattle.rules.specs.Lists.Found.{none, found}
 use Rattle.rules.specs.Judging.{refusal}
 use Rattle.rules.specs.Names.{token-of, shareable, with-lowest, under, names-left, tokens-left, names-with, tokens-with, of-another, is-new, with-token, without-token}
-use Rattle.rules.specs.Shapes.{packed-size}
+use Rattle.rules.specs.Shapes.{good-shape, good-backed, packed-size, tight}
 use Rattle.rules.specs.StatePackets.{bad-viewport, bad-clear, bad-sides, clip-of}
 use Rattle.rules.specs.Table.{matching}
-use Rattle.rules.specs.Packets.{Holdings, Outcome, accepted, refuse, full, live, is-live, on-live, on-kind, on-buffer, on-entry, backed, range-of, recorded, hand-out, stored, create-hosted, create-backed, create, on-buffer-packet, on-texture-packet, on-destroy-packet, on-dirty-packet, write-back, on-copy-packet, live-texture, on-texture, on-target-packet, on-viewport-packet, on-clear-packet, on-scissor-packet, without, on-export-packet, bound, on-bound, on-import-packet, on-release-packet, apply, Progress, Passed, passed, target-after, tokens-after, pass}
+use Rattle.rules.specs.Packets.{Holdings, Outcome, accepted, refuse, full, live, is-live, on-live, on-kind, on-buffer, on-entry, backed, range-of, recorded, hand-out, stored, create-hosted, create-backed, create, resource-of, on-buffer-packet, on-texture-packet, on-destroy-packet, on-dirty-packet, write-back, on-copy-packet, live-texture, on-texture, on-target-packet, on-viewport-packet, on-clear-packet, on-scissor-packet, without, on-export-packet, bound, on-bound, on-import-packet, on-release-packet, apply, Progress, Passed, passed, target-after, tokens-after, pass}
 use Rattle.rules.specs.declared.Entry.{Entry}
 use Rattle.rules.specs.declared.Resource.{Resource}
 use Rattle.rules.specs.declared.Shape.{Shape}
@@ -36,38 +36,69 @@ use Rattle.rules.specs.declared.Kind.{Kind}
 use Rattle.rules.specs.declared.Kind.the-variants.{Buffer as BufferKind, Texture as TextureKind}
 use Rattle.rules.specs.declared.Packet.{Packet}
 use Rattle.rules.specs.declared.Packet.the-variants.{Buffer, Texture, Destroy, Dirty, Copy, Target, Viewport, Scissor, Clear, Export, Import, Release, NotANumber, Unknown}
+use Rattle.rule_laws.specs.Fine.{both-left, both-right}
+use Rattle.rule_laws.specs.Created.{BytesOf, ShapeOf, AsCreated}
 
--- ---- the bytes that a resource keeps
+-- ---- a resource as create leaves it
 
-abbrev BytesOf : Kind → Resource → Type 0
-BytesOf BufferKind r = r .bytes ≡ 0 → ⊥
-BytesOf (TextureKind s) r = r .bytes ≡ pick (backed (r .backing)) (packed-size s (r .pitch)) 0
-
--- they are those of its kind: a buffer has some, a backed texture its packed size, a host-backed one none
-abbrev pub KeepsBytes : Resource → Type 0
-KeepsBytes r = BytesOf (r .kind) r
-
--- by whichever name
-pub bytes-by-any-name : (k n : ℕ) (r : Resource) → KeepsBytes r → KeepsBytes (with-lowest n (under k r))
-bytes-by-any-name k n r = by-kind (r .kind)
+-- is so by whichever name
+pub created-by-any-name : (k n : ℕ) (r : Resource) → AsCreated r → AsCreated (with-lowest n (under k r))
+created-by-any-name k n r a = record { bytes = same-bytes (r .kind) (a .bytes); shape = same-shape (r .kind) (a .shape); offset = a .offset }
   where
-    by-kind : (kind : Kind) → BytesOf kind r → BytesOf kind (with-lowest n (under k r))
-    by-kind BufferKind h = h
-    by-kind (TextureKind s) h = h
+    same-bytes : (kind : Kind) → BytesOf kind r → BytesOf kind (with-lowest n (under k r))
+    same-bytes BufferKind h = h
+    same-bytes (TextureKind s) h = h
+
+    same-shape : (kind : Kind) → ShapeOf kind r → ShapeOf kind (with-lowest n (under k r))
+    same-shape BufferKind h = h
+    same-shape (TextureKind s) h = h
 
 -- a pitch that is kept for a backed texture alone is asked for by a backed texture alone
 pitch-kept : (b : Bool) (s : Shape) (pitch : ℕ) → pick b (packed-size s pitch) 0 ≡ pick b (packed-size s (pick b pitch 0)) 0
 pitch-kept true s pitch = refl
 pitch-kept false s pitch = refl
 
+-- and is good where the packet's rules are kept
+pitch-good : (b : Bool) (s : Shape) (pitch : ℕ) → pick b (good-backed s pitch) (good-shape s) ≡ true
+    → (good-shape s ≡ true) × (pick b (leb (tight s 0) (pick b pitch 0)) (eqb (pick b pitch 0) 0) ≡ true)
+unfolding good-backed
+pitch-good true s pitch h = (both-left (good-shape s) _ h, both-right (good-shape s) _ h)
+pitch-good false s pitch h = (h, refl)
+
+-- a number that is kept for a backed resource alone is 0 for another
+kept-if-backed : (b : Bool) (n : ℕ) → b ≡ false → pick b n 0 ≡ 0
+kept-if-backed true n e = absurd (let z : _≡_ {A = ℕ} 0 1 = cc in omega arith)
+kept-if-backed false n e = refl
+
+no-pitch : (b : Bool) → pick {A = ℕ} b 0 0 ≡ 0
+no-pitch true = refl
+no-pitch false = refl
+
+pub buffer-created : (handle size backing offset : ℕ) → not (eqb size 0) ≡ true → AsCreated (resource-of handle BufferKind size 0 backing offset)
+buffer-created handle size backing offset g =
+    record {
+      bytes = eqb-false size 0 (not-true (eqb size 0) g);
+      shape = no-pitch (backed backing);
+      offset = kept-if-backed (backed backing) offset;
+    }
+
+pub texture-created : (handle : ℕ) (s : Shape) (pitch backing offset : ℕ) → pick (backed backing) (good-backed s pitch) (good-shape s) ≡ true
+    → AsCreated (resource-of handle (TextureKind s) (pick (backed backing) (packed-size s pitch) 0) pitch backing offset)
+texture-created handle s pitch backing offset g =
+    record {
+      bytes = pitch-kept (backed backing) s pitch;
+      shape = pitch-good (backed backing) s pitch g;
+      offset = kept-if-backed (backed backing) offset;
+    }
+
 -- ---- what the rules know
 
--- a new resource: its handle is not 0 and was not live, there was room, it keeps its bytes, and that handle is its only name
+-- a new resource: its handle is not 0 and was not live, there was room, it is as create leaves it, and that handle is its only name
 pub record Fresh (h : Holdings) (r : Resource) : Type 0 where
   pub some : r .handle ≡ 0 → ⊥
   pub unused : live (r .handle) h ≡ none
   pub room : length (h .resources) < most
-  pub bytes : KeepsBytes r
+  pub created : AsCreated r
   pub own : r .lowest ≡ r .handle
 
 -- a range of a resource, inside its entry, of one of the three kinds of range, and there was room for its record
@@ -147,7 +178,7 @@ module _ (P : Outcome → Type 0) (h : Holdings) (refuses : (r : Refusal) → P 
   module _ (es : List Entry)
       (stores : (r : Resource) → Fresh h r → P (accepted (stored r h)))
       (backs-up : (r : Resource) (e : Entry) → Fresh h r → InRange es h backs r e 0 (r .bytes) → P (accepted (recorded (range-of backs r e 0 (r .bytes)) (stored r h)))) where
-    create-or : (good : Bool) (r : Resource) → r .lowest ≡ r .handle → (good ≡ true → KeepsBytes r) → P (create es h good r)
+    create-or : (good : Bool) (r : Resource) → r .lowest ≡ r .handle → (good ≡ true → AsCreated r) → P (create es h good r)
     unfolding create create-hosted create-backed
     create-or good r own keep =
         refuse-or bad-handle (eqb (r .handle) 0 || is-live (live (r .handle) h)) _ (λ a.
@@ -155,17 +186,17 @@ module _ (P : Outcome → Type 0) (h : Holdings) (refuses : (r : Refusal) → P 
         let two = neither (eqb (r .handle) 0) (is-live (live (r .handle) h)) a in
         let some : r .handle ≡ 0 → ⊥ = eqb-false (r .handle) 0 (two .0) in
         let unused : live (r .handle) h ≡ none = unlive (live (r .handle) h) (two .1) in
-        let bytes : KeepsBytes r = keep (not-false good b) in
+        let created : AsCreated r = keep (not-false good b) in
         pick-or (backed (r .backing)) _ _
         (λ _. entry-or (matching (r .backing) es) _ (λ e m.
         refuse-or past-entry (ltb (e .size) (r .offset + r .bytes)) _ (λ i.
         refuse-or too-many (full (h .resources)) _ (λ f.
         refuse-or too-many (full (h .records)) _ (λ g.
         let fits : r .offset + r .bytes ≤ e .size = ltb-false (e .size) (r .offset + r .bytes) i in
-        backs-up r e (record { some = some; unused = unused; room = leb-false most (length (h .resources)) f; bytes = bytes; own = own })
+        backs-up r e (record { some = some; unused = unused; room = leb-false most (length (h .resources)) f; created = created; own = own })
         (record { entry = m; inside = omega arith; room = leb-false most (length (h .records)) g; low = omega arith; high = omega arith }))))))
         (λ _. refuse-or too-many (full (h .resources)) _ (λ f.
-        stores r (record { some = some; unused = unused; room = leb-false most (length (h .resources)) f; bytes = bytes; own = own })))))
+        stores r (record { some = some; unused = unused; room = leb-false most (length (h .resources)) f; created = created; own = own })))))
 
   module _ (es : List Entry) (keeps : P (accepted h))
       (hands : (kind : ℕ) (r : Resource) (e : Entry) (from size : ℕ) → InRange es h kind r e from size → P (accepted (recorded (range-of kind r e from size) h))) where
@@ -300,9 +331,9 @@ module _ (P : Passed → Type 0) (es : List Entry) (h : Progress)
   pub pass-or : (p : Packet) → P (pass es h p)
   unfolding pass apply target-after tokens-after on-buffer-packet on-texture-packet on-viewport-packet on-clear-packet
   pass-or (Buffer c) =
-      create-or (Of (Buffer c)) (h .holdings) refuses es stores backs-up _ _ refl (λ g. eqb-false (c .size) 0 (not-true (eqb (c .size) 0) g))
+      create-or (Of (Buffer c)) (h .holdings) refuses es stores backs-up _ _ refl (buffer-created (c .handle) (c .size) (c .backing) (c .offset))
   pass-or (Texture c) =
-      create-or (Of (Texture c)) (h .holdings) refuses es stores backs-up _ _ refl (λ _. pitch-kept (backed (c .backing)) (c .shape) (c .pitch))
+      create-or (Of (Texture c)) (h .holdings) refuses es stores backs-up _ _ refl (texture-created (c .handle) (c .shape) (c .pitch) (c .backing) (c .offset))
   pass-or (Destroy c) =
       destroy-or (Of (Destroy c)) (h .holdings) refuses c (λ r e. rw e (removes (c .handle) r e))
   pass-or (Dirty c) = dirty-or (Of (Dirty c)) (h .holdings) refuses es keeps hands c

@@ -1,5 +1,5 @@
 -- What is true of a submission's resources, records, target and tokens, whatever packets came: names are non-zero and each once, at most 64 of
--- them and of records, every resource keeps the bytes of its kind, every record of a range lies inside the one entry with its id, the target is a
+-- them and of records, every resource is as create leaves it, every record of a range lies inside the one entry with its id, the target is a
 -- live texture, and names and tokens are sound (SoundNames.antt). Assumes nothing.
 use mathlib.Core.Path.{_≡_, refl, sym, ap, subst, _∙_}
 use mathlib.Core.Bool.{Bool, true, false, _||_}
@@ -32,7 +32,8 @@ use Rattle.rules.specs.declared.Frame.the-variants.{Whole, Misframed}
 use Rattle.rules.specs.declared.Packet.{Packet}
 use Rattle.rules.specs.declared.Verdict.the-variants.{Fine, Broken}
 use Rattle.rows.specs.Keys.{same-or-not, lookup-here, lookup-later, Once, once-nil, once-pushed, once-removed, lookup-nil, lookup-pushed-other, lookup-removed-other, length-removed}
-use Rattle.promises_of_packets.specs.Effects.{KeepsBytes, bytes-by-any-name, Fresh, InRange, Imported, pass-or}
+use Rattle.rule_laws.specs.Created.{AsCreated}
+use Rattle.promises_of_packets.specs.Effects.{created-by-any-name, Fresh, InRange, Imported, pass-or}
 use Rattle.promises_of_packets.specs.Names.{none-not-found, found-same, found-place, in-found, moved, lookup-rename, length-rename, once-rename}
 use Rattle.promises_of_packets.specs.SoundNames.{SoundNames, no-names, SoundTokens, no-tokens, names-stored, tokens-stored, name-after-destroy, names-destroyed, tokens-destroyed-sound, BoundTo, bound-is, sound-bound, names-imported, tokens-imported-sound, tokens-exported-sound, tokens-released-sound}
 
@@ -122,14 +123,14 @@ pub record SoundResources (rs : List Resource) : Type 0 where
   pub once : Once handle-of rs
   -- none is 0
   pub some : lookup handle-of 0 rs ≡ none
-  -- each keeps the bytes of its kind
-  pub bytes : Every KeepsBytes rs
+  -- each is as create leaves it: its shape and pitch good, its bytes those of its kind
+  pub created : Every AsCreated rs
   -- which of them are one resource
   pub names : SoundNames rs
 
 -- no resources are sound
 pub none-sound : SoundResources []
-none-sound = record { few = omega arith; once = once-nil handle-of; some = lookup-nil handle-of 0; bytes = every-none KeepsBytes; names = no-names }
+none-sound = record { few = omega arith; once = once-nil handle-of; some = lookup-nil handle-of 0; created = every-none AsCreated; names = no-names }
 
 -- what a device has of its own
 pub record SoundBelongings (b : Belongings) : Type 0 where
@@ -201,25 +202,25 @@ module _ (k : ℕ) where
 
 -- ---- another lowest name is nothing to all this
 
-every-renamed : (old new : ℕ) (rs : List Resource) → Every KeepsBytes rs → Every KeepsBytes (rename old new rs)
+every-renamed : (old new : ℕ) (rs : List Resource) → Every AsCreated rs → Every AsCreated (rename old new rs)
 unfolding Every rename
 every-renamed old new [] h = h
-every-renamed old new (r ∷ rs) h = (bytes-by-any-name (r .handle) (renamed old new (r .lowest)) r (h .0), every-renamed old new rs (h .1))
+every-renamed old new (r ∷ rs) h = (created-by-any-name (r .handle) (renamed old new (r .lowest)) r (h .0), every-renamed old new rs (h .1))
 
-module _ (old new : ℕ) (rs : List Resource) (few : length rs ≤ most) (once : Once handle-of rs) (some : lookup handle-of 0 rs ≡ none) (bytes : Every KeepsBytes rs) where
+module _ (old new : ℕ) (rs : List Resource) (few : length rs ≤ most) (once : Once handle-of rs) (some : lookup handle-of 0 rs ≡ none) (created : Every AsCreated rs) where
   renamed-sound : SoundNames (rename old new rs) → SoundResources (rename old new rs)
   renamed-sound n =
       record {
         few = rw (length-rename old new rs) few;
         once = once-rename old new rs once;
         some = lookup-rename old new 0 rs ∙ ap (in-found (moved old new)) some;
-        bytes = every-renamed old new rs bytes;
+        created = every-renamed old new rs created;
         names = n;
       }
 
   pub left-or-renamed : (b : Bool) → SoundNames (pick b (rename old new rs) rs) → SoundResources (pick b (rename old new rs) rs)
   left-or-renamed true n = renamed-sound n
-  left-or-renamed false n = record { few = few; once = once; some = some; bytes = bytes; names = n }
+  left-or-renamed false n = record { few = few; once = once; some = some; created = created; names = n }
 
 -- ---- kept by every packet
 
@@ -236,7 +237,7 @@ module _ (es : List Entry) (h : Progress) (s : SoundProgress es h) where
         few = simp length-append (omega (arith, f .room));
         once = once-pushed handle-of (held .resources) r (sound .resources .once) (f .unused);
         some = lookup-pushed-other handle-of 0 (held .resources) r (f .some) ∙ sound .resources .some;
-        bytes = every-pushed KeepsBytes (held .resources) r (sound .resources .bytes) (f .bytes);
+        created = every-pushed AsCreated (held .resources) r (sound .resources .created) (f .created);
         names = names-stored (held .resources) (sound .resources .names) r (f .unused) (f .own);
       }
 
@@ -287,7 +288,7 @@ module _ (es : List Entry) (h : Progress) (s : SoundProgress es h) where
         (lookup-removed-other handle-of k 0 place (held .resources) (sound .resources .once) refl here
         (λ z. none-not-found r (sym (sound .resources .some) ∙ (ap (λ n. live n held) z ∙ e)))
         ∙ sound .resources .some)
-        (every-removed KeepsBytes place (held .resources) (sound .resources .bytes))
+        (every-removed AsCreated place (held .resources) (sound .resources .created))
         (shareable (r .kind))
         (names-destroyed (held .resources) (sound .resources .once) (sound .resources .some) (sound .resources .names) k r e)
 
@@ -304,7 +305,7 @@ module _ (es : List Entry) (h : Progress) (s : SoundProgress es h) where
         (simp length-append (omega (arith, i .room)))
         (once-pushed handle-of (held .resources) (under k r) (sound .resources .once) (i .unused))
         (lookup-pushed-other handle-of 0 (held .resources) (under k r) (i .some) ∙ sound .resources .some)
-        (every-pushed KeepsBytes (held .resources) (under k r) (sound .resources .bytes) (bytes-by-any-name k (r .lowest) r (every-found KeepsBytes handle-of (r .lowest) (held .resources) r (its .lowest) (sound .resources .bytes))))
+        (every-pushed AsCreated (held .resources) (under k r) (sound .resources .created) (created-by-any-name k (r .lowest) r (every-found AsCreated handle-of (r .lowest) (held .resources) r (its .lowest) (sound .resources .created))))
         (names-imported (held .resources) (sound .resources .names) k (i .unused) r (its .lowest) (its .shape))
 
     imported-tokens : SoundTokens (names-with k r (held .resources)) (tokens-with k r (h .tokens))

@@ -1,4 +1,5 @@
--- What a host does with a device: calls, one after the other. Every statement about calls is about these. Assumes nothing.
+-- What a host does with a device: calls, one after the other. Every statement about calls is about these; save and load, which are lent no memory and run nothing, stand in promises_of_saving. Assumes nothing.
+use mathlib.Core.Path.{_≡_}
 use mathlib.Core.Bool.{Bool, false}
 use mathlib.Core.List.{List, [], _∷_, _++_}
 use Prim.Native.Nat.{ℕ, _+_}
@@ -7,6 +8,8 @@ use Rattle.machine.specs.Machine.{pick}
 use Rattle.rules.specs.Numbers.{done}
 use Rattle.rules.specs.State.{State, World, made, with-state}
 use Rattle.rules.specs.Calls.{call-write, call-run, call-answer}
+use Rattle.rules.specs.Lists.Found.{none}
+use Rattle.rules.specs.Saved.{bad-place, loaded}
 use Rattle.promises_of_units.specs.Writes.{resets}
 
 -- the five calls: write and read a register, run for an allowance, ask for a record, answer and run for an allowance
@@ -62,7 +65,9 @@ is-reset (runs n) = false
 is-reset (records i) = false
 is-reset (answers good n) = false
 
--- a device that was made and called: any calls, each lent any memory at all. A later way to come to a device is one more case.
+-- a device that was made, or loaded from a file that no rule refuses (02, wish 1), and called: any calls, each lent any memory at all. "Demands 2 and 3
+-- read from the loaded state on": what was before a load plays no part, so a load in the midst is one at the beginning.
 pub data Called : State → Type 0 where
   makes : (memory : ℕ) → Called (made memory)
+  loads : (b : List ℕ) → bad-place b ≡ none → Called (loaded b)
   calls : {s : State} (c : Call) (m : List ℕ) → Called s → Called (after c (record { state = s; mem = m }) .state)

@@ -20,12 +20,13 @@ use Rattle.rules.specs.Calls.{lent-another, wrote, call-write, Ran, call-run, c
 use Rattle.rules.specs.declared.Entry.{Entry}
 use Rattle.rules.specs.declared.Job.{Job}
 use Rattle.rules.specs.declared.Registers.{Registers}
+use Rattle.rules.specs.Saved.{bad-place, loaded}
 use Rattle.promises_of_units.specs.Writes.{resets, Written, write-keeps-or-drops}
 use Rattle.promises_of_units.specs.Writes.Written.{keeps, drops}
 use Rattle.promises_of_units.specs.Runs.{of-run, of-answer, taken-and-run}
 use Rattle.promises_of_units.specs.Refused.{refused-run-changes-nothing, refused-answer-changes-nothing, refused-write-changes-nothing}
 use Rattle.promises_of_units.specs.Called.{Call, after, after-all, Called}
-use Rattle.promises_of_units.specs.Called.Called.{makes, calls}
+use Rattle.promises_of_units.specs.Called.Called.{makes, loads, calls}
 use Rattle.promises_of_units.specs.Called.Call.{writes, reads, runs, records, answers}
 use Rattle.promises_of_units.specs.Units.{Unit, unit}
 use Rattle.promises_of_units.specs.Units.Unit.{works-on, finds-bad-ring, finds-no-work, settles}
@@ -152,12 +153,18 @@ calls-have-events (c ∷ cs) w =
     let later : (es : List Event) × History (after c w) cs es (after-all cs (after c w)) = calls-have-events cs (after c w) in
     (here .0 ++ later .0, next-call (here .1) (later .1))
 
-pub called-has-life : (s : State) → Called s → (memory : ℕ) × (cs : List Call) × (es : List Event) × Life (made memory) cs es s
-called-has-life s (makes memory) = (memory, [], [], begins)
+-- a device as it was made, or as it was loaded
+pub data Begun : State → Type 0 where
+  was-made : (memory : ℕ) → Begun (made memory)
+  was-loaded : (b : List ℕ) → bad-place b ≡ none → Begun (loaded b)
+
+pub called-has-life : (s : State) → Called s → (first : State) × Begun first × (cs : List Call) × (es : List Event) × Life first cs es s
+called-has-life s (makes memory) = (made memory, was-made memory, [], [], begins)
+called-has-life s (loads b good) = (loaded b, was-loaded b good, [], [], begins)
 called-has-life s (calls {s = t} c m k) =
-    let before : (memory : ℕ) × (cs : List Call) × (es : List Event) × Life (made memory) cs es t = called-has-life t k in
+    let before : (first : State) × Begun first × (cs : List Call) × (es : List Event) × Life first cs es t = called-has-life t k in
     let here : (es : List Event) × Happens (record { state = t; mem = m }) c es (after c (record { state = t; mem = m })) = call-has-events c (record { state = t; mem = m }) in
-    (before .0, pushed (before .1) c, before .2 ++ here .0, lives (before .3) m (here .1))
+    (before .0, before .1, pushed (before .2) c, before .3 ++ here .0, lives (before .4) m (here .1))
 
 -- ---- and they are the events of these calls alone
 

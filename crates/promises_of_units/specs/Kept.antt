@@ -1,4 +1,4 @@
--- What holds of a device at rest, and is kept by each unit, holds of any device that was made and called: whatever calls, whatever
+-- What holds of a device at rest, and is kept by each unit, holds of any device that was made or loaded, and called: whatever calls, whatever
 -- memories. It may ask for a kind of memory, if every call was lent such. Assumes nothing.
 use mathlib.Core.Path.{_≡_, _∙_}
 use mathlib.Core.Bool.{Bool, true, false}
@@ -19,10 +19,11 @@ use Rattle.rules.specs.Calls.{lent-another}
 use Rattle.rules.specs.declared.Entry.{Entry}
 use Rattle.rules.specs.declared.Job.{Job}
 use Rattle.rules.specs.declared.Registers.{Registers}
+use Rattle.rules.specs.Saved.{loaded}
 use Rattle.settle.specs.Only.{answered-is-lent-alike, marked-length}
 use Rattle.promises_of_units.specs.Fences.{good-settles, failed-settles}
 use Rattle.promises_of_units.specs.Called.{Call, after, Called}
-use Rattle.promises_of_units.specs.Called.Called.{makes, calls}
+use Rattle.promises_of_units.specs.Called.Called.{makes, loads, calls}
 use Rattle.promises_of_units.specs.Units.{Next, Unit}
 use Rattle.promises_of_units.specs.Units.Unit.{works-on, finds-bad-ring, finds-no-work, settles}
 use Rattle.promises_of_units.specs.Events.{Event, Units, Happens, call-has-events}
@@ -36,6 +37,7 @@ Lent w = length (w .mem) ≡ w .state .memory
 -- every memory that a device's calls were lent is of a kind
 unfoldable pub EachLent : (List ℕ → Type 0) → (s : State) → Called s → Type 0
 EachLent Kind s (makes memory) = 0 ≤ 0
+EachLent Kind s (loads b good) = 0 ≤ 0
 EachLent Kind s (calls {s = t} c m k) = Kind m × EachLent Kind t k
 
 -- any memory at all
@@ -45,6 +47,7 @@ AnyMemory m = 0 ≤ 0
 pub lent-any : (s : State) (k : Called s) → EachLent AnyMemory s k
 unfolding EachLent
 lent-any s (makes memory) = omega arith
+lent-any s (loads b good) = omega arith
 lent-any s (calls {s = t} c m k) = (omega arith, lent-any t k)
 
 -- a fact about the work of a device, which is made for a memory length, and about the memories lent
@@ -113,8 +116,9 @@ module _ {Kind : List ℕ → Type 0} {Fact : ℕ → Work → Type 0} (c : Kept
 
   -- of any device that was made and called
   pub called-keeps : (s : State) (k : Called s) → EachLent Kind s k → Fact (s .memory) (s .work)
-  unfolding EachLent
+  unfolding EachLent loaded
   called-keeps s (makes memory) l = c .rests memory
+  called-keeps s (loads b good) l = c .rests (loaded b .memory)
   called-keeps s (calls {s = t} k m d) l =
       let happened : (es : List Event) × Happens (record { state = t; mem = m }) k es (after k (record { state = t; mem = m })) = call-has-events k (record { state = t; mem = m }) in
       call-keeps (record { state = t; mem = m }) k (happened .0) (after k (record { state = t; mem = m })) (happened .1) (l .0) (called-keeps t d (l .1))

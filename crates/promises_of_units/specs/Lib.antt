@@ -1,4 +1,6 @@
+pub mod SoundErrors
 pub mod Sound
+pub mod LoadedSound
 pub mod Fences
 pub mod Writes
 pub mod Refused

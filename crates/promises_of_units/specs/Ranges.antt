@@ -1,4 +1,4 @@
--- Every range that a record call hands out, of any device that was made and called: whatever calls came, whatever bytes stood in memory at
+-- Every range that a record call hands out, of any device that was made or loaded, and called: whatever calls came, whatever bytes stood in memory at
 -- each, it lies inside exactly one entry of the table of the submission that waits, and inside memory. A range is a record of kind 1 to 3; one of
 -- kind 4 is a clipped rectangle. Assumes nothing.
 use mathlib.Core.Path.{_≡_, refl, sym, ap, subst, _∙_}
@@ -22,17 +22,19 @@ use Rattle.rules.specs.Calls.{handed-out, record-read, call-record}
 use Rattle.rules.specs.declared.Entry.{Entry}
 use Rattle.rules.specs.declared.Record.{Record}
 use Rattle.rules.specs.declared.Job.{Job}
+use Rattle.rules.specs.Saved.{loaded}
 use Rattle.rows.specs.Keys.{Once}
 use Rattle.promises_of_packets.specs.Held.{Every, Within, Inside, OfAKind}
 use Rattle.promises_of_units.specs.Sound.{SoundState, made-sound, waiting-ranges-inside, waiting-kinds}
+use Rattle.promises_of_units.specs.LoadedSound.{loaded-sound}
 use Rattle.promises_of_units.specs.Refused.{run-call-keeps-sound, answer-call-keeps-sound, write-call-keeps-sound}
 use Rattle.promises_of_units.specs.InMemory.{Lies, RangeEndsIn, made-lies, run-call-lies, answer-call-lies, write-call-lies, waiting-ranges-in-memory}
 use Rattle.promises_of_units.specs.Called.{Call, after, Called}
 use Rattle.promises_of_units.specs.Called.Call.{writes, reads, runs, records, answers}
-use Rattle.promises_of_units.specs.Called.Called.{makes, calls}
+use Rattle.promises_of_units.specs.Called.Called.{makes, loads, calls}
 use Rattle.promises_of_units.specs.Tables.{WholeTable, OwnTable, called-has-its-own-table}
 
--- ---- any device that was made and called is sound, and its entries end within its memory
+-- ---- any device that was made or loaded, and called is sound, and its entries end within its memory
 
 pub call-keeps-sound : (c : Call) (w : World) → SoundState (w .state) → SoundState (after c w .state)
 unfolding after
@@ -52,10 +54,13 @@ call-lies (answers good n) w k = answer-call-lies w good n k
 
 pub called-sound : (s : State) → Called s → SoundState s
 called-sound s (makes memory) = made-sound memory
+called-sound s (loads b good) = loaded-sound b good
 called-sound s (calls {s = t} c m k) = call-keeps-sound c (record { state = t; mem = m }) (called-sound t k)
 
 pub called-lies : (s : State) → Called s → Lies s
+unfolding loaded
 called-lies s (makes memory) = made-lies memory
+called-lies s (loads b good) = omega arith
 called-lies s (calls {s = t} c m k) = call-lies c (record { state = t; mem = m }) (called-lies t k)
 
 -- ---- exactly one entry has an id

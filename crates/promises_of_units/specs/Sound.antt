@@ -2,14 +2,14 @@
 -- every step, run and answer keeps it; Refused.antt says it of every call. Assumes nothing.
 use mathlib.Core.Path.{_≡_, refl, sym, subst}
 use mathlib.Core.Bool.{Bool, true, false}
-use mathlib.Core.List.{List, []}
+use mathlib.Core.List.{List, [], _∷_}
 use Prim.Native.Nat.{ℕ, zero, suc, _+_, _≤_, _<_}
 use native.Mathlib.Omega.{arith}
 use borrow.Author.Tests.{ltb-true}
 use lib.Dec.{ltb, eqb}
 use lib.ListN.{length, length-append}
 use Rattle.machine.specs.Machine.{pick, run-none, run-stop, run-go}
-use Rattle.rules.specs.Numbers.{most, bad-entry, twice-in-table}
+use Rattle.rules.specs.Numbers.{most, bad-ring, bad-entry, twice-in-table, host-failed}
 use Rattle.rules.specs.Lists.{Found}
 use Rattle.rules.specs.Lists.Found.{none, found}
 use Rattle.rules.specs.Judging.{refusal, rule, Finding, at-place, without-place}
@@ -21,11 +21,12 @@ use Rattle.rules.specs.Stream.{left}
 use Rattle.rules.specs.Packets.{Progress, at-first, take-packet, Belongings}
 use Rattle.rules.specs.State.{Work, State, World, made}
 use Rattle.rules.specs.State.Work.{resting, entries, packets, waiting}
-use Rattle.rules.specs.Settle.{settled}
+use Rattle.rules.specs.Settle.{doorbell-cleared, settled}
 use Rattle.rules.specs.Steps.{packets-at, entries-at, after-opening, open-step, after-entry, entry-step, after-packet, next-place, packet-step, step-on, step, go, run-for, answer-on, answered}
 use Rattle.rules.specs.declared.Entry.{Entry}
 use Rattle.rules.specs.declared.Job.{Job}
 use Rattle.rules.specs.declared.Table.{Table}
+use Rattle.rules.specs.declared.Resource.{Resource}
 use Rattle.rules.specs.declared.Stream.{Stream}
 use Rattle.rules.specs.declared.Opened.{Opened}
 use Rattle.rules.specs.declared.Verdict.{Verdict}
@@ -33,9 +34,11 @@ use Rattle.rules.specs.declared.Verdict.the-variants.{Fine, Broken}
 use Rattle.rules.specs.declared.Opening.{Opening}
 use Rattle.rules.specs.declared.Opening.the-variants.{BadRing, NoWork, Refused, Started}
 use Rattle.rows.specs.Keys.{Once, once-nil, once-pushed}
-use Rattle.promises_of_packets.specs.Effects.{KeepsBytes}
+use Rattle.rule_laws.specs.Created.{BytesOf, AsCreated, SoundError}
 use Rattle.promises_of_packets.specs.Held.{Every, Inside, OfAKind, SoundBelongings, nothing-sound, SoundProgress, first-sound, left-sound, take-sound}
 use Rattle.rule_laws.specs.Fine.{fine-later, kept-rule, both-left}
+use Rattle.rule_laws.specs.Listed.{take-entry-listed, take-packet-listed, ListedOpening, opening-listed}
+use Rattle.promises_of_units.specs.SoundErrors.{ListedFinding, found-listed, fault-sound, ended-sound}
 
 -- ---- the entries of a table: at most 64, each id once
 
@@ -86,10 +89,12 @@ SoundWork (waiting j es h) = SoundEntries es × SoundProgress es h
 pub record SoundState (s : State) : Type 0 where
   pub belongings : SoundBelongings (s .belongings)
   pub work : SoundWork (s .work)
+  -- the last error: code 0 or listed, and what stands beside code 0 is 0
+  pub error : SoundError (s .regs .error)
 
 -- a new device is sound
 pub made-sound : (memory : ℕ) → SoundState (made memory)
-made-sound memory = record { belongings = nothing-sound; work = omega arith }
+made-sound memory = record { belongings = nothing-sound; work = omega arith; error = record { code = refl; rest = refl; detail = λ e. refl } }
 
 -- ---- kept by a step
 
@@ -107,47 +112,52 @@ entries-at-sound o kept owned e r = by-test (ltb (length kept) (o .table .count)
     by-test true = e
     by-test false = packets-at-sound (o .job) (o .stream) 24 kept (at-first owned) e (first-sound kept owned r)
 
-settled-sound : (j : Job) (v : Finding) (owned : Belongings) (w : World) → SoundBelongings owned → SoundState (settled j v owned w .state)
+settled-sound : (j : Job) (v : Finding) (owned : Belongings) (w : World) → ListedFinding v → SoundBelongings owned → SoundError (w .state .regs .error)
+    → SoundState (settled j v owned w .state)
 unfolding settled
-settled-sound j v owned w r = record { belongings = r; work = omega arith }
+settled-sound j v owned w l r g = record { belongings = r; work = omega arith; error = ended-sound j v (w .state .regs) l g }
 
-module _ (w : World) (s : SoundBelongings (w .state .belongings)) where
-  opening-sound : (v : Opening) → SoundWork (w .state .work) → SoundState (after-opening w v .state)
-  opening-sound BadRing k = record { belongings = s; work = k }
-  opening-sound NoWork k = record { belongings = s; work = k }
-  opening-sound (Refused j r) k = settled-sound j (broken (without-place r)) _ w s
-  opening-sound (Started o) k = record { belongings = s; work = entries-at-sound o [] (w .state .belongings) no-entries s }
+module _ (w : World) (s : SoundBelongings (w .state .belongings)) (g : SoundError (w .state .regs .error)) where
+  opening-sound : (v : Opening) → ListedOpening v → SoundWork (w .state .work) → SoundState (after-opening w v .state)
+  unfolding doorbell-cleared
+  opening-sound BadRing l k = record { belongings = s; work = k; error = fault-sound (without-place (refusal bad-ring)) 0 (w .state .regs) refl }
+  opening-sound NoWork l k = record { belongings = s; work = k; error = g }
+  opening-sound (Refused j r) l k = settled-sound j (broken (without-place r)) _ w l s g
+  opening-sound (Started o) l k = record { belongings = s; work = entries-at-sound o [] (w .state .belongings) no-entries s; error = g }
 
-  after-entry-sound : (o : Opened) (kept : List Entry) (v : Finding) → SoundEntries kept → SoundState (after-entry w o kept v .state)
-  after-entry-sound o kept fine e = record { belongings = s; work = entries-at-sound o kept (w .state .belongings) e s }
-  after-entry-sound o kept (broken f) e = settled-sound (o .job) (broken f) _ w s
+  after-entry-sound : (o : Opened) (kept : List Entry) (v : Finding) → ListedFinding v → SoundEntries kept → SoundState (after-entry w o kept v .state)
+  after-entry-sound o kept fine l e = record { belongings = s; work = entries-at-sound o kept (w .state .belongings) e s; error = g }
+  after-entry-sound o kept (broken f) l e = settled-sound (o .job) (broken f) _ w l s g
 
-  after-packet-sound : (j : Job) (t : Stream) (next : ℕ) (es : List Entry) (h : Progress) (v : Finding) → SoundEntries es → SoundProgress es h → SoundState (after-packet w j t next es h v .state)
-  after-packet-sound j t next es h fine e k = record { belongings = s; work = packets-at-sound j t next es h e k }
-  after-packet-sound j t next es h (broken f) e k = settled-sound j (broken f) _ w s
+  after-packet-sound : (j : Job) (t : Stream) (next : ℕ) (es : List Entry) (h : Progress) (v : Finding) → ListedFinding v → SoundEntries es → SoundProgress es h
+      → SoundState (after-packet w j t next es h v .state)
+  after-packet-sound j t next es h fine l e k = record { belongings = s; work = packets-at-sound j t next es h e k; error = g }
+  after-packet-sound j t next es h (broken f) l e k = settled-sound j (broken f) _ w l s g
 
   step-on-sound : (k : Work) → w .state .work ≡ k → SoundWork k → SoundState (step-on w k .state)
   unfolding open-step entry-step packet-step
   step-on-sound resting e h =
-      opening-sound (opening-of (w .mem) (w .state .regs .ring) (w .state .regs .ringsize)) (subst SoundWork (sym e) h)
+      opening-sound (opening-of (w .mem) (w .state .regs .ring) (w .state .regs .ringsize)) (opening-listed (w .mem) (w .state .regs .ring) (w .state .regs .ringsize)) (subst SoundWork (sym e) h)
   step-on-sound (entries o kept) e h =
-      after-entry-sound o (take-entry (w .mem) (o .table) kept .kept) (at-place (length kept) (take-entry (w .mem) (o .table) kept .verdict)) (take-entry-sound (w .mem) (o .table) kept h)
+      after-entry-sound o (take-entry (w .mem) (o .table) kept .kept) (at-place (length kept) (take-entry (w .mem) (o .table) kept .verdict))
+      (found-listed (length kept) (take-entry (w .mem) (o .table) kept .verdict) (take-entry-listed (w .mem) (o .table) kept)) (take-entry-sound (w .mem) (o .table) kept h)
   step-on-sound (packets j t at es held) e h =
-      after-packet-sound j t (next-place at (left (w .mem) t at)) es (take-packet es held (left (w .mem) t at) .held) (at-place at (take-packet es held (left (w .mem) t at) .verdict)) (h .0)
+      after-packet-sound j t (next-place at (left (w .mem) t at)) es (take-packet es held (left (w .mem) t at) .held) (at-place at (take-packet es held (left (w .mem) t at) .verdict))
+      (found-listed at (take-packet es held (left (w .mem) t at) .verdict) (take-packet-listed es held (left (w .mem) t at))) (h .0)
       (take-sound es held (h .1) (left (w .mem) t at))
-  step-on-sound (waiting j es held) e h = record { belongings = s; work = subst SoundWork (sym e) h }
+  step-on-sound (waiting j es held) e h = record { belongings = s; work = subst SoundWork (sym e) h; error = g }
 
   answer-sound : (good : Bool) (k : Work) → w .state .work ≡ k → SoundWork k → SoundState (answer-on good w k .state)
-  answer-sound good resting e h = record { belongings = s; work = subst SoundWork (sym e) h }
-  answer-sound good (entries o kept) e h = record { belongings = s; work = subst SoundWork (sym e) h }
-  answer-sound good (packets j t at es held) e h = record { belongings = s; work = subst SoundWork (sym e) h }
-  answer-sound true (waiting j es held) e h = settled-sound j fine _ w (left-sound es held (h .1))
-  answer-sound false (waiting j es held) e h = settled-sound j _ _ w s
+  answer-sound good resting e h = record { belongings = s; work = subst SoundWork (sym e) h; error = g }
+  answer-sound good (entries o kept) e h = record { belongings = s; work = subst SoundWork (sym e) h; error = g }
+  answer-sound good (packets j t at es held) e h = record { belongings = s; work = subst SoundWork (sym e) h; error = g }
+  answer-sound true (waiting j es held) e h = settled-sound j fine _ w (omega arith) (left-sound es held (h .1)) g
+  answer-sound false (waiting j es held) e h = settled-sound j (broken (without-place (refusal host-failed))) _ w refl s g
 
 -- one unit keeps it, over any memory
 pub step-keeps-sound : (w : World) → SoundState (w .state) → SoundState (step w .state)
 unfolding step
-step-keeps-sound w s = step-on-sound w (s .belongings) (w .state .work) refl (s .work)
+step-keeps-sound w s = step-on-sound w (s .belongings) (s .error) (w .state .work) refl (s .work)
 
 -- and so does a run
 pub run-keeps-sound : (n : ℕ) (w : World) → SoundState (w .state) → SoundState (run-for n w .state .state)
@@ -161,7 +171,7 @@ run-keeps-sound (suc n) w s = by-test (go w) refl (run-keeps-sound n (step w) (s
 -- and an answer
 pub answer-keeps-sound : (good : Bool) (w : World) → SoundState (w .state) → SoundState (answered good w .state)
 unfolding answered
-answer-keeps-sound good w s = answer-sound w (s .belongings) good (w .state .work) refl (s .work)
+answer-keeps-sound good w s = answer-sound w (s .belongings) (s .error) good (w .state .work) refl (s .work)
 
 -- while a submission waits: every range lies inside the one entry of its table that has its id, and no other has it
 pub waiting-ranges-inside : (s : State) (j : Job) (es : List Entry) (h : Progress) → SoundState s → s .work ≡ waiting j es h → Every (Inside es) (h .holdings .records) × Once entry-id es
@@ -175,7 +185,18 @@ waiting-kinds s j es h k e =
     let here : SoundWork (waiting j es h) = subst SoundWork e (k .work) in
     here .1 .holdings .kinds
 
--- the bytes that a device's resource keeps are those of its kind: a buffer has some, a backed texture its packed size, a
--- host-backed one none
+-- every resource of a device is as create leaves it: shape, pitch and offset are good, and its bytes are those of its kind
+pub resources-as-created : (s : State) → SoundState s → Every AsCreated (s .belongings .resources)
+resources-as-created s k = k .belongings .resources .created
+
+-- so the bytes that it keeps: a buffer has some, a backed texture its packed size, a host-backed one none
+abbrev pub KeepsBytes : Resource → Type 0
+KeepsBytes r = BytesOf (r .kind) r
+
+created-keep-bytes : (rs : List Resource) → Every AsCreated rs → Every KeepsBytes rs
+unfolding Every
+created-keep-bytes [] h = h
+created-keep-bytes (r ∷ rs) h = (h .0 .bytes, created-keep-bytes rs (h .1))
+
 pub resources-keep-bytes : (s : State) → SoundState s → Every KeepsBytes (s .belongings .resources)
-resources-keep-bytes s k = k .belongings .resources .bytes
+resources-keep-bytes s k = created-keep-bytes (s .belongings .resources) (resources-as-created s k)

@@ -34,21 +34,22 @@ pub enum Shown {
     NoRegister,
 }
 
-fn high(x: u64) -> u32
+// The upper half of a number of eight bytes.
+pub fn high(x: u64) -> u32
     ensures { λ r. ⌜ r ≡ highOf x ⌝ }
 {
     (x / HALF) as u32
 }
 
 // A flag as a bit.
-fn bit(word: u64) -> u32
+pub fn bit(word: u64) -> u32
     ensures { λ r. ⌜ (r ≡ bitFor (setIn word)) × (r ≤ 1) ⌝ }
 {
     if word == 0 { 0 } else { 1 }
 }
 
 // The two bits of the IRQ status.
-fn status(words: &Words) -> u32
+pub fn status(words: &Words) -> u32
     ensures { λ r. ⌜ r ≡ statusOf (registersIn (now (words .entry))) ⌝ }
 {
     bit(words[FENCED]) + 2 * bit(words[FAILED])

@@ -1,1 +1,3 @@
 pub mod Fine
+pub mod Listed
+pub mod Created

@@ -18,3 +18,4 @@ pub mod Registers
 pub mod Steps
 pub mod Unsliced
 pub mod Calls
+pub mod Saved

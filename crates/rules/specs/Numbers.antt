@@ -254,3 +254,27 @@ nothing-waits = 3
 -- "record index not below the count, or nothing waiting"
 abbrev pub no-record : ℕ
 no-record = 4
+
+-- those of 02, wish 1: "Saving while a submission is in work"
+abbrev pub in-work : ℕ
+in-work = 5
+
+-- "a buffer too short"
+abbrev pub too-short : ℕ
+too-short = 6
+
+-- "a field is missing or breaks a rule, or a byte follows the last"
+abbrev pub bad-file : ℕ
+bad-file = 7
+
+-- "Saving in form 1 answers 8 .. once any token was used" (wish 5), and "while detail is non-zero" (wish 9): the form has no field for these
+abbrev pub not-in-form : ℕ
+not-in-form = 8
+
+-- ---- kinds of a saved resource: 1 a buffer, 2 a texture (docs/SAVED-DESK.md)
+
+abbrev pub buffer-kind : ℕ
+buffer-kind = 1
+
+abbrev pub texture-kind : ℕ
+texture-kind = 2

@@ -306,3 +306,11 @@ pub enum Ended {
     Waiting,
     Paused,
 }
+
+// ---- Saved desks (02, wish 1)
+
+// What is found of a file: it is good, or the first rule that it breaks is reported at this offset.
+pub enum FileCheck {
+    Good,
+    BadAt(u32),
+}

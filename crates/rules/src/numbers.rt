@@ -156,3 +156,16 @@ pub const NO_REGISTER: u32 = 2;
 pub const NOTHING_WAITS: u32 = 3;
 
 pub const NO_RECORD: u32 = 4;
+
+pub const IN_WORK: u32 = 5;
+
+pub const TOO_SHORT: u32 = 6;
+
+pub const BAD_FILE: u32 = 7;
+
+pub const NOT_IN_FORM: u32 = 8;
+
+// ---- kinds of a saved resource
+pub const BUFFER_KIND: u32 = 1;
+
+pub const TEXTURE_KIND: u32 = 2;

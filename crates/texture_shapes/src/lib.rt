@@ -17,7 +17,7 @@ ghost use Rattle.texture_shapes.specs.Good.{good-side};
 const LONGEST_CHAIN: u32 = 15;
 
 // Whether the larger side halves often enough for so many mips.
-fn chain_reaches(width: u32, height: u32, mips: u32) -> bool
+pub fn chain_reaches(width: u32, height: u32, mips: u32) -> bool
     ensures { λ r. ⌜ r ≡ leb mips (full-chain width height) ⌝ }
 {
     if mips <= 1 {
@@ -30,7 +30,7 @@ fn chain_reaches(width: u32, height: u32, mips: u32) -> bool
 }
 
 // Whether a width or a height is within the limits.
-fn good_side_of(pixels: u32) -> bool
+pub fn good_side_of(pixels: u32) -> bool
     ensures { λ r. ⌜ r ≡ good-side pixels ⌝ }
 {
     if pixels < 1 {

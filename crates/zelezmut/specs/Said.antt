@@ -5,12 +5,17 @@ use mathlib.Core.List.{List, [], _∷_}
 use Prim.Native.Nat.{ℕ, _+_, _*_}
 use Rattle.rules.specs.Calls.{ended-number, Value, Ran, call-read, call-run, call-record, call-answer}
 use Rattle.rules.specs.declared.Record.{Record}
+use Rattle.rules.specs.Saved.{call-save, call-load}
 use Rattle.run_state.specs.Views.{stateIn, Lent, deskOf, Refused}
 use Rattle.device_memory_calls.specs.declared.Spent.{Spent}
 
+-- a value, the answer above it
+abbrev pub saidBeside : ℕ → ℕ → ℕ
+saidBeside value answer = value + 4294967296 * answer
+
 -- a read's value, its answer above it
 abbrev pub saidValue : Value → ℕ
-saidValue x = x .value + 4294967296 * x .answer
+saidValue x = saidBeside (x .value) (x .answer)
 
 -- a run's or an answer's answer, how it ended and its units, each above the one before
 abbrev pub saidRun : Ran → ℕ
@@ -46,3 +51,14 @@ SaysAnswer good allowance l = SaysSpent (call-answer (deskOf l) good allowance) 
 pub record SaysRecord (s c : List ℕ) (i n : ℕ) (said : List ℕ) : Type 0 where
   pub answer : (e a b ft st : List ℕ) → n ≡ call-record (stateIn s e a b ft st c) i .answer
   pub range : (e a b ft st : List ℕ) → said ≡ recordWords (call-record (stateIn s e a b ft st c) i .range)
+
+-- the rules' save, of the device in the words and in its table of resources
+pub record SaysSaved (s a b buffer : List ℕ) (said : ℕ) (buffer′ : List ℕ) : Type 0 where
+  pub length : (e ft st c : List ℕ) → said ≡ saidBeside (call-save (stateIn s e a b ft st c) buffer .length) (call-save (stateIn s e a b ft st c) buffer .answer)
+  pub bytes : (e ft st c : List ℕ) → buffer′ ≡ call-save (stateIn s e a b ft st c) buffer .buffer
+
+-- the rules' load, over the device in the words and tables; one that is refused leaves each word
+pub record SaysLoaded (s a file : List ℕ) (said : ℕ) (s′ a′ : List ℕ) : Type 0 where
+  pub place : (e b ft st c : List ℕ) → said ≡ saidBeside (call-load (stateIn s e a b ft st c) file .place) (call-load (stateIn s e a b ft st c) file .answer)
+  pub state : (e b ft st c : List ℕ) → stateIn s′ e a′ b ft st c ≡ call-load (stateIn s e a b ft st c) file .state
+  pub still : (e b ft st c : List ℕ) → Refused (call-load (stateIn s e a b ft st c) file .answer) → (s′ ≡ s) × (a′ ≡ a)

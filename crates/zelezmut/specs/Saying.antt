@@ -10,23 +10,46 @@ use lib.Seq.{sets-eq}
 use Rattle.rules.specs.Calls.{ended-number, RecordRead as RecordReadBy, Ran, call-run, call-answer}
 use Rattle.rules.specs.declared.Record.{Record}
 use Rattle.run_state.specs.Views.{setIn, deskIn, lent, Refused}
+use Rattle.rules.specs.Saved.{Saved, Loaded}
+use Rattle.saved_save.specs.Views.{Saves}
+use Rattle.saved_save.specs.declared.FileSaved.{FileSaved}
+use Rattle.saved_load.specs.Views.{Loads}
+use Rattle.saved_load.specs.declared.FileLoaded.{FileLoaded}
 use Rattle.device_calls.specs.Views.{Makes, Reads, GivesRecord}
 use Rattle.device_calls.specs.declared.ValueRead.{ValueRead}
 use Rattle.device_calls.specs.declared.RecordRead.{RecordRead}
 use Rattle.device_memory_calls.specs.Views.{ranOf, Runs, Answers}
 use Rattle.device_memory_calls.specs.declared.Spent.{Spent}
-use Rattle.zelezmut.specs.Said.{saidValue, saidRun, saidSpent, recordWords, SaysValue, SaysSpent, SaysRun, SaysAnswer, SaysRecord}
+use Rattle.zelezmut.specs.Said.{saidBeside, saidValue, saidRun, saidSpent, recordWords, SaysValue, SaysSpent, SaysRun, SaysAnswer, SaysRecord, SaysSaved, SaysLoaded}
 use Rattle.rules.specs.Table.{table-finding, table-error, table-place}
 use Rattle.rules.specs.declared.Fault.{Fault}
 use Rattle.table_whole.specs.Whole.{shown}
 
 -- ---- zelezmut_read
 
-pub says-value : (s : List ℕ) (offset v a : ℕ) (x : ValueRead) → Reads s offset x → (v ≡ x .value) × (v < 4294967296) → (a ≡ x .answer) × (a < 4294967296) → SaysValue s offset (v + 4294967296 * a)
-says-value s offset v a x k p q =
-    record { value = λ e f g ft st c. rw (p .0, q .0) (ap saidValue (k .value e f g ft st c)) }
+pub says-value : (s : List ℕ) (offset n : ℕ) (x : ValueRead) → Reads s offset x → n ≡ saidBeside (x .value) (x .answer) → SaysValue s offset n
+says-value s offset n x k p = record { value = λ e f g ft st c. p ∙ ap saidValue (k .value e f g ft st c) }
 
 pub ruleset saying-value = (says-value, needs)
+
+-- ---- zelezmut_save, zelezmut_load
+
+pub says-saved : (s a b buffer buffer′ : List ℕ) (n : ℕ) (x : FileSaved) → Saves s a b buffer x buffer′ → n ≡ saidBeside (x .length) (x .answer) → SaysSaved s a b buffer n buffer′
+says-saved s a b buffer buffer′ n x k p =
+    record {
+      length = λ e ft st c. p ∙ ap (λ (y : Saved). saidBeside (y .length) (y .answer)) (k .saves e ft st c);
+      bytes = λ e ft st c. ap (λ (y : Saved). y .buffer) (k .saves e ft st c);
+    }
+
+pub says-loaded : (s a file s′ a′ : List ℕ) (n : ℕ) (x : FileLoaded) → Loads file s a s′ a′ x → n ≡ saidBeside (x .place) (x .answer) → SaysLoaded s a file n s′ a′
+says-loaded s a file s′ a′ n x k p =
+    record {
+      place = λ e b ft st c. p ∙ ap (λ (y : Loaded). saidBeside (y .place) (y .answer)) (k .loads e b ft st c);
+      state = λ e b ft st c. ap (λ (y : Loaded). y .state) (k .loads e b ft st c);
+      still = λ e b ft st c z. k .refused (λ d. z (sym (ap (λ (y : Loaded). y .answer) (k .loads e b ft st c)) ∙ d));
+    }
+
+pub ruleset saying-saved = (says-saved, says-loaded, needs)
 
 -- ---- zelezmut_run, zelezmut_answer
 

@@ -18,15 +18,22 @@ ghost use Rattle.rules.specs.Calls.{ended-number};
 ghost use Rattle.run_state.specs.Views.{setIn};
 ghost use Rattle.registers.specs.Views.{Writes};
 ghost use Rattle.device_calls.specs.Views.{Makes};
-ghost use Rattle.zelezmut.specs.Said.{recordWords, saidSpent, SaysValue, SaysRun, SaysAnswer, SaysRecord};
+ghost use Rattle.zelezmut.specs.Said.{recordWords, saidBeside, saidSpent, SaysValue, SaysRun, SaysAnswer, SaysRecord};
 
-// A read's answer stands above its value's four bytes.
+// An answer stands above the four bytes of the value beside it.
 const ABOVE_VALUE: u64 = 4294967296;
 
 // How a run ended stands above its answer, and the units above that.
 const ABOVE_ANSWER: u64 = 256;
 
 const ABOVE_ENDED: u64 = 65536;
+
+// A value, and 2^32 times the answer that it stands beside.
+pub fn beside(value: u32, answer: u32) -> u64
+    ensures { λ r. ⌜ r ≡ saidBeside value answer ⌝ }
+{
+    u32_to_word(value) + ABOVE_VALUE * u32_to_word(answer)
+}
 
 // Idle 0, waiting 1, paused 2.
 fn number_of(ended: Ended) -> u64
@@ -86,7 +93,7 @@ pub extern "C" fn zelezmut_read(words: &Words, offset: u32) -> u64
     ensures { λ r. ⌜ SaysValue (now (words .entry)) offset r ⌝ }
 {
     let x = device_calls::read(words, offset);
-    u32_to_word(x.value) + ABOVE_VALUE * u32_to_word(x.answer)
+    beside(x.value, x.answer)
 }
 
 // Runs over the memory lent now: the call's answer, 2^8 times how it ended (idle 0, waiting 1, paused 2) and 2^16 times the units spent.

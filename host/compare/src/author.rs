@@ -1,8 +1,9 @@
 //! The guest and the host in one, writing a desk's operations: what they know, and how they say things.
 
 use crate::event::Event;
-use crate::expected::Expected;
+use crate::expected::{Expected, ExpectedLoad};
 use crate::held::Held;
+use crate::keeping::Keeper;
 use crate::random::Random;
 use crate::world::World;
 use zelezmut::registers::{
@@ -30,8 +31,11 @@ pub(crate) struct Author {
     pub(crate) sure: bool,
     /// How often, of a hundred times, something happens between two slices.
     pub(crate) restless: u64,
+    /// How the host saves and loads.
+    pub(crate) keeper: Keeper,
     pub(crate) operations: Vec<Operation>,
     pub(crate) expected: Vec<Expected>,
+    pub(crate) loads: Vec<ExpectedLoad>,
     pub(crate) events: Vec<Event>,
 }
 
@@ -40,6 +44,7 @@ impl Author {
         let mut random = Random::new(seed);
         let world = World::random(&mut random);
         let restless = random.pick(&[0, 2, 10, 40]);
+        let keeper = Keeper::new(seed, world.memory);
         Author {
             head: world.ring.header.head,
             world,
@@ -48,8 +53,10 @@ impl Author {
             signal: random.pick(&[0, 0, 6, u32::MAX.into(), 1 << 63]),
             sure: true,
             restless,
+            keeper,
             operations: Vec::new(),
             expected: Vec::new(),
+            loads: Vec::new(),
             events: Vec::new(),
             random,
         }

@@ -4,8 +4,9 @@ use crate::bench::Bench;
 use crate::cases::{texture, Case, Mode, COPY, LONGEST_CHAIN};
 use crate::host::Host;
 use crate::numbers::MOST_RECORDS;
-use crate::player::Seat;
+use crate::player::{saved, Seat};
 use zelezmut::registers::{READABLE, WRITABLE};
+use zelezmut::LONGEST_SAVED_DESK;
 
 #[derive(Clone, Copy, Debug, PartialEq, Eq)]
 pub enum Call {
@@ -21,10 +22,17 @@ pub enum Call {
     Answer,
     /// The same, and a run until the next such submission waits.
     AnswerAndRun,
+    /// A full desk is saved into a buffer that any desk fits, or loaded from what it was saved as.
+    Save,
+    Load,
     /// The packed size of a texture of 15 mips with so many layers.
-    PackedSize { layers: u32 },
+    PackedSize {
+        layers: u32,
+    },
     /// The same, with a sum over every mip of every layer in the plain program's place.
-    EveryMip { layers: u32 },
+    EveryMip {
+        layers: u32,
+    },
 }
 
 pub const CALLS: [Call; 6] = [
@@ -36,6 +44,8 @@ pub const CALLS: [Call; 6] = [
     Call::AnswerAndRun,
 ];
 
+pub const SAVING: [Call; 2] = [Call::Save, Call::Load];
+
 impl Call {
     pub fn key(self) -> String {
         let key = match self {
@@ -45,6 +55,8 @@ impl Call {
             Call::Run => "idle-run",
             Call::Answer => "answer",
             Call::AnswerAndRun => "answer-and-run",
+            Call::Save => "save",
+            Call::Load => "load",
             Call::PackedSize { layers } => return format!("packed-{}-layers", layers),
             Call::EveryMip { layers } => return format!("every-mip-{}-layers", layers),
         };
@@ -60,6 +72,8 @@ impl Call {
             Call::Run => "a run of 65,535 units on an enabled device that has nothing to do",
             Call::Answer => "a good answer with allowance 0 to a waiting submission of one unknown packet, nothing live; each to a device of its own",
             Call::AnswerAndRun => "as answer, with allowance 65,535 and another such submission behind it, which waits after its two units",
+            Call::Save => "a desk with 64 resources is saved: buffers and textures in turn, half of them backed, created in no order of their handles",
+            Call::Load => "the same desk is loaded with what it is saved as",
             Call::PackedSize { layers } => {
                 return format!("the packed size of a texture of format 1, 16,384 by 1, with 15 mips; layers: {}", layers)
             }
@@ -75,7 +89,7 @@ impl Call {
             Call::Write => WRITABLE.to_vec(),
             Call::Read => READABLE.to_vec(),
             Call::Record => (0..MOST_RECORDS as u32).collect(),
-            Call::Run | Call::Answer | Call::AnswerAndRun => vec![0],
+            Call::Run | Call::Answer | Call::AnswerAndRun | Call::Save | Call::Load => vec![0],
             Call::PackedSize { layers } | Call::EveryMip { layers } => vec![layers],
         }
     }
@@ -91,6 +105,9 @@ pub struct Calls<F> {
     call: Call,
     arguments: Vec<u32>,
     pub benches: Vec<Bench<F>>,
+    /// What the first desk is saved as, if it is full, and a buffer for that.
+    file: Vec<u8>,
+    buffer: Vec<u8>,
 }
 
 impl<F: Host> Calls<F> {
@@ -102,6 +119,7 @@ impl<F: Host> Calls<F> {
                     Bench::new(Case::Unknown)
                 }
                 Call::Record => waiting(COPY),
+                Call::Save | Call::Load => Bench::new(Case::Mixed),
                 Call::Run => idle(Case::Unknown),
                 Call::Answer => waiting(Case::OneUnknown { live: 0 }),
                 Call::AnswerAndRun => {
@@ -112,10 +130,14 @@ impl<F: Host> Calls<F> {
             }
         };
         let benches = if call.is_answer() { rounds } else { 1 };
+        let benches: Vec<Bench<F>> = (0..benches).map(|_| bench()).collect();
+        let (_, length, buffer) = saved(&benches[0].seat.front, LONGEST_SAVED_DESK);
         Calls {
             call,
             arguments: call.arguments(),
-            benches: (0..benches).map(|_| bench()).collect(),
+            benches,
+            file: buffer[..length].to_vec(),
+            buffer,
         }
     }
 
@@ -136,6 +158,7 @@ impl<F: Host> Calls<F> {
             })
             .collect();
         let Seat { front, memory } = &mut self.benches[0].seat;
+        let (file, buffer) = (&self.file, &mut self.buffer);
         match self.call {
             Call::Write => sum(&steps, |offset| front.wrote(offset, 1).into()),
             Call::Read => sum(&steps, |offset| front.value(offset).into()),
@@ -147,6 +170,8 @@ impl<F: Host> Calls<F> {
             Call::AnswerAndRun => answers(&mut self.benches, rounds, |Seat { front, memory }| {
                 front.carried_on(memory).into()
             }),
+            Call::Save => sum(&steps, |_| front.saved(buffer) as u64),
+            Call::Load => sum(&steps, |_| front.loaded(file).into()),
             Call::PackedSize { .. } => sum(&steps, |layers| {
                 F::packed_size(texture(LONGEST_CHAIN, layers))
             }),

@@ -36,6 +36,16 @@ pub fn texture(mips: u32, layers: u32) -> Shape {
     }
 }
 
+/// One of several mips and layers that a small entry still holds.
+const SMALL_TEXTURE: Shape = Shape {
+    format: 1,
+    width: 5,
+    height: 3,
+    mips: 3,
+    layers: 2,
+    pitch: 20,
+};
+
 /// The smallest viewport and clear that pass every rule at its edge: -0 is as good as 0, and a denormal side is above it.
 const VIEWPORT: Viewport = [0, 0, 1, 1, 0x8000_0000, 0x3f80_0000];
 const CLEAR: Clear = Clear {
@@ -103,6 +113,8 @@ pub enum Case {
     Scissor,
     /// Tokens are exported, imported and released, beside many of them. The host says that it failed.
     Share,
+    /// As many resources as there may be, of both kinds, half of them backed; nothing is played beside them.
+    Mixed,
     /// A table and no stream.
     Table {
         entries: usize,
@@ -215,6 +227,7 @@ impl Case {
             Case::Clear => "1,706 clears that pass; no table",
             Case::Scissor => SCISSORS,
             Case::Share => share::INPUT,
+            Case::Mixed => "nothing, beside 64 resources of both kinds",
             _ => "7,677 packets of an unknown opcode, 8 bytes each; no table",
         }
     }
@@ -256,6 +269,7 @@ impl Case {
             Case::Viewport | Case::Clear => 0,
             Case::DirtyTexture { .. } | Case::Scissor => 1,
             Case::Share => share::TEXTURES,
+            Case::Mixed => MOST_NAMES,
             Case::OneUnknown { live }
             | Case::Dirty { live, .. }
             | Case::Create { live }
@@ -268,6 +282,7 @@ impl Case {
     fn created(self, random: &mut Random, row: usize) -> Vec<u8> {
         let (handle, backing) = (handle_of_row(row), self.backing());
         match self {
+            Case::Mixed => mixed(random, row),
             Case::DirtyTexture { mips } => {
                 packet::create_texture(random, handle, texture(mips, 1), backing)
             }
@@ -296,6 +311,7 @@ impl Case {
             Case::Unknown | Case::OneUnknown { .. } | Case::Create { .. } => 0,
             Case::Target { .. } | Case::Viewport | Case::Clear | Case::Scissor | Case::Share => 0,
             Case::Copy { .. } | Case::DirtyTexture { .. } | Case::CreateTexture { .. } => 1,
+            Case::Mixed => 1,
             Case::Dirty { entries, .. } | Case::Table { entries } => entries,
         };
         (0..count)
@@ -337,7 +353,7 @@ impl Case {
             Case::Scissor if i > MOST_RECORDS => None,
             Case::Scissor => Some(packet::scissor(random, SCISSOR)),
             Case::Share => share::packet(random, i),
-            Case::Table { .. } => None,
+            Case::Table { .. } | Case::Mixed => None,
         }
     }
 
@@ -348,6 +364,17 @@ impl Case {
             _ => 1,
         }
     }
+}
+
+/// The packet that creates the resource of this row, beside those of the other rows: in no order of their handles.
+fn mixed(random: &mut Random, row: usize) -> Vec<u8> {
+    let handle = handle_of_row(row * 37 % MOST_NAMES);
+    let id = if row % 4 < 2 { entry_id(0) } else { 0 };
+    let backing = Backing { id, offset: 64 };
+    if row % 2 == 0 {
+        return packet::create_buffer(random, handle, BUFFER, backing);
+    }
+    packet::create_texture(random, handle, SMALL_TEXTURE, backing)
 }
 
 /// The first copies make a record each, as many as there may be.

@@ -3,12 +3,16 @@
 use crate::carried::{self, Carried, CARRIED};
 use crate::detail::{self, Detail, Errors, DETAILS};
 use crate::event::{Event, EVENTS};
-use crate::expected::Expected;
+use crate::expected::{Expected, ExpectedLoad};
+use crate::files::bad::Bad;
+use crate::files::twists::BAD_FILE;
+use crate::files::File;
 use crate::floats::{Edge, EDGES};
 use crate::front::{Ended, Front, Ran, Record};
 use crate::generator::Drawn;
 use crate::numbers::error::{RING, STATE};
 use crate::player::{Said, Seat};
+use crate::saving::{self, Kept, Saving, SAVINGS};
 use crate::sharing::{self, Shares, Sharing, SHARINGS};
 use crate::twists::{Aim, Outcome};
 use std::collections::{BTreeMap, BTreeSet};
@@ -35,6 +39,10 @@ pub enum Met {
     Clip(Clip),
     /// What became of names and tokens.
     Sharing(Sharing),
+    /// What became of a save or a load.
+    Saving(Saving),
+    /// Where a file was bad.
+    Bad(Bad),
     /// A float of a viewport or clear that came to what was aimed at.
     Float(&'static str),
     /// The IRQ status after an operation.
@@ -67,7 +75,7 @@ const CLIPS: [Clip; 3] = [Clip::Empty, Clip::FromTheCorner, Clip::FromWithin];
 const CLIPPED: u32 = 4;
 
 /// The call answers that there are.
-const ANSWERS: [(&str, u32); 11] = [
+const ANSWERS: [(&str, u32); 17] = [
     ("write", 0),
     ("write", 2),
     ("read", 0),
@@ -79,6 +87,12 @@ const ANSWERS: [(&str, u32); 11] = [
     ("answer", 0),
     ("answer", 1),
     ("answer", 3),
+    ("save", 0),
+    ("save", 5),
+    ("save", 6),
+    ("save", 8),
+    ("load", 0),
+    ("load", 7),
 ];
 
 const IDLE: &str = "idle";
@@ -86,7 +100,7 @@ const WAITING: &str = "waiting";
 const PAUSED: &str = "paused";
 
 impl Met {
-    /// All that there is to meet.
+    /// All that there is to meet in desks; where files are bad has nights of its own.
     fn all() -> impl Iterator<Item = Met> {
         let errors = (RING..=STATE).map(Met::Error);
         let details = DETAILS.iter().copied().map(Met::Detail);
@@ -98,6 +112,7 @@ impl Met {
         let records = (1..=CLIPPED).map(Met::Record);
         let clips = CLIPS.iter().copied().map(Met::Clip);
         let sharings = SHARINGS.iter().copied().map(Met::Sharing);
+        let savings = SAVINGS.iter().copied().map(Met::Saving);
         let floats = EDGES.iter().map(|Edge { name, .. }| Met::Float(name));
         let statuses = (0..=3).map(Met::Status);
         let events = EVENTS.iter().copied().map(Met::Event);
@@ -109,6 +124,7 @@ impl Met {
             .chain(records)
             .chain(clips)
             .chain(sharings)
+            .chain(savings)
             .chain(floats)
             .chain(statuses)
             .chain(events)
@@ -124,6 +140,8 @@ impl Met {
             Met::Record(_) => "record",
             Met::Clip(_) => "clip",
             Met::Sharing(_) => "sharing",
+            Met::Saving(_) => "saving",
+            Met::Bad(_) => "bad file",
             Met::Float(_) => "float",
             Met::Status(_) => "status",
             Met::Event(_) => "event",
@@ -139,6 +157,8 @@ impl Met {
             Met::Carried(carried) => format!("{:?}", carried),
             Met::Clip(clip) => format!("{:?}", clip),
             Met::Sharing(sharing) => format!("{:?}", sharing),
+            Met::Saving(saving) => format!("{:?}", saving),
+            Met::Bad(bad) => bad.to_string(),
             Met::Float(name) => name.to_string(),
             Met::Event(event) => format!("{:?}", event),
         }
@@ -169,6 +189,10 @@ pub struct Watch {
     /// The error registers after the last operation, and the names and tokens.
     registers: Errors,
     shares: Shares,
+    kept: Kept,
+    /// How many operations were played, and what the loads among them said.
+    operations: usize,
+    loaded: BTreeMap<usize, (u32, usize)>,
     errors: BTreeSet<u32>,
     /// The ring's heads at which a submission waited.
     waited: BTreeSet<u32>,
@@ -180,6 +204,9 @@ impl Watch {
             head_at: drawn.head_at as usize,
             registers: Errors::default(),
             shares: Shares::default(),
+            kept: Kept::default(),
+            operations: 0,
+            loaded: BTreeMap::new(),
             errors: BTreeSet::new(),
             waited: BTreeSet::new(),
         }
@@ -205,6 +232,26 @@ impl Coverage {
         seat: &Seat<F>,
     ) {
         self.operations += 1;
+        self.answers(watch, said, seat);
+        self.savings(watch, operation, said, seat);
+        if *said == Said::Loaded(0, 0) {
+            // What there is of errors, names and tokens came from a file: no submission made it.
+            watch.registers = Errors::of(&seat.front);
+            watch.shares = Shares::of(&seat.front);
+        }
+        let (before, after) = (watch.registers, Errors::of(&seat.front));
+        for carried in carried::seen(operation, said, before, after) {
+            self.count(Met::Carried(carried));
+        }
+        self.shares(watch, operation, seat);
+        self.errors(watch, operation, after);
+        let (_, status) = seat.front.read(IRQ_STATUS);
+        self.count(Met::Status(status));
+        watch.operations += 1;
+    }
+
+    /// Counts a call's answer, and what came with it.
+    fn answers<F: Front>(&mut self, watch: &mut Watch, said: &Said, seat: &Seat<F>) {
         match said {
             Said::Nothing => {}
             Said::Wrote(answer) => self.count(Met::Answer("write", *answer)),
@@ -225,21 +272,18 @@ impl Coverage {
                 }
                 self.ran(watch, *ran, seat);
             }
+            Said::Saved(answer, _, _) => self.count(Met::Answer("save", *answer)),
+            Said::Loaded(answer, _) => self.count(Met::Answer("load", *answer)),
         }
-        let (before, after) = (watch.registers, Errors::of(&seat.front));
-        for carried in carried::seen(operation, said, before, after) {
-            self.count(Met::Carried(carried));
-        }
-        self.shares(watch, operation, seat);
-        self.errors(watch, operation, after);
-        let (_, status) = seat.front.read(IRQ_STATUS);
-        self.count(Met::Status(status));
     }
 
     /// Counts what a run spent, by itself or behind an answer, and that it came upon a submission that waits.
     fn ran<F: Front>(&mut self, watch: &mut Watch, ran: Ran, seat: &Seat<F>) {
         self.units += u64::from(ran.units);
         if ran.ended == Ended::Waiting && ran.units > 0 {
+            if watch.kept.loaded {
+                self.count(Met::Saving(Saving::WorkedOn));
+            }
             watch.waited.extend(watch.head(&seat.memory));
             self.records(seat);
         }
@@ -255,6 +299,30 @@ impl Coverage {
             records += 1;
         }
         self.most_records = self.most_records.max(records);
+    }
+
+    fn savings<F: Front>(
+        &mut self,
+        watch: &mut Watch,
+        operation: &Operation,
+        said: &Said,
+        seat: &Seat<F>,
+    ) {
+        let (before, memory) = (watch.kept, seat.memory.len());
+        watch.kept = Kept::of(&seat.front, before);
+        for saving in saving::seen(operation, said, (before, watch.kept), memory) {
+            self.count(Met::Saving(saving));
+        }
+        if let (Operation::Load { file }, Said::Loaded(answer, place)) = (operation, said) {
+            watch.loaded.insert(watch.operations, (*answer, *place));
+            if *answer == 0 {
+                watch.kept.loaded = true;
+                watch.kept.elsewhere = File::read(file).memory() != memory as u64;
+            } else {
+                let seen = Bad::seen(file, *place).into_iter();
+                seen.for_each(|bad| self.count(Met::Bad(bad)));
+            }
+        }
     }
 
     fn shares<F: Front>(&mut self, watch: &mut Watch, operation: &Operation, seat: &Seat<F>) {
@@ -304,12 +372,26 @@ impl Coverage {
                 self.count(Met::Float(name));
             }
         }
+        for ExpectedLoad { at, told } in &drawn.loads {
+            let said = told.place.map_or((0, 0), |place| (BAD_FILE, place));
+            let aimed = self.aims.entry(told.aim).or_default();
+            aimed.times += 1;
+            aimed.met += u64::from(watch.loaded.get(at) == Some(&said));
+        }
     }
 
     /// What was met fewer times than asked for, of all that there is.
     pub fn rarely_met(&self, least: u64) -> Vec<String> {
-        Met::all()
-            .map(|met| (met, self.met.get(&met).copied().unwrap_or(0)))
+        self.rarely(least, Met::all())
+    }
+
+    /// Where files were bad fewer times than asked for, of all places that there are.
+    pub fn rarely_bad(&self, least: u64) -> Vec<String> {
+        self.rarely(least, Bad::all().map(Met::Bad))
+    }
+
+    fn rarely(&self, least: u64, of: impl Iterator<Item = Met>) -> Vec<String> {
+        of.map(|met| (met, self.met.get(&met).copied().unwrap_or(0)))
             .filter(|&(_, times)| times < least)
             .map(|(met, times)| format!("{} {}: {}", met.group(), met.name(), times))
             .collect()

@@ -1,8 +1,9 @@
 //! Many desks, one after the other: seeds in a row, each played through both fronts or sliced.
 
 use crate::coverage::{Coverage, Watch};
+use crate::files::night;
 use crate::front::Front;
-use crate::generator::draw;
+use crate::generator::{draw, Drawn};
 use crate::player::play;
 use crate::random::Random;
 use crate::report::{examine, Failure, Pairing};
@@ -11,6 +12,23 @@ use std::ops::Range;
 
 /// Plays the desks of these seeds through both fronts. `progress` is told after each how many are done.
 pub fn compare<L: Front, R: Front>(
+    seeds: Range<u64>,
+    progress: impl FnMut(u64),
+) -> Result<Coverage, Box<Failure>> {
+    compare_drawn::<L, R>((draw, ""), seeds, progress)
+}
+
+/// Loads the files of these seeds into both fronts.
+pub fn compare_files<L: Front, R: Front>(
+    seeds: Range<u64>,
+    progress: impl FnMut(u64),
+) -> Result<Coverage, Box<Failure>> {
+    compare_drawn::<L, R>((night::draw, " --files"), seeds, progress)
+}
+
+/// Plays what is drawn so, and what makes the program draw so.
+fn compare_drawn<L: Front, R: Front>(
+    (draw, flag): (fn(u64) -> Drawn, &'static str),
     seeds: Range<u64>,
     mut progress: impl FnMut(u64),
 ) -> Result<Coverage, Box<Failure>> {
@@ -21,7 +39,7 @@ pub fn compare<L: Front, R: Front>(
         let pairing = Pairing {
             left: L::NAME,
             right: R::NAME,
-            flag: "",
+            flag,
         };
         examine(&drawn, pairing, |operations| {
             play::<L, R>(drawn.memory, operations, |operation, said, seat| {

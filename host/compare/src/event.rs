@@ -32,11 +32,21 @@ pub enum Event {
     ResetInTheMiddle,
     Disabled,
     AnsweredWhileDisabled,
+    /// A desk is loaded with what it was saved as just now, or earlier; or with what nobody saved.
+    SavedAndLoaded,
+    LoadedEarlier,
+    LoadedMadeUp,
+    /// A good file is loaded while a submission is in work, as believed; or a bad one.
+    LoadedInTheMiddle,
+    RefusedInTheMiddle,
+    /// A file has two faults at once, or is noise, in parts or all over.
+    TwoFaultsInAFile,
+    NoiseAsAFile,
     /// Anything at all, one thing after the other.
     Raving,
 }
 
-pub const EVENTS: [Event; 27] = [
+pub const EVENTS: [Event; 34] = [
     Event::NoFencePage,
     Event::FencePageAtTheEnd,
     Event::FencePageOutside,
@@ -63,5 +73,12 @@ pub const EVENTS: [Event; 27] = [
     Event::ResetInTheMiddle,
     Event::Disabled,
     Event::AnsweredWhileDisabled,
+    Event::SavedAndLoaded,
+    Event::LoadedEarlier,
+    Event::LoadedMadeUp,
+    Event::LoadedInTheMiddle,
+    Event::RefusedInTheMiddle,
+    Event::TwoFaultsInAFile,
+    Event::NoiseAsAFile,
     Event::Raving,
 ];

@@ -1,4 +1,4 @@
-//! One face for both fronts: document 01's calls with their answers as numbers.
+//! One face for both fronts: the calls of documents 01 and 02 with their answers as numbers.
 
 use crate::shape::Shape;
 pub use plain::{Ended, Ran, Record};
@@ -16,6 +16,10 @@ pub trait Front {
     /// The call's answer and the record.
     fn record(&self, i: u32) -> (u32, Record);
     fn answer(&mut self, memory: &mut [u8], good: bool, allowance: u16) -> Ran;
+    /// The call's answer and the file's length.
+    fn save(&self, buffer: &mut [u8]) -> (u32, usize);
+    /// The call's answer and the place in the file that is bad.
+    fn load(&mut self, file: &[u8]) -> (u32, usize);
     /// Every name of a resource beside the resource's lowest, in rising order.
     fn names(&self) -> Vec<(u32, u32)>;
     /// Every token used beside the lowest name of its resource, 0 if it is spent, in rising order.
@@ -54,6 +58,14 @@ impl Front for plain::Desk {
 
     fn answer(&mut self, memory: &mut [u8], good: bool, allowance: u16) -> Ran {
         plain::Desk::answer(self, memory, good, allowance)
+    }
+
+    fn save(&self, buffer: &mut [u8]) -> (u32, usize) {
+        plain::Desk::save(self, buffer)
+    }
+
+    fn load(&mut self, file: &[u8]) -> (u32, usize) {
+        plain::Desk::load(self, file)
     }
 
     fn names(&self) -> Vec<(u32, u32)> {
@@ -123,6 +135,20 @@ impl Front for zelezmut::Desk {
         ran(zelezmut::Desk::answer(
             self, memory, ticket, answer, allowance,
         ))
+    }
+
+    fn save(&self, buffer: &mut [u8]) -> (u32, usize) {
+        match self.save_into(buffer) {
+            Ok(length) => (0, length),
+            Err(refused) => (number(refused), 0),
+        }
+    }
+
+    fn load(&mut self, file: &[u8]) -> (u32, usize) {
+        match zelezmut::Desk::load(self, file) {
+            Ok(()) => (0, 0),
+            Err(bad) => (bad.number(), bad.place()),
+        }
     }
 
     fn names(&self) -> Vec<(u32, u32)> {

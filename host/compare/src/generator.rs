@@ -3,7 +3,7 @@
 
 use crate::author::{Author, PLENTY};
 use crate::event::Event;
-use crate::expected::Expected;
+use crate::expected::{Expected, ExpectedLoad};
 use crate::held::Held;
 use crate::numbers::RING_HEAD;
 use crate::submission::{some_submission, Belief, Submission};
@@ -20,6 +20,7 @@ pub struct Drawn {
     pub memory: u32,
     pub operations: Vec<Operation>,
     pub expected: Vec<Expected>,
+    pub loads: Vec<ExpectedLoad>,
     /// Where the ring's head lies in memory.
     pub head_at: u64,
     /// What else happens in it, in order.
@@ -37,6 +38,7 @@ pub fn draw(seed: u64) -> Drawn {
         world,
         operations,
         expected,
+        loads,
         events,
         ..
     } = author;
@@ -46,6 +48,7 @@ pub fn draw(seed: u64) -> Drawn {
         memory: world.memory as u32,
         operations,
         expected,
+        loads,
         head_at,
         events,
     }
@@ -90,6 +93,7 @@ impl Author {
         if self.random.percent(if self.sure { 6 } else { 80 }) {
             self.start_over();
         }
+        self.keep();
         let submissions = self.put_submissions();
         let mut ring = self.world.ring.clone();
         ring.header.head = self.head;
@@ -236,6 +240,7 @@ impl Author {
     }
 
     fn end(&mut self) {
+        self.keep();
         if self.random.percent(10) {
             self.rave();
         }

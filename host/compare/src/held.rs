@@ -1,5 +1,7 @@
 //! What the guest believes that its device holds between submissions: resources under their names, and tokens.
 
+use crate::files::good::shape_of;
+use crate::files::{field, File, Row, TEXTURE};
 use crate::packet::Backing;
 
 /// A resource under one of its names.
@@ -48,6 +50,15 @@ pub struct Held {
 }
 
 impl Held {
+    /// What a device holds that was loaded with this good file.
+    pub fn of(file: &File) -> Held {
+        let rows = file.rows.iter().zip(1..);
+        Held {
+            live: rows.map(|(row, surface)| resource(row, surface)).collect(),
+            tokens: Vec::new(),
+        }
+    }
+
     /// Whether a submission between the two used a token or spent one.
     pub fn has_other_tokens(&self, before: &Held) -> bool {
         let state = |held: &Held| -> Vec<(u64, bool)> {
@@ -61,5 +72,30 @@ impl Held {
                 .collect()
         };
         state(self) != state(before)
+    }
+}
+
+/// A file's resource.
+fn resource(row: &Row, surface: u64) -> Resource {
+    let shape = shape_of(row);
+    let texture = row[field::KIND] == TEXTURE;
+    let id = row[field::BACKING_ID];
+    let bytes = match (texture, id) {
+        (false, _) => u64::from(row[field::SIZE_LO]) | u64::from(row[field::SIZE_HI]) << 32,
+        (true, 0) => 0,
+        (true, _) => shape.packed(),
+    };
+    Resource {
+        handle: row[field::HANDLE],
+        surface,
+        texture,
+        one_image: (shape.mips, shape.layers) == (1, 1),
+        width: shape.width,
+        height: shape.height,
+        bytes,
+        backing: Backing {
+            id,
+            offset: row[field::BACKING_OFFSET],
+        },
     }
 }

@@ -21,6 +21,10 @@ pub trait Host: Front {
     fn answered(&mut self, memory: &mut [u8]) -> bool;
     /// The units spent behind a good answer with the largest allowance.
     fn carried_on(&mut self, memory: &mut [u8]) -> u16;
+    /// The length of the file that the desk is saved as.
+    fn saved(&self, buffer: &mut [u8]) -> usize;
+    /// Whether the file was good.
+    fn loaded(&mut self, file: &[u8]) -> bool;
     /// A texture's packed size; the plain program leaves it to a sum over every mip of every layer.
     fn packed_or_summed(shape: Shape) -> u64;
 
@@ -93,6 +97,16 @@ impl Host for zelezmut::Desk {
     }
 
     #[inline]
+    fn saved(&self, buffer: &mut [u8]) -> usize {
+        self.save_into(buffer).unwrap_or(0)
+    }
+
+    #[inline]
+    fn loaded(&mut self, file: &[u8]) -> bool {
+        self.load(file).is_ok()
+    }
+
+    #[inline]
     fn packed_or_summed(shape: Shape) -> u64 {
         Self::packed_size(shape)
     }
@@ -127,6 +141,16 @@ impl Host for plain::Desk {
     #[inline]
     fn carried_on(&mut self, memory: &mut [u8]) -> u16 {
         self.answer(memory, true, u16::MAX).units
+    }
+
+    #[inline]
+    fn saved(&self, buffer: &mut [u8]) -> usize {
+        self.save(buffer).1
+    }
+
+    #[inline]
+    fn loaded(&mut self, file: &[u8]) -> bool {
+        self.load(file).0 == 0
     }
 
     #[inline]

@@ -1,7 +1,8 @@
 //! Holds the proved front, [`zelezmut::Desk`], against a plain program of the same rules, [`plain::Desk`].
 //!
 //! - Random desks ([`generator`]) are played through both ([`player`]): every answer, value, register, record,
-//!   name, token and byte is equal.
+//!   name, token, saved desk and byte is equal.
+//! - Random files ([`files`]), good and bad ones, are loaded into both: the answer, the place, and all that is seen of a desk are equal.
 //! - One desk's runs, those behind answers too, cut into random slices come to the same ([`slicing`]).
 //! - The small exports, about a shape or a table alone, give the same on random and boundary ones ([`exports`]).
 //! - What the desks reach is counted ([`coverage`]), so that the generator cannot become empty.
@@ -25,6 +26,7 @@ pub mod event;
 mod every_mip;
 pub mod expected;
 pub mod exports;
+pub mod files;
 mod floats;
 mod floor;
 pub mod front;
@@ -35,6 +37,7 @@ mod good_state;
 mod held;
 pub mod host;
 mod image;
+mod keeping;
 pub mod measures;
 mod meddling;
 mod numbers;
@@ -42,6 +45,7 @@ mod packet;
 pub mod player;
 pub mod random;
 pub mod report;
+mod saving;
 mod schedule;
 pub mod shape;
 mod shares;

@@ -1,7 +1,7 @@
 //! What is measured, by which name, and with which goal.
 
 use crate::bench::Bench;
-use crate::calls::{Call, Calls, CALLS};
+use crate::calls::{Call, Calls, CALLS, SAVING};
 use crate::cases::{Case, Mode, Published, Way, MODES, PUBLISHED};
 use crate::host::Host;
 use crate::numbers::{MOST_LAYERS, MOST_NAMES};
@@ -55,6 +55,7 @@ pub fn measures() -> Vec<Measure> {
         (1.25, night(0)),
         (0.75, night(MOST_NAMES)),
         (2.0, calls()),
+        (3.0, SAVING.map(call).into()),
         (1.05, layers()),
         (1.05, vec![every_mip(1)]),
         (0.01, vec![every_mip(MOST_LAYERS)]),

@@ -274,7 +274,10 @@ impl Author {
                 }
                 7 => self.ring_doorbell(),
                 8 => self.write_control(CONTROL_ENABLE),
-                _ => self.small_talk(),
+                _ => {
+                    self.keep_in_work();
+                    self.small_talk();
+                }
             }
         }
     }

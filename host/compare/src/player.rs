@@ -1,11 +1,14 @@
 //! Plays a desk through two fronts at once. After every operation all that can be seen of them must be equal: what the call said,
-//! every readable register, every record, every name, every token, and every byte of memory.
+//! every readable register, every record, every name, every token, the desk as a saved file, and every byte of memory.
 
 use crate::front::{Front, Ran, Record};
 use std::fmt;
 use zelezmut::registers::READABLE;
 use zelezmut::script::Operation;
-use zelezmut::HostAnswer;
+use zelezmut::{HostAnswer, LONGEST_SAVED_DESK};
+
+/// What every byte of a buffer is before a desk is saved into it, as in a desk script.
+const UNWRITTEN: u8 = 0xaa;
 
 /// What an operation said, call answers included.
 #[derive(Clone, Debug, PartialEq, Eq)]
@@ -19,6 +22,10 @@ pub enum Said {
     /// Beside what was said, what became of the other memory.
     RanElsewhere(Ran, Vec<u8>),
     AnsweredElsewhere(Ran, Vec<u8>),
+    /// The length, and what became of the whole buffer.
+    Saved(u32, usize, Vec<u8>),
+    /// The place.
+    Loaded(u32, usize),
 }
 
 /// Where two fronts part.
@@ -65,12 +72,7 @@ impl<F: Front> Seat<F> {
 
     pub fn play(&mut self, operation: &Operation) -> Said {
         match operation {
-            Operation::Poke { address, bytes } => {
-                let from = (*address as usize).min(self.memory.len());
-                let to = from.saturating_add(bytes.len()).min(self.memory.len());
-                self.memory[from..to].copy_from_slice(&bytes[..to - from]);
-                Said::Nothing
-            }
+            Operation::Poke { address, bytes } => self.poke(*address, bytes),
             Operation::Write { offset, value } => Said::Wrote(self.front.write(*offset, *value)),
             Operation::Read { offset } => {
                 let (answer, value) = self.front.read(*offset);
@@ -101,8 +103,34 @@ impl<F: Front> Seat<F> {
                 let ran = self.front.answer(&mut other, good, *allowance);
                 Said::AnsweredElsewhere(ran, other)
             }
+            Operation::Save { length } => self.save(*length),
+            Operation::Load { file } => self.load(file),
         }
     }
+
+    fn poke(&mut self, address: u32, bytes: &[u8]) -> Said {
+        let from = (address as usize).min(self.memory.len());
+        let to = from.saturating_add(bytes.len()).min(self.memory.len());
+        self.memory[from..to].copy_from_slice(&bytes[..to - from]);
+        Said::Nothing
+    }
+
+    fn save(&self, length: u32) -> Said {
+        let (answer, length, buffer) = saved(&self.front, length as usize);
+        Said::Saved(answer, length, buffer)
+    }
+
+    fn load(&mut self, file: &[u8]) -> Said {
+        let (answer, place) = self.front.load(file);
+        Said::Loaded(answer, place)
+    }
+}
+
+/// Saves into a buffer of so many bytes: what the call says, and the buffer.
+pub fn saved<F: Front>(front: &F, length: usize) -> (u32, usize, Vec<u8>) {
+    let mut buffer = vec![UNWRITTEN; length];
+    let (answer, length) = front.save(&mut buffer);
+    (answer, length, buffer)
 }
 
 /// Plays one operation on both and compares all that can be seen.
@@ -123,7 +151,7 @@ pub fn step<L: Front, R: Front>(
     Ok(said)
 }
 
-/// Registers, records, names, tokens and memory.
+/// Registers, records, names, tokens, the desk as a saved file, and memory.
 pub fn equal<L: Front, R: Front>(left: &Seat<L>, right: &Seat<R>) -> Result<(), Difference> {
     let (one, other) = (&left.front, &right.front);
     for offset in READABLE {
@@ -139,6 +167,11 @@ pub fn equal<L: Front, R: Front>(left: &Seat<L>, right: &Seat<R>) -> Result<(), 
     }
     same(|| "the names".to_string(), one.names(), other.names())?;
     same(|| "the tokens".to_string(), one.tokens(), other.tokens())?;
+    same(
+        || "the saved desk".to_string(),
+        saved(one, LONGEST_SAVED_DESK + 1),
+        saved(other, LONGEST_SAVED_DESK + 1),
+    )?;
     equal_memory(&left.memory, &right.memory)
 }
 

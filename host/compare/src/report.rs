@@ -6,6 +6,7 @@ use std::panic::{catch_unwind, AssertUnwindSafe};
 use std::path::{Path, PathBuf};
 use std::{env, fmt, fs, io};
 use zelezmut::script::{encode, Operation, LONGEST_MEMORY};
+use zelezmut::LONGEST_SAVED_DESK;
 
 /// How desks are played.
 #[derive(Clone, Copy, Debug)]
@@ -108,11 +109,12 @@ fn shortened(
     operations
 }
 
-/// The state after each operation, so that a transcript shows where it goes wrong.
+/// The state after each operation and the desk saved, so that a transcript shows where it goes wrong.
 fn with_states(operations: Vec<Operation>) -> Vec<Operation> {
+    let length = LONGEST_SAVED_DESK as u32;
     operations
         .into_iter()
-        .flat_map(|operation| [operation, Operation::State])
+        .flat_map(|operation| [operation, Operation::State, Operation::Save { length }])
         .collect()
 }
 

@@ -22,6 +22,7 @@ impl Author {
         let slices = self.slices(submission.units() - spent);
         for (i, &allowance) in slices.iter().enumerate() {
             if i + spent > 0 && self.random.percent(self.restless) {
+                self.keep_in_work();
                 self.between(submission, spent);
             }
             self.run(allowance);
@@ -84,6 +85,7 @@ impl Author {
             let index = self.random.pick(&[0, 0, 1, 2, 63, 64, u32::MAX]);
             self.say(Operation::Record { index });
         }
+        self.keep_in_work();
         let mut allowance = None;
         let mut ring_moved = false;
         if self.random.percent(self.restless) {

@@ -317,6 +317,18 @@ impl<const FAULT: u8> Front for Wrong<FAULT> {
         self.call(|wrong| wrong.answer_in_its_way(memory, good, allowance))
     }
 
+    fn save(&self, buffer: &mut [u8]) -> (u32, usize) {
+        self.desk.save(buffer)
+    }
+
+    fn load(&mut self, file: &[u8]) -> (u32, usize) {
+        let said = self.desk.load(file);
+        if said.0 == 0 {
+            (self.found, self.detail) = (None, 0);
+        }
+        said
+    }
+
     fn names(&self) -> Vec<(u32, u32)> {
         self.desk.names()
     }

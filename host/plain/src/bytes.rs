@@ -1,4 +1,4 @@
-//! Little-endian fields, versions, and ranges of guest memory.
+//! Little-endian fields, halves, versions, and ranges of guest memory.
 
 /// The u32 field at byte `at`.
 pub(crate) fn u32_at(bytes: &[u8], at: usize) -> u32 {
@@ -32,6 +32,21 @@ pub(crate) fn put_u32(bytes: &mut [u8], at: usize, value: u32) {
 /// Writes the u64 field at byte `at`.
 pub(crate) fn put_u64(bytes: &mut [u8], at: usize, value: u64) {
     bytes[at..at + 8].copy_from_slice(&value.to_le_bytes());
+}
+
+/// The low half.
+pub(crate) fn low(value: u64) -> u32 {
+    value as u32
+}
+
+/// The high half.
+pub(crate) fn high(value: u64) -> u32 {
+    (value >> 32) as u32
+}
+
+/// The number of these halves.
+pub(crate) fn whole(low: u32, high: u32) -> u64 {
+    u64::from(high) << 32 | u64::from(low)
 }
 
 /// A version is good when its major is 1; any minor passes.

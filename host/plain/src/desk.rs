@@ -1,11 +1,13 @@
 //! The desk: the device's state and its calls.
 
+use crate::bytes::length;
 use crate::errors::{Error, Fault};
 use crate::fence;
 use crate::packets::{Kept, Record};
 use crate::registers::{Registers, Written};
 use crate::resources::Resources;
 use crate::ring::{self, Ring};
+use crate::saved::{self, Saved};
 use crate::submission::{Submission, Ticket};
 use crate::tokens::Tokens;
 
@@ -14,6 +16,10 @@ const OTHER_LENGTH: u32 = 1;
 const NO_REGISTER: u32 = 2;
 const NOTHING_WAITING: u32 = 3;
 const NO_RECORD: u32 = 4;
+const IN_WORK: u32 = 5;
+const TOO_SHORT: u32 = 6;
+const BAD_FILE: u32 = 7;
+const BEYOND_FORM: u32 = 8;
 
 /// How a run ended.
 #[derive(Clone, Copy, Debug, PartialEq, Eq)]
@@ -48,10 +54,10 @@ impl Ran {
     }
 }
 
-/// A device, made for one memory length.
+/// A device, made for one memory length, which only loading changes.
 #[derive(Clone, Debug)]
 pub struct Desk {
-    memory: usize,
+    memory: u64,
     registers: Registers,
     resources: Resources,
     tokens: Tokens,
@@ -65,7 +71,7 @@ impl Desk {
     /// A new device for a memory of `memory` bytes.
     pub fn new(memory: usize) -> Desk {
         Desk {
-            memory,
+            memory: memory as u64,
             registers: Registers::default(),
             resources: Resources::new(),
             tokens: Tokens::new(),
@@ -99,7 +105,7 @@ impl Desk {
     /// Runs until the allowance is spent, the device is idle, or a submission
     /// waits for the host.
     pub fn run(&mut self, mem: &mut [u8], allowance: u16) -> Ran {
-        if mem.len() != self.memory {
+        if length(mem) != self.memory {
             return Ran::refused(OTHER_LENGTH);
         }
         let mut units = 0;
@@ -149,7 +155,7 @@ impl Desk {
     /// with the allowance as [`Desk::run`] does. Refused as a whole over
     /// another memory length or with nothing waiting.
     pub fn answer(&mut self, mem: &mut [u8], good: bool, allowance: u16) -> Ran {
-        if mem.len() != self.memory {
+        if length(mem) != self.memory {
             return Ran::refused(OTHER_LENGTH);
         }
         let ticket = match &self.work {
@@ -163,6 +169,56 @@ impl Desk {
         };
         self.settle(mem, ticket, outcome);
         self.run(mem, allowance)
+    }
+
+    /// Saves the device at rest into the buffer, in form 1; gives the call
+    /// answer and the length of the file. Refused, in this order, with 5 while
+    /// a submission is in work, with 8 if the form cannot hold the device (a
+    /// token used since the last reset or load, another name, an error detail
+    /// that is not 0), with 6 if the buffer is too short. Beside these the
+    /// length is 0 and the buffer is untouched; its bytes after the file
+    /// always are.
+    pub fn save(&self, buffer: &mut [u8]) -> (u32, usize) {
+        if self.work.is_some() {
+            return (IN_WORK, 0);
+        }
+        if !self.is_within_form_1() {
+            return (BEYOND_FORM, 0);
+        }
+        let size = saved::size(&self.resources);
+        match buffer.get_mut(..size) {
+            Some(file) => {
+                saved::write(file, &self.registers, self.memory, &self.resources);
+                (DONE, size)
+            }
+            None => (TOO_SHORT, 0),
+        }
+    }
+
+    /// Becomes the device that a file in form 1 tells of, whatever it was
+    /// before: with nothing in work, detail 0, no tokens, no other names, and
+    /// the file's memory length. Gives the call answer and 0; or 7 and the
+    /// offset of the file's first bad field, or of a byte after its last, and
+    /// then nothing changes.
+    pub fn load(&mut self, file: &[u8]) -> (u32, usize) {
+        match Saved::read(file) {
+            Ok(saved) => {
+                self.memory = saved.memory;
+                self.registers = saved.registers;
+                self.resources = saved.resources;
+                self.tokens.clear();
+                self.drop_work();
+                (DONE, 0)
+            }
+            Err(bad) => (BAD_FILE, bad.place),
+        }
+    }
+
+    /// Whether form 1 can hold all there is of the device at rest.
+    fn is_within_form_1(&self) -> bool {
+        !self.tokens.are_used()
+            && !self.resources.has_other_names()
+            && self.registers.error_detail == 0
     }
 
     fn is_waiting(&self) -> bool {
@@ -262,5 +318,30 @@ impl PartialEq for Desk {
             && *kept == other.kept
             && self.tokens() == other.tokens()
             && self.tokens_in_work() == other.tokens_in_work()
+    }
+}
+
+#[cfg(test)]
+mod tests {
+    use super::*;
+    use crate::resources::Resource;
+    use crate::shapes::Shape;
+
+    #[test]
+    fn form_1_has_no_other_names_whatever_the_tokens() {
+        let mut desk = Desk::new(0);
+        let mut buffer = [0; 188];
+        for (handle, surface, saved) in [(2, 1, (DONE, 140)), (5, 1, (BEYOND_FORM, 0))] {
+            desk.resources.add(Resource {
+                handle,
+                shape: Shape::Buffer { size: 16 },
+                bytes: 16,
+                backing_id: 0,
+                backing_offset: 0,
+                surface,
+            });
+            assert_eq!(desk.save(&mut buffer), saved);
+        }
+        assert_eq!(desk.save(&mut []), (BEYOND_FORM, 0));
     }
 }

@@ -54,6 +54,11 @@ impl Error {
         self as u32
     }
 
+    /// Whether it is the number of an error.
+    pub(crate) fn is_code(code: u32) -> bool {
+        (Error::Ring.code()..=Error::State.code()).contains(&code)
+    }
+
     /// This error, raised by the step of the entry or packet at `place`.
     pub(crate) fn at(self, place: u32) -> Fault {
         Fault { error: self, place }

@@ -1,5 +1,5 @@
 //! A plain device front: registers, ring, table and packet checks, records
-//! for the host, fences. Written from `01-scope.md` alone, then amended from
+//! for the host, fences, the device saved and loaded. Written from `01-scope.md` alone, then amended from
 //! `02-change-requests.md` and `WISHES.md` alone, wish by wish; see `NOTES.md`
 //! for the wishes in it and for the points where those pages were read one way
 //! out of several.
@@ -11,10 +11,12 @@ mod bytes;
 mod desk;
 mod errors;
 mod fence;
+mod fields;
 mod packets;
 mod registers;
 mod resources;
 mod ring;
+mod saved;
 mod shapes;
 mod share;
 mod state;

@@ -1,18 +1,24 @@
 //! The register file: what each offset reads and takes, and what errors,
 //! fences and resets leave in it.
 
+use crate::bytes::{high, low};
 use crate::errors::Fault;
 
-const MAGIC: u32 = u32::from_le_bytes(*b"AGPU");
+/// What the magic register reads.
+pub(crate) const MAGIC: u32 = u32::from_le_bytes(*b"AGPU");
 /// Major 1 in the high 16 bits, minor 3.
 pub(crate) const VERSION: u32 = 65_539;
-const FEATURES: u64 = 7;
+/// What the feature registers read.
+pub(crate) const FEATURES: u64 = 7;
 
-const CONTROL_ENABLE: u32 = 1;
+/// The control bit that enables, the only one that reads back.
+pub(crate) const CONTROL_ENABLE: u32 = 1;
 const CONTROL_RESET: u32 = 2;
 
 const STATUS_FENCE: u32 = 1;
 const STATUS_ERROR: u32 = 2;
+/// All IRQ status bits.
+pub(crate) const STATUS_BITS: u32 = STATUS_FENCE | STATUS_ERROR;
 
 /// What a register write asks of the desk.
 #[derive(Clone, Copy, Debug, PartialEq, Eq)]
@@ -35,12 +41,12 @@ pub(crate) struct Registers {
     pub(crate) completed: u64,
     /// The doorbell flag.
     pub(crate) doorbell: bool,
-    irq_enable: u32,
-    irq_status: u32,
-    error_code: u32,
-    error_fence: u64,
-    error_count: u32,
-    error_detail: u32,
+    pub(crate) irq_enable: u32,
+    pub(crate) irq_status: u32,
+    pub(crate) error_code: u32,
+    pub(crate) error_fence: u64,
+    pub(crate) error_count: u32,
+    pub(crate) error_detail: u32,
 }
 
 impl Registers {
@@ -120,14 +126,6 @@ impl Registers {
             self.irq_status |= STATUS_FENCE;
         }
     }
-}
-
-fn low(value: u64) -> u32 {
-    value as u32
-}
-
-fn high(value: u64) -> u32 {
-    (value >> 32) as u32
 }
 
 fn set_low(register: &mut u64, value: u32) {

@@ -7,7 +7,7 @@
 use crate::shapes::Shape;
 
 /// The most names that may live at once.
-const MAX_NAMES: usize = 64;
+pub(crate) const MAX_NAMES: usize = 64;
 
 /// The surface number of a resource that was never exported.
 pub(crate) const NO_SURFACE: u32 = 0;
@@ -109,6 +109,25 @@ impl Resources {
         self.rows.extend_from_slice(&other.rows);
     }
 
+    /// How many names live.
+    pub(crate) fn count(&self) -> usize {
+        self.rows.len()
+    }
+
+    /// A row for each name, by rising handle.
+    pub(crate) fn by_handle(&self) -> Vec<Resource> {
+        let mut rows = self.rows.clone();
+        rows.sort_unstable_by_key(|row| row.handle);
+        rows
+    }
+
+    /// Whether any resource has another name beside its lowest.
+    pub(crate) fn has_other_names(&self) -> bool {
+        self.rows
+            .iter()
+            .any(|row| self.lowest_name_of(row) != row.handle)
+    }
+
     /// The lowest name of the resource with this surface number.
     pub(crate) fn lowest_name(&self, surface: u32) -> Option<u32> {
         let of_surface = self.rows.iter().filter(|row| row.surface == surface);
@@ -203,6 +222,13 @@ mod tests {
         assert_eq!(resources.names(), names);
         assert_eq!(resources.lowest_name(1), Some(5));
         assert_eq!(resources.lowest_name(4), None);
+    }
+
+    #[test]
+    fn other_names_are_those_above_the_lowest() {
+        assert!(!shared(&[]).has_other_names());
+        assert!(!shared(&[(9, 1), (3, 0), (2, 7), (1, 0)]).has_other_names());
+        assert!(shared(&[(9, 1), (3, 0), (2, 7), (5, 1)]).has_other_names());
     }
 
     #[test]

@@ -56,10 +56,10 @@ impl Texture {
     /// The format's block if the shape is good, whatever the pitch.
     fn checked_block(&self) -> Option<Block> {
         let block = Block::of(self.format)?;
-        let good = (1..=MAX_SIDE).contains(&self.width)
-            && (1..=MAX_SIDE).contains(&self.height)
-            && (1..=full_chain(self.width.max(self.height))).contains(&self.mips)
-            && (1..=MAX_LAYERS).contains(&self.layers);
+        let good = is_side(self.width)
+            && is_side(self.height)
+            && is_mip_count(self.mips, self.width, self.height)
+            && is_layer_count(self.layers);
         if good {
             Some(block)
         } else {
@@ -77,6 +77,26 @@ impl Texture {
         };
         row * block.count(mip_side(self.height, mip))
     }
+}
+
+/// Whether textures have such a format.
+pub(crate) fn is_format(format: u32) -> bool {
+    Block::of(format).is_some()
+}
+
+/// Whether a texture may be so wide or so high.
+pub(crate) fn is_side(side: u32) -> bool {
+    (1..=MAX_SIDE).contains(&side)
+}
+
+/// Whether a texture with these sides may have so many mips.
+pub(crate) fn is_mip_count(mips: u32, width: u32, height: u32) -> bool {
+    (1..=full_chain(width.max(height))).contains(&mips)
+}
+
+/// Whether a texture may have so many layers.
+pub(crate) fn is_layer_count(layers: u32) -> bool {
+    (1..=MAX_LAYERS).contains(&layers)
 }
 
 fn mip_side(side: u32, mip: u32) -> u32 {

@@ -46,6 +46,11 @@ impl Tokens {
         self.drop_changes();
     }
 
+    /// Whether the device has used any token, spent or not.
+    pub(crate) fn are_used(&self) -> bool {
+        !self.own.is_empty()
+    }
+
     /// The surface of a used token that was not released. It may have no name
     /// left.
     pub(crate) fn surface(&self, token: u64) -> Option<u32> {

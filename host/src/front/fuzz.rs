@@ -8,15 +8,15 @@ use crate::state::{word, MOST, MOST_TOKENS};
 use crate::state::{ENTRY_WORDS, RECORD_WORDS, RESOURCE_WORDS, TOKEN_WORDS};
 
 const MEMORY: usize = 4096;
-const BESIDE: usize = 64;
-const UNTOUCHED: u8 = 0xA5;
+pub(super) const BESIDE: usize = 64;
+pub(super) const UNTOUCHED: u8 = 0xA5;
 
 /// Words that are lent, between words that nobody may touch.
 #[derive(Clone, PartialEq)]
 #[repr(C)]
-struct Fenced<const N: usize> {
+pub(super) struct Fenced<const N: usize> {
     before: [u64; 8],
-    lent: [u64; N],
+    pub(super) lent: [u64; N],
     behind: [u64; 8],
 }
 
@@ -40,11 +40,11 @@ impl<const N: usize> Fenced<N> {
 
 /// All that calls are lent, each part fenced by itself.
 #[derive(Clone, PartialEq)]
-struct Lent {
-    words: Fenced<36>,
+pub(super) struct Lent {
+    pub(super) words: Fenced<36>,
     entries: Fenced<{ MOST * ENTRY_WORDS }>,
-    first: Fenced<{ MOST * RESOURCE_WORDS }>,
-    second: Fenced<{ MOST * RESOURCE_WORDS }>,
+    pub(super) first: Fenced<{ MOST * RESOURCE_WORDS }>,
+    pub(super) second: Fenced<{ MOST * RESOURCE_WORDS }>,
     first_tokens: Fenced<{ MOST_TOKENS * TOKEN_WORDS }>,
     second_tokens: Fenced<{ MOST_TOKENS * TOKEN_WORDS }>,
     records: Fenced<{ MOST * RECORD_WORDS }>,
@@ -55,7 +55,7 @@ struct Lent {
 impl Lent {
     /// Any words; a memory of any length up to so many bytes, mostly the one that the words say. In every other one stands a submission,
     /// so that calls come far, with some bytes changed.
-    fn new(numbers: &mut Numbers) -> Lent {
+    pub(super) fn new(numbers: &mut Numbers) -> Lent {
         let length = match numbers.next() % 4 {
             0 => numbers.next() as usize % 128,
             _ => numbers.next() as usize % (MEMORY + 1),
@@ -99,7 +99,7 @@ impl Lent {
         }
     }
 
-    fn fences_stand(&self) -> bool {
+    pub(super) fn fences_stand(&self) -> bool {
         let (before, rest) = self.memory.split_at(BESIDE);
         let behind = &rest[rest.len() - BESIDE..];
         self.words.stands()
@@ -261,7 +261,7 @@ fn call_readers(lent: &Lent, numbers: &mut Numbers) {
 /// How many rounds of some calls are tried: few, or as many as this variable says.
 const ROUNDS_VARIABLE: &str = "ZELEZMUT_FUZZ";
 
-fn rounds() -> u64 {
+pub(super) fn rounds() -> u64 {
     match std::env::var(ROUNDS_VARIABLE) {
         Ok(rounds) => rounds.parse().expect("a number of rounds"),
         Err(_) => 2_000,

@@ -4,6 +4,7 @@ use super::*;
 use crate::guest;
 use crate::numbers::Numbers;
 use crate::registers;
+use crate::saved::LONGEST_SAVED_DESK;
 use crate::state::{word, ENTRIES, NOTHING, PACKETS};
 
 const MEMORY: usize = 4096;
@@ -91,5 +92,21 @@ fn a_reset_leaves_nothing_of_the_work() {
         write(&mut state, registers::CONTROL, registers::CONTROL_RESET);
         assert_eq!(state.words[word::TAG], NOTHING);
         nothing_is_left_over(&state);
+    }
+}
+
+/// Of what was in work before a load, too.
+#[test]
+fn a_load_leaves_nothing_of_the_work() {
+    let mut numbers = Numbers(14);
+    let mut file = vec![0; LONGEST_SAVED_DESK];
+    let (answer, length) = save(&make(7), &mut file);
+    assert_eq!(answer, 0);
+    for units in 0..100 {
+        let (mut state, mut memory) = begun(&mut numbers);
+        run(&mut state, &mut memory, units % 24);
+        assert_eq!(load(&mut state, &file[..length as usize]), (0, 0));
+        nothing_is_left_over(&state);
+        assert!(*state == *make(7));
     }
 }

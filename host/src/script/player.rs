@@ -1,6 +1,6 @@
 //! Plays the operations of a script on a desk, and gives the transcript's lines.
 use super::{Operation, Script};
-use crate::{registers, Desk, Ran, Refused, Ticket};
+use crate::{registers, BadFile, Desk, HostAnswer, Ran, Refused, Ticket};
 
 /// A desk and its memory, on which operations are played one by one.
 #[derive(Clone, Debug)]
@@ -16,6 +16,12 @@ impl Player {
             desk: Desk::new(memory as usize),
             memory: vec![0; memory as usize],
         }
+    }
+
+    /// A desk and a memory as they are, to play on with: a night that began elsewhere. The memory may have any length; nothing runs if it
+    /// is not the desk's.
+    pub fn with(desk: Desk, memory: Vec<u8>) -> Player {
+        Player { desk, memory }
     }
 
     /// Plays an operation and gives its line, without a line's end.
@@ -35,11 +41,7 @@ impl Player {
             Operation::Run { allowance } => ran("run", self.desk.run(&mut self.memory, allowance)),
             Operation::Record { index } => record(&self.desk, index),
             Operation::Answer { answer, allowance } => {
-                let ticket = current_ticket(&self.desk);
-                let answered = self
-                    .desk
-                    .answer(&mut self.memory, ticket, answer, allowance);
-                ran("answer", answered)
+                answered(&mut self.desk, &mut self.memory, answer, allowance)
             }
             Operation::State => state(&self.desk, &self.memory),
             Operation::RunElsewhere { allowance, length } => {
@@ -52,10 +54,10 @@ impl Player {
                 length,
             } => {
                 let mut elsewhere = vec![0; length as usize];
-                let ticket = current_ticket(&self.desk);
-                let answered = self.desk.answer(&mut elsewhere, ticket, answer, allowance);
-                ran("answer", answered)
+                answered(&mut self.desk, &mut elsewhere, answer, allowance)
             }
+            Operation::Save { length } => save(&self.desk, length),
+            Operation::Load { ref file } => loaded(self.desk.load(file)),
         }
     }
 
@@ -85,12 +87,6 @@ pub fn transcript(script: &Script) -> String {
     lines
 }
 
-/// A script's answers are for what waits, whatever that is. Where nothing does, no ticket is right, and the front says so.
-fn current_ticket(desk: &Desk) -> Ticket {
-    desk.waiting()
-        .map_or(Ticket::NONE, |waiting| waiting.ticket)
-}
-
 /// The call's answer.
 fn number<T>(called: Result<T, Refused>) -> u32 {
     called.map_or_else(refusal, |_| 0)
@@ -118,6 +114,13 @@ fn ran(call: &str, ran: Result<Ran, Refused>) -> String {
     }
 }
 
+/// A script's answers are for what waits, whatever that is. Where nothing does, no ticket is right, and the front says so.
+fn answered(desk: &mut Desk, memory: &mut [u8], answer: HostAnswer, allowance: u16) -> String {
+    let waiting = desk.waiting();
+    let ticket = waiting.map_or(Ticket::NONE, |waiting| waiting.ticket);
+    ran("answer", desk.answer(memory, ticket, answer, allowance))
+}
+
 fn record(desk: &Desk, index: u32) -> String {
     match desk.record(index) {
         Ok(record) => {
@@ -126,6 +129,24 @@ fn record(desk: &Desk, index: u32) -> String {
         }
         Err(refused) => format!("record {} 0 0 0 0 0", refusal(refused)),
     }
+}
+
+/// What every byte of a buffer is before a save.
+const UNWRITTEN: u8 = 0xAA;
+
+fn save(desk: &Desk, length: u32) -> String {
+    let mut buffer = vec![UNWRITTEN; length as usize];
+    let saved = desk.save_into(&mut buffer);
+    let (answer, written) = (number(saved), saved.unwrap_or(0));
+    format!("save {} {} {}", answer, written, hash(&buffer))
+}
+
+fn loaded(loaded: Result<(), BadFile>) -> String {
+    let (answer, place) = match loaded {
+        Ok(()) => (0, 0),
+        Err(bad) => (bad.number(), bad.place()),
+    };
+    format!("load {} {}", answer, place)
 }
 
 fn state(desk: &Desk, memory: &[u8]) -> String {
@@ -158,6 +179,44 @@ mod tests {
         assert_eq!(hash(b""), HASH_START);
         assert_eq!(hash(b"a"), 0xAF63_DC4C_8601_EC8C);
         assert_eq!(hash(b"foobar"), 0x8594_4171_F739_67E8);
+    }
+
+    #[test]
+    fn a_desk_is_saved_loaded_and_refused() {
+        let mut player = Player::new(64);
+        let file = player.desk().save().unwrap();
+        let mut whole = file.clone();
+        whole.resize(100, UNWRITTEN);
+        let mut line = |operation| player.play(&operation);
+        assert_eq!(
+            line(Operation::Save { length: 100 }),
+            format!("save 0 92 {}", hash(&whole))
+        );
+        let untouched = hash(&[UNWRITTEN; 91]);
+        assert_eq!(
+            line(Operation::Save { length: 91 }),
+            format!("save 6 0 {}", untouched)
+        );
+        let mut other = file.clone();
+        other[76] = 65;
+        let short = file[..90].to_vec();
+        assert_eq!(line(Operation::Load { file: short }), "load 7 88");
+        assert_eq!(line(Operation::Run { allowance: 1 }), "run 0 0 idle");
+        // Another memory length than the script's memory has.
+        assert_eq!(line(Operation::Load { file: other }), "load 0 0");
+        assert_eq!(line(Operation::Run { allowance: 1 }), "run 1 0 idle");
+        let (answer, allowance) = (HostAnswer::Good, 1);
+        assert_eq!(
+            line(Operation::Answer { answer, allowance }),
+            "answer 1 0 idle"
+        );
+        let length = 65;
+        assert_eq!(
+            line(Operation::RunElsewhere { allowance, length }),
+            "run 0 0 idle"
+        );
+        assert_eq!(line(Operation::Load { file }), "load 0 0");
+        assert_eq!(line(Operation::Run { allowance: 1 }), "run 0 0 idle");
     }
 
     #[test]

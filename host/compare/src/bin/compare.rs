@@ -8,18 +8,26 @@ use std::time::{Duration, Instant};
 use std::{env, ops::Range};
 
 const USAGE: &str = "\
-usage: compare [--desks N] [--seed S] [--sliced]
+usage: compare [--desks N] [--seed S] [--sliced | --files]
   --desks N   how many desks (20000)
   --seed S    the first desk's seed, the others follow (0)
-  --sliced    each run, behind an answer too, whole on one front and in random slices on the other";
+  --sliced    each run, behind an answer too, whole on one front and in random slices on the other
+  --files     desks into which files are loaded, ten each, and nothing else is done";
 
 struct Wish {
     seeds: Range<u64>,
-    sliced: bool,
+    way: Way,
+}
+
+#[derive(Clone, Copy)]
+enum Way {
+    Whole,
+    Sliced,
+    Files,
 }
 
 fn wish(mut arguments: impl Iterator<Item = String>) -> Result<Wish, String> {
-    let (mut desks, mut seed, mut sliced) = (20_000, 0, false);
+    let (mut desks, mut seed, mut way) = (20_000, 0, Way::Whole);
     while let Some(argument) = arguments.next() {
         let mut number = || {
             let given = arguments
@@ -32,7 +40,8 @@ fn wish(mut arguments: impl Iterator<Item = String>) -> Result<Wish, String> {
         match argument.as_str() {
             "--desks" => desks = number()?,
             "--seed" => seed = number()?,
-            "--sliced" => sliced = true,
+            "--sliced" => way = Way::Sliced,
+            "--files" => way = Way::Files,
             _ => return Err(format!("what is {}?", argument)),
         }
     }
@@ -41,7 +50,7 @@ fn wish(mut arguments: impl Iterator<Item = String>) -> Result<Wish, String> {
         .ok_or_else(|| "seeds above 2^64 - 1".to_string())?;
     Ok(Wish {
         seeds: seed..end,
-        sliced,
+        way,
     })
 }
 
@@ -72,12 +81,14 @@ fn main() -> ExitCode {
         }
     };
     let desks = wish.seeds.end - wish.seeds.start;
-    let told = if wish.sliced {
-        desks::compare_sliced::<zelezmut::Desk, plain::Desk>(wish.seeds, progress(desks))
-            .map(|runs| format!("{} desks, {} runs", desks, runs))
-    } else {
-        desks::compare::<zelezmut::Desk, plain::Desk>(wish.seeds, progress(desks))
-            .map(|coverage| coverage.to_string())
+    let (seeds, progress) = (wish.seeds, progress(desks));
+    let told = match wish.way {
+        Way::Whole => desks::compare::<zelezmut::Desk, plain::Desk>(seeds, progress)
+            .map(|coverage| coverage.to_string()),
+        Way::Sliced => desks::compare_sliced::<zelezmut::Desk, plain::Desk>(seeds, progress)
+            .map(|runs| format!("{} desks, {} runs", desks, runs)),
+        Way::Files => desks::compare_files::<zelezmut::Desk, plain::Desk>(seeds, progress)
+            .map(|coverage| coverage.to_string()),
     };
     match told {
         Ok(told) => {

@@ -193,7 +193,7 @@ impl Random {
 }
 
 /// One random change to a scene, from the guest or the host.
-fn disturb(random: &mut Random, scene: &mut Scene) {
+pub fn disturb(random: &mut Random, scene: &mut Scene) {
     match random.below(16) {
         0..=5 => random.submission(scene),
         6 => random.spoil(&mut scene.mem),

@@ -210,6 +210,23 @@ pub fn record(kind: u32, handle: u32, id: u32, gpa: u64, length: u64) -> Record 
     }
 }
 
+/// The bytes of these fields.
+pub fn file(fields: &[u32]) -> Vec<u8> {
+    fields
+        .iter()
+        .flat_map(|field| field.to_le_bytes())
+        .collect()
+}
+
+/// The device's file, which is not longer than that of 64 resources.
+pub fn saved(desk: &Desk) -> Vec<u8> {
+    let mut buffer = vec![0xAA; 92 + 64 * 48];
+    let (answer, length) = desk.save(&mut buffer);
+    assert_eq!(answer, 0);
+    buffer.truncate(length);
+    buffer
+}
+
 /// A device and its memory.
 #[derive(Clone, Debug, PartialEq)]
 pub struct Scene {

@@ -8,7 +8,7 @@ use std::fs::File;
 use std::io::{self, ErrorKind, Read, Write};
 use std::path::Path;
 use std::process::exit;
-use zelezmut::script;
+use zelezmut::script::{self, Player};
 
 /// A file of its own, since the script ./play prints it too, before this program is built.
 const USAGE: &str = include_str!("usage.txt");
@@ -54,6 +54,17 @@ fn play_files(names: &[OsString], out: &mut impl Write) -> io::Result<i32> {
     Ok(status)
 }
 
+/// Both halves of the sample night, one after the other.
+fn play_sample(out: &mut impl Write) -> io::Result<()> {
+    sample::print_title(out)?;
+    let mut player = Player::new(sample::MEMORY);
+    let refused = |refused| io::Error::new(ErrorKind::Other, refused);
+    for half in sample::halves().map_err(refused)? {
+        sample::play(&half, &mut player, out)?;
+    }
+    Ok(())
+}
+
 /// A word that begins with a dash is an option; behind `--` all words are files.
 fn play(words: &[OsString], out: &mut impl Write) -> io::Result<i32> {
     let dashes = words.iter().position(|word| word == "--");
@@ -74,7 +85,7 @@ fn play(words: &[OsString], out: &mut impl Write) -> io::Result<i32> {
             Ok(BAD_USE)
         }
         None if before.is_empty() && behind.is_empty() => {
-            sample::play(out)?;
+            play_sample(out)?;
             Ok(0)
         }
         None => play_files(&[before, behind].concat(), out),

@@ -1,12 +1,13 @@
-//! The sample night: thirteen submissions of one guest, written as a desk script and played like one, each line of the transcript
-//! with what it means.
+//! The sample night: thirteen submissions of one guest, and a host that is swapped between two of them, written as a desk script and played
+//! like one, each line of the transcript with what it means. It is in two halves, since an example plays them in two programs.
 use std::io::{self, Write};
 use zelezmut::guest::{self, Backing, Clear, Descriptor, Entry, Packet, Part};
 use zelezmut::guest::{Scissor, Shape, Viewport};
-use zelezmut::script::{self, Operation};
-use zelezmut::{registers, HostAnswer};
+use zelezmut::script::{self, Operation, Player};
+use zelezmut::{registers, FileField, HostAnswer, Refused};
 
-const MEMORY: u32 = 16_384;
+/// The bytes of the guest's memory.
+pub const MEMORY: u32 = 16_384;
 
 // Where the guest has put its things.
 const RING: u32 = 0;
@@ -79,7 +80,7 @@ const BLUE: Clear = Clear {
 type Step = (Operation, &'static str);
 
 /// Steps under one heading.
-struct Scene {
+pub struct Scene {
     heading: &'static str,
     steps: Vec<Step>,
 }
@@ -107,6 +108,15 @@ fn record(index: u32, meaning: &'static str) -> Step {
 
 fn answer(answer: HostAnswer, allowance: u16, meaning: &'static str) -> Step {
     (Operation::Answer { answer, allowance }, meaning)
+}
+
+fn save(length: u32, meaning: &'static str) -> Step {
+    (Operation::Save { length }, meaning)
+}
+
+fn load(file: &[u8], meaning: &'static str) -> Step {
+    let file = file.to_vec();
+    (Operation::Load { file }, meaning)
 }
 
 /// The guest writes submission `fence` into its slot, moves the tail and rings. Fences count from 1, and slots from 0.
@@ -312,19 +322,14 @@ fn refused_at_a_packet() -> Scene {
             "detail: the packet 40 bytes into the stream, after header and destroy",
         ),
         read(registers::ERROR_FENCE_LO, "of the submission with fence 3"),
-        read(
-            registers::COMPLETED_FENCE_LO,
-            "its fence is finished all the same",
-        ),
-        read(
-            registers::IRQ_STATUS,
-            "status bits 0 and 1: a fence, an error",
-        ),
+        read(registers::COMPLETED_FENCE_LO, "its fence is finished, too"),
+        read(registers::IRQ_STATUS, "bits 0 and 1: a fence, an error"),
         write(
             registers::IRQ_ACK,
             registers::IRQ_FENCE | registers::IRQ_ERROR,
             "the guest takes note of both",
         ),
+        save(256, "a saved desk has no field for the detail: answer 8"),
     ]);
     Scene {
         heading: "Submission 3 is refused: a packet names a resource that is not there.",
@@ -341,6 +346,7 @@ fn failed() -> Scene {
     steps.extend([
         run(100, "four units: opening, two entries, one packet"),
         record(0, "nothing to read or write: no record, answer 4"),
+        save(256, "and no saving while a submission is in work: answer 5"),
         answer(
             HostAnswer::Failed,
             100,
@@ -357,6 +363,40 @@ fn failed() -> Scene {
     Scene {
         heading: "Submission 4 is failed by the host.",
         steps,
+    }
+}
+
+/// Between two submissions another host takes over. It gets the file that the desk was saved as.
+fn moved(file: &[u8]) -> Scene {
+    let mut spoilt = file.to_vec();
+    let control = FileField::Register(registers::CONTROL);
+    spoilt[control.place()] = 2;
+    Scene {
+        heading: "The host is swapped: the desk is saved, and loaded where another host takes over.",
+        steps: vec![
+            save(
+                100,
+                "the detail is 0 by now, but a buffer of 100 bytes is too short: answer 6",
+            ),
+            save(
+                256,
+                "236 bytes: 92, and 48 for each of texture 1 and buffers 2 and 3. Later bytes are kept",
+            ),
+            write(
+                registers::CONTROL,
+                registers::CONTROL_RESET,
+                "the other host's device: it is reset, and has no resources",
+            ),
+            read(registers::COMPLETED_FENCE_LO, "no fence is finished there"),
+            load(
+                &spoilt,
+                "a file in which control is 2: answer 7; control stands at byte 32",
+            ),
+            load(&file[..100], "the first 100 bytes alone: the field at 100 is missing, a size"),
+            load(file, "the file as it was saved"),
+            read(registers::COMPLETED_FENCE_LO, "fence 4 is finished"),
+            read(registers::CONTROL, "and the device is enabled"),
+        ],
     }
 }
 
@@ -611,13 +651,27 @@ fn released() -> Scene {
     }
 }
 
-fn night() -> Vec<Scene> {
-    vec![
+/// What the desk is saved as after these scenes.
+fn saved_after(scenes: &[Scene]) -> Result<Vec<u8>, Refused> {
+    let mut player = Player::new(MEMORY);
+    for operation in operations(scenes) {
+        player.play(&operation);
+    }
+    player.desk().save()
+}
+
+/// The night, up to where another host has taken over, and from there on.
+pub fn halves() -> Result<[Vec<Scene>; 2], Refused> {
+    let mut first = vec![
         set_up(),
         shared_texture(),
         readback(),
         refused_at_a_packet(),
         failed(),
+    ];
+    let file = saved_after(&first)?;
+    first.push(moved(&file));
+    let second = vec![
         refused_at_an_entry(),
         kept_alive(),
         drawing(),
@@ -626,24 +680,22 @@ fn night() -> Vec<Scene> {
         imported(),
         one_name_left(),
         released(),
-    ]
+    ];
+    Ok([first, second])
 }
 
-/// The night as the file of a desk script has it.
-fn written(night: &[Scene]) -> Vec<u8> {
-    let operations: Vec<Operation> = night
-        .iter()
-        .flat_map(|scene| &scene.steps)
-        .map(|(operation, _)| operation.clone())
-        .collect();
-    script::encode(MEMORY, &operations)
+/// The operations of some scenes, as the file of a desk script has them.
+fn operations(scenes: &[Scene]) -> Vec<Operation> {
+    let steps = scenes.iter().flat_map(|scene| &scene.steps);
+    let operations: Vec<Operation> = steps.map(|(operation, _)| operation.clone()).collect();
+    script::decode(&script::encode(MEMORY, &operations)).operations
 }
 
 /// A line's room before its meaning; a longer line has its meaning below.
 const LINE: usize = 26;
 
-/// Plays the night and prints it.
-pub fn play(out: &mut impl Write) -> io::Result<()> {
+/// Prints what the night begins with.
+pub fn print_title(out: &mut impl Write) -> io::Result<()> {
     writeln!(
         out,
         "A sample night: guest memory of {} bytes, played through the proved front.",
@@ -652,13 +704,16 @@ pub fn play(out: &mut impl Write) -> io::Result<()> {
     writeln!(
         out,
         "After each call's name stands its answer (0: done), then what the call gives."
-    )?;
-    let night = night();
-    let transcript = script::transcript(&script::decode(&written(&night)));
-    let mut lines = transcript.lines();
-    for scene in night {
+    )
+}
+
+/// Plays scenes and prints them.
+pub fn play(scenes: &[Scene], player: &mut Player, out: &mut impl Write) -> io::Result<()> {
+    let mut operations = operations(scenes).into_iter();
+    for scene in scenes {
         writeln!(out, "\n{}", scene.heading)?;
-        for ((_, meaning), line) in scene.steps.iter().zip(&mut lines) {
+        for ((_, meaning), operation) in scene.steps.iter().zip(&mut operations) {
+            let line = player.play(&operation);
             if line.len() < LINE {
                 writeln!(out, "  {:LINE$}{}", line, meaning)?;
             } else {

@@ -1,0 +1,17 @@
+pub mod FirstBroken
+pub mod Refusals
+pub mod Rising
+pub mod FileWords
+pub mod GoodFile
+pub mod GoodShape
+pub mod LoadedResources
+pub mod SameDevice
+pub mod SaveOfLoad
+pub mod LoadedIsSound
+pub mod Savable
+pub mod LoadedIsSavable
+pub mod WrittenResources
+pub mod LoadOfSave
+pub mod OneFile
+pub mod Example
+pub mod Places

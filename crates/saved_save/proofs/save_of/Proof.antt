@@ -1,0 +1,46 @@
+-- `save_of` meets its contract, a law for each end. Assumes nothing.
+use Rattle.saved_save.specs.Saving.{saving-of}
+use borrow.Author.Needs.{needs}
+use Rattle.saved_save.proofs.save_of.Statement.{statement}
+use Rattle.saved_save.proofs.save_of.Tie as tie
+
+element-copy-out-if1 : tie.Need-element-copy-out-if1
+element-copy-out-if1 c = search needs
+
+not-saved-requires : tie.Need-not-saved-requires
+not-saved-requires c κs = search needs
+
+returns : tie.Need-returns
+returns c = search saving-of
+
+is-beyond-requires : tie.Need-is-beyond-requires
+is-beyond-requires c κs = search needs
+
+not-saved-requires-2 : tie.Need-not-saved-requires-2
+not-saved-requires-2 c κs = search needs
+
+returns-2 : tie.Need-returns-2
+returns-2 c = search saving-of
+
+save-form-requires : tie.Need-save-form-requires
+save-form-requires c κs = search needs
+
+same-length : tie.Need-same-length
+same-length c = search needs
+
+returns-3 : tie.Need-returns-3
+returns-3 c = search saving-of
+
+pub save-of-spec : {M : Type 1} → statement M
+save-of-spec =
+    tie.close
+    (tie.spec
+    element-copy-out-if1
+    not-saved-requires
+    returns
+    is-beyond-requires
+    not-saved-requires-2
+    returns-2
+    save-form-requires
+    same-length
+    returns-3)
