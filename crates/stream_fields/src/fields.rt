@@ -1,4 +1,4 @@
-// The table of opcodes, and what each packet says: the fields of its own part, each read once.
+// What each packet says: the fields of its own part, each read once.
 ghost use mathlib.Core.Path.{_≡_};
 ghost use Prim.Native.Nat.{_≤_};
 ghost use lib.ListN.{length};
@@ -8,7 +8,6 @@ ghost use Rattle.rules.specs.Floats.{nan-among};
 ghost use Rattle.rules.specs.Layouts.{buffer-fields, texture-fields, destroy-fields, dirty-fields, copy-fields, target-fields, viewport-floats, viewport-fields, scissor-fields, clear-floats, clear-fields, export-fields, import-fields, release-fields};
 ghost use Rattle.rules.specs.Stream.{unless-nan};
 ghost use Rattle.rules.specs.declared.Packet.the-variants.{Viewport, Clear};
-ghost use Rattle.stream_fields.specs.Fields.{reading};
 use floats::float_of;
 use floats::is_nan;
 use rules::ClearValues;
@@ -25,48 +24,12 @@ use rules::SetScissor;
 use rules::SetTarget;
 use rules::SetViewport;
 use rules::Shape;
-use rules::numbers::CLEAR;
-use rules::numbers::COPY_BUFFER;
-use rules::numbers::CREATE_BUFFER;
-use rules::numbers::CREATE_TEXTURE;
-use rules::numbers::DESTROY;
-use rules::numbers::DIRTY_RANGE;
-use rules::numbers::EXPORT_SURFACE;
-use rules::numbers::IMPORT_SURFACE;
-use rules::numbers::RELEASE_TOKEN;
-use rules::numbers::SET_SCISSOR;
-use rules::numbers::SET_TARGET;
-use rules::numbers::SET_VIEWPORT;
 use signed::signed_of;
 use words::u32_at;
 use words::u64_at;
 
-// The least bytes of each packet that we know.
-const CREATE_BUFFER_SIZE: usize = rules::numbers::CREATE_BUFFER_SIZE as usize;
-
-const CREATE_TEXTURE_SIZE: usize = rules::numbers::CREATE_TEXTURE_SIZE as usize;
-
-const DESTROY_SIZE: usize = rules::numbers::DESTROY_SIZE as usize;
-
-const DIRTY_RANGE_SIZE: usize = rules::numbers::DIRTY_RANGE_SIZE as usize;
-
-const COPY_BUFFER_SIZE: usize = rules::numbers::COPY_BUFFER_SIZE as usize;
-
-const SET_TARGET_SIZE: usize = rules::numbers::SET_TARGET_SIZE as usize;
-
-const SET_VIEWPORT_SIZE: usize = rules::numbers::SET_VIEWPORT_SIZE as usize;
-
-const SET_SCISSOR_SIZE: usize = rules::numbers::SET_SCISSOR_SIZE as usize;
-
-const CLEAR_SIZE: usize = rules::numbers::CLEAR_SIZE as usize;
-
-const EXPORT_SURFACE_SIZE: usize = rules::numbers::EXPORT_SURFACE_SIZE as usize;
-
-const IMPORT_SURFACE_SIZE: usize = rules::numbers::IMPORT_SURFACE_SIZE as usize;
-
-const RELEASE_TOKEN_SIZE: usize = rules::numbers::RELEASE_TOKEN_SIZE as usize;
-
-fn buffer_fields(part: &[u8]) -> CreateBuffer
+// A create of a buffer.
+pub fn buffer_fields(part: &[u8]) -> CreateBuffer
     requires { ⌜ create-buffer-size ≤ length (now part) ⌝ }
     ensures { λ r. ⌜ r ≡ buffer-fields (now (part .entry)) ⌝ }
 {
@@ -91,7 +54,8 @@ fn texture_shape(part: &[u8]) -> Shape
     }
 }
 
-fn texture_fields(part: &[u8]) -> CreateTexture
+// A create of a texture.
+pub fn texture_fields(part: &[u8]) -> CreateTexture
     requires { ⌜ create-texture-size ≤ length (now part) ⌝ }
     ensures { λ r. ⌜ r ≡ texture-fields (now (part .entry)) ⌝ }
 {
@@ -104,7 +68,8 @@ fn texture_fields(part: &[u8]) -> CreateTexture
     }
 }
 
-fn destroy_fields(part: &[u8]) -> DestroyResource
+// A destroy.
+pub fn destroy_fields(part: &[u8]) -> DestroyResource
     requires { ⌜ destroy-size ≤ length (now part) ⌝ }
     ensures { λ r. ⌜ r ≡ destroy-fields (now (part .entry)) ⌝ }
 {
@@ -113,7 +78,8 @@ fn destroy_fields(part: &[u8]) -> DestroyResource
     }
 }
 
-fn dirty_fields(part: &[u8]) -> DirtyRange
+// A dirty range.
+pub fn dirty_fields(part: &[u8]) -> DirtyRange
     requires { ⌜ dirty-range-size ≤ length (now part) ⌝ }
     ensures { λ r. ⌜ r ≡ dirty-fields (now (part .entry)) ⌝ }
 {
@@ -124,7 +90,8 @@ fn dirty_fields(part: &[u8]) -> DirtyRange
     }
 }
 
-fn copy_fields(part: &[u8]) -> CopyBuffer
+// A copy of a buffer.
+pub fn copy_fields(part: &[u8]) -> CopyBuffer
     requires { ⌜ copy-buffer-size ≤ length (now part) ⌝ }
     ensures { λ r. ⌜ r ≡ copy-fields (now (part .entry)) ⌝ }
 {
@@ -138,7 +105,8 @@ fn copy_fields(part: &[u8]) -> CopyBuffer
     }
 }
 
-fn target_fields(part: &[u8]) -> SetTarget
+// A render target.
+pub fn target_fields(part: &[u8]) -> SetTarget
     requires { ⌜ set-target-size ≤ length (now part) ⌝ }
     ensures { λ r. ⌜ r ≡ target-fields (now (part .entry)) ⌝ }
 {
@@ -147,7 +115,8 @@ fn target_fields(part: &[u8]) -> SetTarget
     }
 }
 
-fn scissor_fields(part: &[u8]) -> SetScissor
+// A scissor.
+pub fn scissor_fields(part: &[u8]) -> SetScissor
     requires { ⌜ set-scissor-size ≤ length (now part) ⌝ }
     ensures { λ r. ⌜ r ≡ scissor-fields (now (part .entry)) ⌝ }
 {
@@ -159,7 +128,8 @@ fn scissor_fields(part: &[u8]) -> SetScissor
     }
 }
 
-fn export_fields(part: &[u8]) -> ExportSurface
+// An export.
+pub fn export_fields(part: &[u8]) -> ExportSurface
     requires { ⌜ export-surface-size ≤ length (now part) ⌝ }
     ensures { λ r. ⌜ r ≡ export-fields (now (part .entry)) ⌝ }
 {
@@ -169,7 +139,8 @@ fn export_fields(part: &[u8]) -> ExportSurface
     }
 }
 
-fn import_fields(part: &[u8]) -> ImportSurface
+// An import.
+pub fn import_fields(part: &[u8]) -> ImportSurface
     requires { ⌜ import-surface-size ≤ length (now part) ⌝ }
     ensures { λ r. ⌜ r ≡ import-fields (now (part .entry)) ⌝ }
 {
@@ -179,7 +150,8 @@ fn import_fields(part: &[u8]) -> ImportSurface
     }
 }
 
-fn release_fields(part: &[u8]) -> ReleaseToken
+// A release.
+pub fn release_fields(part: &[u8]) -> ReleaseToken
     requires { ⌜ release-token-size ≤ length (now part) ⌝ }
     ensures { λ r. ⌜ r ≡ release-fields (now (part .entry)) ⌝ }
 {
@@ -208,7 +180,7 @@ fn any_nan(a: u32, b: u32, c: u32, d: u32, e: u32) -> bool
 }
 
 // A viewport, or that one of its floats is a NaN.
-fn viewport_packet(part: &[u8]) -> Packet
+pub fn viewport_packet(part: &[u8]) -> Packet
     requires { ⌜ set-viewport-size ≤ length (now part) ⌝ }
     ensures { λ r. ⌜ r ≡ unless-nan (viewport-floats (now (part .entry))) (Viewport (viewport-fields (now (part .entry)))) ⌝ }
 {
@@ -235,7 +207,7 @@ fn viewport_packet(part: &[u8]) -> Packet
 }
 
 // A clear, or that one of its floats is a NaN.
-fn clear_packet(part: &[u8]) -> Packet
+pub fn clear_packet(part: &[u8]) -> Packet
     requires { ⌜ clear-size ≤ length (now part) ⌝ }
     ensures { λ r. ⌜ r ≡ unless-nan (clear-floats (now (part .entry))) (Clear (clear-fields (now (part .entry)))) ⌝ }
 {
@@ -260,91 +232,3 @@ fn clear_packet(part: &[u8]) -> Packet
     })
 }
 
-// What a packet says: nothing, if we know its opcode and it is shorter than the table of opcodes has it.
-pub enum Reading {
-    TooShort,
-    Says(Packet),
-}
-
-// The table of opcodes: what a packet with an opcode says, from the beginning of its own part of the stream. Newer drivers append
-// fields, which are not read. A packet whose opcode we do not know is skipped, whatever its size.
-pub fn read_part(op: u32, part: &[u8]) -> Reading
-    ensures { λ r. ⌜ r ≡ reading op (now (part .entry)) ⌝ }
-{
-    let size = part.len();
-    match op {
-        CREATE_BUFFER => {
-            if size < CREATE_BUFFER_SIZE {
-                return Reading::TooShort;
-            }
-            Reading::Says(Packet::Buffer(buffer_fields(part)))
-        }
-        CREATE_TEXTURE => {
-            if size < CREATE_TEXTURE_SIZE {
-                return Reading::TooShort;
-            }
-            Reading::Says(Packet::Texture(texture_fields(part)))
-        }
-        DESTROY => {
-            if size < DESTROY_SIZE {
-                return Reading::TooShort;
-            }
-            Reading::Says(Packet::Destroy(destroy_fields(part)))
-        }
-        DIRTY_RANGE => {
-            if size < DIRTY_RANGE_SIZE {
-                return Reading::TooShort;
-            }
-            Reading::Says(Packet::Dirty(dirty_fields(part)))
-        }
-        COPY_BUFFER => {
-            if size < COPY_BUFFER_SIZE {
-                return Reading::TooShort;
-            }
-            Reading::Says(Packet::Copy(copy_fields(part)))
-        }
-        SET_TARGET => {
-            if size < SET_TARGET_SIZE {
-                return Reading::TooShort;
-            }
-            Reading::Says(Packet::Target(target_fields(part)))
-        }
-        SET_VIEWPORT => {
-            if size < SET_VIEWPORT_SIZE {
-                return Reading::TooShort;
-            }
-            Reading::Says(viewport_packet(part))
-        }
-        SET_SCISSOR => {
-            if size < SET_SCISSOR_SIZE {
-                return Reading::TooShort;
-            }
-            Reading::Says(Packet::Scissor(scissor_fields(part)))
-        }
-        CLEAR => {
-            if size < CLEAR_SIZE {
-                return Reading::TooShort;
-            }
-            Reading::Says(clear_packet(part))
-        }
-        EXPORT_SURFACE => {
-            if size < EXPORT_SURFACE_SIZE {
-                return Reading::TooShort;
-            }
-            Reading::Says(Packet::Export(export_fields(part)))
-        }
-        IMPORT_SURFACE => {
-            if size < IMPORT_SURFACE_SIZE {
-                return Reading::TooShort;
-            }
-            Reading::Says(Packet::Import(import_fields(part)))
-        }
-        RELEASE_TOKEN => {
-            if size < RELEASE_TOKEN_SIZE {
-                return Reading::TooShort;
-            }
-            Reading::Says(Packet::Release(release_fields(part)))
-        }
-        _ => Reading::Says(Packet::Unknown),
-    }
-}

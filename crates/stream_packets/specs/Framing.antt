@@ -9,7 +9,7 @@ use borrow.Author.Tests.{eq-eqb, ne-eqb, lt-ltb, le-ltb, ltb-false, eqb-true, no
 use lib.Dec.{ltb, eqb}
 use lib.ListN.{length, take, drop, length-drop}
 use lib.Seq.{drop-drop, length-take-le}
-use Rattle.stream_fields.specs.Fields.{reading, none-known, known-none, says-nothing, part-short, part-says}
+use Rattle.stream_opcodes.specs.Opcodes.{reading, none-known, known-none, says-nothing, part-short, part-says}
 use Rattle.rules.specs.Numbers.{bad-packet}
 use Rattle.rule_laws.specs.Fine.{all-kept}
 use Rattle.rules.specs.Judging.{refusal, rule, _▹_}
@@ -23,8 +23,8 @@ use Rattle.rules.specs.declared.Packet.{Packet}
 use Rattle.rules.specs.declared.Packet.the-variants.{Unknown}
 use Rattle.rules.specs.declared.Frame.{Frame}
 use Rattle.rules.specs.declared.Frame.the-variants.{Whole, Misframed}
-use Rattle.stream_fields.specs.declared.fields.Reading.{Reading}
-use Rattle.stream_fields.specs.declared.fields.Reading.the-variants.{TooShort, Says}
+use Rattle.stream_opcodes.specs.declared.Reading.{Reading}
+use Rattle.stream_opcodes.specs.declared.Reading.the-variants.{TooShort, Says}
 use Rattle.stream_packets.specs.declared.framing.PacketRead.{PacketRead}
 use Rattle.stream_packets.specs.declared.framing.PacketRead.the-variants.{Whole as WholePacket, Misframed as NoPacket}
 

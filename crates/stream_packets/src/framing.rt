@@ -11,8 +11,8 @@ use rules::numbers::CLEAR;
 use rules::numbers::CREATE_BUFFER;
 use rules::numbers::EXPORT_SURFACE;
 use rules::numbers::SET_TARGET;
-use stream_fields::fields::Reading;
-use stream_fields::fields::read_part;
+use stream_opcodes::Reading;
+use stream_opcodes::read_part;
 use widths::u32_to_usize;
 use words::u32_at;
 

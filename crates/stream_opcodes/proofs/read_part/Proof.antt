@@ -1,8 +1,8 @@
 -- `read_part` meets its contract. Assumes nothing.
 use borrow.Author.Needs.{needs}
-use Rattle.stream_fields.specs.Fields.{reading-part}
-use Rattle.stream_fields.proofs.fields.read_part.Statement.{statement}
-use Rattle.stream_fields.proofs.fields.read_part.Tie as tie
+use Rattle.stream_opcodes.specs.Opcodes.{reading-part}
+use Rattle.stream_opcodes.proofs.read_part.Statement.{statement}
+use Rattle.stream_opcodes.proofs.read_part.Tie as tie
 
 returns : tie.Need-returns
 returns c = search reading-part
