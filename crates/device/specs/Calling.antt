@@ -6,7 +6,7 @@ use Prim.Native.Nat.{ℕ}
 use borrow.Author.Needs.{needs}
 use Rattle.rules.specs.State.{made}
 use Rattle.rules.specs.Calls.{call-write, call-read, call-run, call-record, call-answer}
-use Rattle.registers.specs.Views.{Writes}
+use Rattle.register_writes.specs.Views.{Writes}
 use Rattle.device_calls.specs.Views.{valueOf, recordReadOf, Makes, Reads, GivesRecord}
 use Rattle.device_calls.specs.declared.ValueRead.{ValueRead}
 use Rattle.device_calls.specs.declared.RecordRead.{RecordRead}

@@ -74,7 +74,7 @@ impl Device {
         let firsttokens = self.firsttokens;
         let secondtokens = self.secondtokens;
         let records = self.records;
-        let answer = registers::writing::write(&mut words, offset, value);
+        let answer = register_writes::write(&mut words, offset, value);
         let device = Device {
             words,
             entries,

@@ -43,7 +43,7 @@ pub fn find_entry(entries: &Entries, kept: usize, id: u32) -> usize
     requires { ⌜ kept ≤ most ⌝ }
     ensures { λ r. ⌜ r ≡ indexOf entry-id id (entriesOf kept (now (entries .entry))) ⌝ }
 {
-    rows::finding::find_row(entries, WORDS, kept, id)
+    rows_finding::find_row(entries, WORDS, kept, id)
 }
 
 // Reads each field of an entry once.

@@ -20,7 +20,7 @@ use Rattle.rules.specs.declared.Shape.{Shape}
 use Rattle.rules.specs.declared.Resource.{Resource}
 use Rattle.rows.specs.Rows.{rowAt, table, tableFrom, tab, tab-ext, row-field, length-rowAt, from-first, from-none, from-zero}
 use Rattle.rows.specs.Keys.{same-or-not}
-use Rattle.rows.specs.Renaming.{wordRenamed, rowsRenamed, table-renamed}
+use Rattle.rows_renaming.specs.Renaming.{wordRenamed, rowsRenamed, table-renamed}
 use Rattle.kept_resources.specs.Views.{small, resourceOf, resourcesOf}
 
 -- ---- rename

@@ -32,7 +32,7 @@ pub fn rename(resources: &mut Resources, live: usize, old: u32, new: u32)
     requires { ⌜ live ≤ most ⌝ }
     ensures { λ _. ⌜ resourcesOf live (now (resources .exit)) ≡ rename old new (resourcesOf live (now (resources .entry))) ⌝ }
 {
-    rows::renaming::rename_rows(resources, WORDS, LOWEST, live, old, new);
+    rows_renaming::rename_rows(resources, WORDS, LOWEST, live, old, new);
 }
 
 // The lowest name of a resource by the rows from `i` on, where `best` is that by the rows after it, or 0.

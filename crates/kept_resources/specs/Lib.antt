@@ -1,3 +1,2 @@
 pub mod Views
 pub mod Resources
-pub mod Storing

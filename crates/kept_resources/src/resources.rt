@@ -78,5 +78,5 @@ pub fn find_resource(resources: &Resources, live: usize, handle: u32) -> usize
     requires { ⌜ live ≤ most ⌝ }
     ensures { λ r. ⌜ r ≡ indexOf handle-of handle (resourcesOf live (now (resources .entry))) ⌝ }
 {
-    rows::finding::find_row(resources, WORDS, live, handle)
+    rows_finding::find_row(resources, WORDS, live, handle)
 }

@@ -17,7 +17,7 @@ use Rattle.rules.specs.Lists.{over, pushed}
 use Rattle.rules.specs.Names.{renamed, rebind}
 use Rattle.rules.specs.declared.Token.{Token}
 use Rattle.rows.specs.Rows.{rowAt, table, tab, tab-ext, length-rowAt, row-field, table-push-sets, table-replace, table-copied}
-use Rattle.rows.specs.Renaming.{wordRenamed, rowsRenamed, table-renamed}
+use Rattle.rows_renaming.specs.Renaming.{wordRenamed, rowsRenamed, table-renamed}
 use Rattle.kept_resources.specs.Views.{small}
 use Rattle.kept_tokens.specs.Views.{tokenOf, tokensOf, spentAt}
 

@@ -32,5 +32,5 @@ pub fn is_bound(tokens: &Tokens, used: usize, name: u32) -> bool
     requires { ⌜ used ≤ most-tokens ⌝ }
     ensures { λ r. ⌜ r ≡ isBound name (tokensOf used (now (tokens .entry))) ⌝ }
 {
-    rows::finding::find_row(tokens, WORDS, used, name) < used
+    rows_finding::find_row(tokens, WORDS, used, name) < used
 }

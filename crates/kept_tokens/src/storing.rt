@@ -39,7 +39,7 @@ pub fn rebind(tokens: &mut Tokens, used: usize, old: u32, new: u32)
     requires { ⌜ used ≤ most-tokens ⌝ }
     ensures { λ _. ⌜ tokensOf used (now (tokens .exit)) ≡ rebind old new (tokensOf used (now (tokens .entry))) ⌝ }
 {
-    rows::renaming::rename_rows(tokens, WORDS, NAME, used, old, new);
+    rows_renaming::rename_rows(tokens, WORDS, NAME, used, old, new);
 }
 
 // The first `used` tokens of one table over another's.

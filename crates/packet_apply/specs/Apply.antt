@@ -39,7 +39,7 @@ use Rattle.packet_share.specs.Import.{Imports}
 use Rattle.packet_share.specs.Release.{Releases}
 use Rattle.packet_export.specs.declared.export.Exported.{Exported}
 use Rattle.packet_share.specs.declared.release.Released.{Released}
-use Rattle.packet_state.specs.Target.{Targets}
+use Rattle.packet_target.specs.Target.{Targets}
 use Rattle.packet_state.specs.Values.{Views, Clears}
 use Rattle.packet_ranges.specs.declared.applied.Applied.{Applied}
 use Rattle.packet_ranges.specs.declared.applied.Renamed.{Renamed}

@@ -6,7 +6,7 @@ use kept_records::Records;
 use kept_records::push_record;
 use kept_resources::resources::Resources;
 use kept_resources::resources::find_resource;
-use kept_resources::storing::push_resource;
+use kept_storing::push_resource;
 use packet_ranges::applied::Applied;
 use packet_ranges::applied::refuse;
 use rules::Record;

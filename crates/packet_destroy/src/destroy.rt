@@ -6,7 +6,7 @@ use kept_names::naming::shareable;
 use kept_resources::resources::Resources;
 use kept_resources::resources::find_resource;
 use kept_resources::resources::resource_row;
-use kept_resources::storing::remove_resource;
+use kept_storing::remove_resource;
 use packet_ranges::applied::Applied;
 use packet_ranges::applied::Renamed;
 use packet_ranges::applied::refuse_renaming;

@@ -2,7 +2,7 @@
 // a table of its own. The target ends with its handle.
 use crate::tokens::HeldTokens;
 use kept_resources::resources::Resources;
-use kept_resources::storing::copy_resources;
+use kept_storing::copy_resources;
 use packet_ranges::applied::Applied;
 use rules::Verdict;
 ghost use mathlib.Core.Path.{_≡_};

@@ -4,7 +4,7 @@ use kept_names::naming::rename;
 use kept_resources::resources::Resources;
 use kept_resources::resources::find_resource;
 use kept_resources::resources::resource_row;
-use kept_resources::storing::push_resource;
+use kept_storing::push_resource;
 use kept_tokens::Tokens;
 use kept_tokens::finding::find_token;
 use packet_ranges::applied::Applied;

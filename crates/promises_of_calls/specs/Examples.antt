@@ -29,7 +29,7 @@ use Rattle.device.specs.declared.Device.{Device}
 use Rattle.promises.specs.NightLog.{zeros}
 use Rattle.promises_of_packets.specs.Held.{Every}
 use Rattle.zelezmut.specs.Said.{SaysRun, SaysAnswer, SaysRecord}
-use Rattle.registers.specs.Views.{Writes}
+use Rattle.register_writes.specs.Views.{Writes}
 use Rattle.device_calls.specs.Views.{Makes}
 use Rattle.promises.specs.Chains.{Served}
 use Rattle.promises_of_submissions.specs.Night.{Night}

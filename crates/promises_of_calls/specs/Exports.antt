@@ -15,7 +15,7 @@ use Rattle.rules.specs.declared.Record.{Record}
 use Rattle.rules.specs.declared.Ended.{Ended}
 use Rattle.rules.specs.declared.Ended.the-variants.{Idle, Waiting, Paused}
 use Rattle.run_state.specs.Views.{setIn, worldIn}
-use Rattle.registers.specs.Views.{Writes}
+use Rattle.register_writes.specs.Views.{Writes}
 use Rattle.device_calls.specs.Views.{Makes}
 use Rattle.device.specs.Views.{stateOf}
 use Rattle.device.specs.Calling.{is-made}

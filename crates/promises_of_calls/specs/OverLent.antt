@@ -6,7 +6,7 @@ use mathlib.Core.Bool.{Bool}
 use Prim.Native.Nat.{ℕ}
 use Rattle.rules.specs.Numbers.{done}
 use Rattle.run_state.specs.Views.{Lent, lent as lending}
-use Rattle.registers.specs.Views.{Writes}
+use Rattle.register_writes.specs.Views.{Writes}
 use Rattle.device_calls.specs.Views.{Makes, Reads, GivesRecord}
 use Rattle.device_calls.specs.declared.ValueRead.{ValueRead}
 use Rattle.device_calls.specs.declared.RecordRead.{RecordRead}

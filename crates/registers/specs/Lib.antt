@@ -1,4 +1,2 @@
 pub mod Map
 pub mod Laws
-pub mod Views
-pub mod Writing

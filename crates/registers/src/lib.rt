@@ -1,6 +1,5 @@
 // The register map: what the guest reads at an offset, of a device's words. The offsets stand in offsets.rt.
 pub mod offsets;
-pub mod writing;
 
 use rules::numbers::DEVICE_MAGIC;
 use rules::numbers::FEATURES;

@@ -1,6 +1,4 @@
 // Rows of words in a flat list: moved, copied, and counted out in a guest's table.
-pub mod finding;
-pub mod renaming;
 
 ghost use mathlib.Core.Path.{_≡_};
 ghost use Prim.Native.Nat.{_+_, _*_, _≤_};

@@ -1,6 +1,6 @@
 // The resources of a good file, stored as rows of a device's table.
 use kept_resources::resources::Resources;
-use kept_resources::storing::push_resource;
+use kept_storing::push_resource;
 use rules::Kind;
 use rules::Resource;
 use rules::Shape;

@@ -16,7 +16,7 @@ ghost use mathlib.Core.Path.{_≡_};
 ghost use Prim.Native.Nat.{_≤_};
 ghost use Rattle.rules.specs.Calls.{ended-number};
 ghost use Rattle.run_state.specs.Views.{setIn};
-ghost use Rattle.registers.specs.Views.{Writes};
+ghost use Rattle.register_writes.specs.Views.{Writes};
 ghost use Rattle.device_calls.specs.Views.{Makes};
 ghost use Rattle.zelezmut.specs.Said.{recordWords, saidBeside, saidSpent, SaysValue, SaysRun, SaysAnswer, SaysRecord};
 
@@ -84,7 +84,7 @@ pub extern "C" fn zelezmut_make(words: &mut Words, memory: u64)
 pub extern "C" fn zelezmut_write(words: &mut Words, offset: u32, value: u32) -> u32
     ensures { λ r. ⌜ Writes (now (words .entry)) offset value r (now (words .exit)) ⌝ }
 {
-    registers::writing::write(words, offset, value)
+    register_writes::write(words, offset, value)
 }
 
 // Reads a register: its value, and 2^32 times the call's answer.

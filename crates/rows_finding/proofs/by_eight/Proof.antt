@@ -1,0 +1,56 @@
+-- `by_eight` meets its contract. The invariant: the rows left are eights, and the key's place from the first on is as far as
+-- from row i on. The measure is the rows that are left. Assumes nothing.
+use mathlib.Core.Path.{_≡_, refl}
+use Prim.Native.Nat.{_≤_, _-_, _+_, _%_}
+use native.Mathlib.Omega.{arith}
+use borrow.Author.Needs.{needs}
+use Rattle.rules.specs.Lists.{indexOf}
+use Rattle.rows.specs.Rows.{tableFrom, firstWord}
+use Rattle.rows_finding.specs.Finding.{scanning}
+use Rattle.rows_finding.proofs.by_eight.Statement.{statement}
+use Rattle.rows_finding.proofs.by_eight.Tie as tie
+
+abbrev Inv-loop : tie.InvT-loop
+Inv-loop rows width from count key i₀ i = ((i ≤ count) × ((count - i) % 8 ≡ 0)) × (from + indexOf firstWord key (tableFrom (λ r. r) width from count rows) ≡ i + indexOf firstWord key (tableFrom (λ r. r) width i count rows))
+
+abbrev μ-loop : tie.MeasureT-loop
+μ-loop rows width from count key i₀ i = count - i
+
+loop-holds : tie.Need-loop-holds Inv-loop μ-loop
+loop-holds c = (search needs, refl)
+
+of-eight-requires : tie.Need-of-eight-requires Inv-loop μ-loop
+of-eight-requires c κs = search scanning
+
+add-place : tie.Need-add-place Inv-loop μ-loop
+add-place c = search scanning
+
+add-i : tie.Need-add-i Inv-loop μ-loop
+add-i c = search scanning
+
+loop-less : tie.Need-loop-less Inv-loop μ-loop
+loop-less c = omega arith
+
+loop-again : tie.Need-loop-again Inv-loop μ-loop
+loop-again c = (omega arith, search scanning)
+
+returns : tie.Need-returns Inv-loop μ-loop
+returns c = search scanning
+
+returns-2 : tie.Need-returns-2 Inv-loop μ-loop
+returns-2 c = search scanning
+
+pub by-eight-spec : {M : Type 1} → statement M
+by-eight-spec =
+    tie.close
+    (tie.spec
+    Inv-loop
+    μ-loop
+    loop-holds
+    of-eight-requires
+    add-place
+    add-i
+    loop-less
+    loop-again
+    returns
+    returns-2)
