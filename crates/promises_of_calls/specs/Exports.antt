@@ -20,7 +20,8 @@ use Rattle.device_calls.specs.Views.{Makes}
 use Rattle.device.specs.Views.{stateOf}
 use Rattle.device.specs.Calling.{is-made}
 use Rattle.device.specs.declared.Device.{Device}
-use Rattle.zelezmut.specs.Said.{saidValue, recordWords, SaysValue, SaysRun, SaysAnswer, SaysRecord, SaysLoaded}
+use Rattle.export_numbers.specs.Numbers.{saidValue, recordWords}
+use Rattle.zelezmut.specs.Said.{SaysValue, SaysRun, SaysAnswer, SaysRecord, SaysLoaded}
 use Rattle.promises_of_saving.specs.Refusals.{load-of-good, kept-is-good, loaded-exactly}
 use Rattle.promises_of_units.specs.Called.{Call, after}
 use Rattle.promises_of_units.specs.Called.Call.{writes, reads, runs, records, answers}

@@ -1,14 +1,10 @@
 -- What the saying of a call's values asks. Assumes nothing.
 use mathlib.Core.Path.{_≡_, sym, ap, _∙_}
 use mathlib.Core.Bool.{Bool}
-use mathlib.Core.List.{List, [], _∷_}
-use Prim.Native.Nat.{ℕ, _+_, _*_, _≤_, _<_}
-use native.Mathlib.Omega.{arith}
+use mathlib.Core.List.{List}
+use Prim.Native.Nat.{ℕ, _<_}
 use borrow.Author.Needs.{needs}
-use lib.ListN.{length, set, drop, drop-of-length-le}
-use lib.Seq.{sets-eq}
-use Rattle.rules.specs.Calls.{ended-number, RecordRead as RecordReadBy, Ran, call-run, call-answer}
-use Rattle.rules.specs.declared.Record.{Record}
+use Rattle.rules.specs.Calls.{RecordRead as RecordReadBy, Ran, call-run, call-answer}
 use Rattle.run_state.specs.Views.{setIn, deskIn, lent, Refused}
 use Rattle.rules.specs.Saved.{Saved, Loaded}
 use Rattle.saved_save.specs.Views.{Saves}
@@ -20,7 +16,8 @@ use Rattle.device_calls.specs.declared.ValueRead.{ValueRead}
 use Rattle.device_calls.specs.declared.RecordRead.{RecordRead}
 use Rattle.device_memory_calls.specs.Views.{ranOf, Runs, Answers}
 use Rattle.device_memory_calls.specs.declared.Spent.{Spent}
-use Rattle.zelezmut.specs.Said.{saidBeside, saidValue, saidRun, saidSpent, recordWords, SaysValue, SaysSpent, SaysRun, SaysAnswer, SaysRecord, SaysSaved, SaysLoaded}
+use Rattle.export_numbers.specs.Numbers.{saidBeside, saidValue, saidRun, saidSpent, recordWords}
+use Rattle.zelezmut.specs.Said.{SaysValue, SaysSpent, SaysRun, SaysAnswer, SaysRecord, SaysSaved, SaysLoaded}
 use Rattle.rules.specs.Table.{table-finding, table-error, table-place}
 use Rattle.rules.specs.declared.Fault.{Fault}
 use Rattle.table_whole.specs.Whole.{shown}
@@ -53,11 +50,6 @@ pub ruleset saying-saved = (says-saved, says-loaded, needs)
 
 -- ---- zelezmut_run, zelezmut_answer
 
-pub says-number : (x : Spent) (n u v : ℕ) → (n ≡ ended-number (x .ended)) × (n ≤ 2) → u ≡ x .units → (v ≡ x .answer) × (v < 4294967296) → v + (256 * n + 65536 * u) ≡ saidSpent x
-says-number x n u v p q t = rw (p .0, q, t .0)
-
-pub ruleset saying-number = (says-number, needs)
-
 module _ (s e a b ft st c m s′ e′ a′ b′ ft′ st′ c′ m′ : List ℕ) (x : Spent) (n : ℕ) (is : n ≡ saidSpent x) where
   says-spent : (r : Ran) → ranOf x (lent s′ e′ a′ b′ ft′ st′ c′ m′) ≡ r → (Refused (x .answer) → lent s′ e′ a′ b′ ft′ st′ c′ m′ ≡ lent s e a b ft st c m) → SaysSpent r (lent s e a b ft st c m) n (lent s′ e′ a′ b′ ft′ st′ c′ m′)
   says-spent r k still =
@@ -80,15 +72,6 @@ pub ruleset saying-run = (says-run, says-answer, needs)
 
 -- ---- zelezmut_record
 
-five-set : (l : List ℕ) (a b c d e : ℕ) → length l ≡ 5 → set (set (set (set (set l 0 a) 1 b) 2 c) 3 d) 4 e ≡ a ∷ b ∷ c ∷ d ∷ e ∷ []
-five-set l a b c d e long =
-    let rest : drop 5 l ≡ [] = drop-of-length-le l {i = 5} (omega arith) in
-    sets-eq (a ∷ b ∷ c ∷ d ∷ e ∷ []) l 0 (omega arith) ∙ rw rest
-
-pub says-words : (l : List ℕ) (x : Record) (kind handle id : ℕ) → length l ≡ 5 → (kind ≡ x .kind) × (kind < 4294967296) → (handle ≡ x .handle) × (handle < 4294967296) → (id ≡ x .id) × (id < 4294967296)
-    → set (set (set (set (set l 0 kind) 1 handle) 2 id) 3 (x .gpa)) 4 (x .length) ≡ recordWords x
-says-words l x kind handle id long p q t = five-set l kind handle id (x .gpa) (x .length) long ∙ rw (p .0, q .0, t .0)
-
 pub says-record : (s c : List ℕ) (i : ℕ) (x : RecordRead) (said : List ℕ) → GivesRecord s c i x → said ≡ recordWords (x .range) → SaysRecord s c i (x .answer) said
 says-record s c i x said k p =
     record {
@@ -96,7 +79,7 @@ says-record s c i x said k p =
       range = λ e a b ft st. p ∙ ap (λ (h : RecordReadBy). recordWords (h .range)) (k .hands e a b ft st);
     }
 
-pub ruleset saying-record = (says-words, says-record, needs)
+pub ruleset saying-record = (says-record, needs)
 
 -- ---- zelezmut_make
 

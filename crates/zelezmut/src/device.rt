@@ -1,75 +1,20 @@
 // The device over state that the host owns: its words and its six tables. Zero or not, any words mean some device; `zelezmut_make` makes a
 // new one of them. A call's values stand beside its answer in one number, or, for a record, in five words.
-use device_memory_calls::Spent;
+use export_numbers::beside;
+use export_numbers::said;
+use export_numbers::say_record;
 use kept_entries::Entries;
 use kept_records::Records;
 use kept_resources::resources::Resources;
 use kept_tokens::Tokens;
-use rules::Ended;
-use rules::Record;
 use run_state::Words;
 use run_state::is_set;
-use widths::u16_to_word;
 use widths::u32_to_word;
 use widths::word_to_usize;
-ghost use mathlib.Core.Path.{_≡_};
-ghost use Prim.Native.Nat.{_≤_};
-ghost use Rattle.rules.specs.Calls.{ended-number};
 ghost use Rattle.run_state.specs.Views.{setIn};
 ghost use Rattle.register_writes.specs.Views.{Writes};
 ghost use Rattle.device_calls.specs.Views.{Makes};
-ghost use Rattle.zelezmut.specs.Said.{recordWords, saidBeside, saidSpent, SaysValue, SaysRun, SaysAnswer, SaysRecord};
-
-// An answer stands above the four bytes of the value beside it.
-const ABOVE_VALUE: u64 = 4294967296;
-
-// How a run ended stands above its answer, and the units above that.
-const ABOVE_ANSWER: u64 = 256;
-
-const ABOVE_ENDED: u64 = 65536;
-
-// A value, and 2^32 times the answer that it stands beside.
-pub fn beside(value: u32, answer: u32) -> u64
-    ensures { λ r. ⌜ r ≡ saidBeside value answer ⌝ }
-{
-    u32_to_word(value) + ABOVE_VALUE * u32_to_word(answer)
-}
-
-// Idle 0, waiting 1, paused 2.
-fn number_of(ended: Ended) -> u64
-    ensures { λ r. ⌜ (r ≡ ended-number ended) × (r ≤ 2) ⌝ }
-{
-    match ended {
-        Ended::Idle => 0,
-        Ended::Waiting => 1,
-        Ended::Paused => 2,
-    }
-}
-
-// What was spent in one number: the call's answer, 2^8 times how it ended and 2^16 times the units.
-fn said(x: Spent) -> u64
-    ensures { λ r. ⌜ r ≡ saidSpent x ⌝ }
-{
-    let how = x.ended;
-    let ended = number_of(how);
-    let units = u16_to_word(x.units);
-    u32_to_word(x.answer) + (ABOVE_ANSWER * ended + ABOVE_ENDED * units)
-}
-
-// Says a record: kind, handle, id, GPA, length.
-fn say_record(said: &mut [u64; 5], range: Record)
-    ensures { λ _. ⌜ now (said .exit) ≡ recordWords range ⌝ }
-{
-    let all = &said[..];
-    let kind = u32_to_word(range.kind);
-    let handle = u32_to_word(range.handle);
-    let id = u32_to_word(range.id);
-    said[0] = kind;
-    said[1] = handle;
-    said[2] = id;
-    said[3] = range.gpa;
-    said[4] = range.length;
-}
+ghost use Rattle.zelezmut.specs.Said.{SaysValue, SaysRun, SaysAnswer, SaysRecord};
 
 // A new device for a memory of so many bytes. Its tables may hold anything.
 #[no_mangle]

@@ -6,11 +6,7 @@ pub mod saved;
 ghost use mathlib.Core.Path.{_≡_};
 ghost use Rattle.rules.specs.Shapes.{packed-size};
 ghost use Rattle.rules.specs.Table.{table-error, table-place};
-ghost use Rattle.zelezmut.specs.Layout.{layout-number};
-
-// The layout: version 3, of 36 words of numbers, 256 of entries, 768 of each table of resources, 512 of each table of tokens and 320 of
-// records.
-const LAYOUT: u64 = 3468915218055168320;
+ghost use Rattle.export_numbers.specs.Layout.{layout-number};
 
 // For a host, before its first call: what the words and rows that it lends mean and how many there are, in one number. From the lowest digit
 // up, each of 4,096: words of records, of one table of tokens, of one of resources, of entries, of numbers; above these the version, which moves
@@ -19,7 +15,7 @@ const LAYOUT: u64 = 3468915218055168320;
 pub extern "C" fn zelezmut_layout() -> u64
     ensures { λ r. ⌜ r ≡ layout-number ⌝ }
 {
-    LAYOUT
+    export_numbers::layout()
 }
 
 // For the emulator's host: the bytes of a backed texture, 0 for a bad shape or pitch.

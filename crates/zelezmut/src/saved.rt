@@ -1,6 +1,6 @@
 // A desk that is saved and loaded: the device over state that the host owns, and a file that it lends. What stands beside a call's answer is in
 // one number with it.
-use crate::device::beside;
+use export_numbers::beside;
 use kept_resources::resources::Resources;
 use run_state::Words;
 ghost use Rattle.zelezmut.specs.Said.{SaysSaved, SaysLoaded};

@@ -1,8 +1,8 @@
 -- `say_record` meets its contract. Assumes nothing.
-use Rattle.zelezmut.specs.Saying.{saying-record}
+use Rattle.export_numbers.specs.Saying.{saying-record}
 use borrow.Author.Needs.{needs}
-use Rattle.zelezmut.proofs.device.say_record.Statement.{statement}
-use Rattle.zelezmut.proofs.device.say_record.Tie as tie
+use Rattle.export_numbers.proofs.say_record.Statement.{statement}
+use Rattle.export_numbers.proofs.say_record.Tie as tie
 
 u32-to-word-requires : tie.Need-u32-to-word-requires
 u32-to-word-requires c κs = search needs
