@@ -1,11 +1,10 @@
 // A resource of a saved desk: its twelve fields, read once and judged in their order.
-pub mod shapes;
 
-use crate::shapes::good_layers;
-use crate::shapes::good_mips;
-use crate::shapes::good_offset;
-use crate::shapes::good_pitch;
-use crate::shapes::has_size;
+use saved_shapes::good_layers;
+use saved_shapes::good_mips;
+use saved_shapes::good_offset;
+use saved_shapes::good_pitch;
+use saved_shapes::has_size;
 use rules::FileCheck;
 use rules::Shape;
 use rules::numbers::BUFFER_KIND;

@@ -1,8 +1,8 @@
 -- `good_mips` meets its contract. Assumes nothing.
-use Rattle.saved_resources.specs.Shapes.{counting}
+use Rattle.saved_shapes.specs.Shapes.{counting}
 use borrow.Author.Needs.{needs}
-use Rattle.saved_resources.proofs.shapes.good_mips.Statement.{statement}
-use Rattle.saved_resources.proofs.shapes.good_mips.Tie as tie
+use Rattle.saved_shapes.proofs.good_mips.Statement.{statement}
+use Rattle.saved_shapes.proofs.good_mips.Tie as tie
 
 returns : tie.Need-returns
 returns c = search counting

@@ -1,7 +1,7 @@
 -- `good_offset` meets its contract. Assumes nothing.
-use Rattle.saved_resources.specs.Shapes.{backing-rules}
-use Rattle.saved_resources.proofs.shapes.good_offset.Statement.{statement}
-use Rattle.saved_resources.proofs.shapes.good_offset.Tie as tie
+use Rattle.saved_shapes.specs.Shapes.{backing-rules}
+use Rattle.saved_shapes.proofs.good_offset.Statement.{statement}
+use Rattle.saved_shapes.proofs.good_offset.Tie as tie
 
 returns : tie.Need-returns
 returns c = search backing-rules

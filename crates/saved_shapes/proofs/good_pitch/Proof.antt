@@ -1,8 +1,8 @@
 -- `good_pitch` meets its contract. Assumes nothing.
-use Rattle.saved_resources.specs.Shapes.{backing-rules}
+use Rattle.saved_shapes.specs.Shapes.{backing-rules}
 use borrow.Author.Needs.{needs}
-use Rattle.saved_resources.proofs.shapes.good_pitch.Statement.{statement}
-use Rattle.saved_resources.proofs.shapes.good_pitch.Tie as tie
+use Rattle.saved_shapes.proofs.good_pitch.Statement.{statement}
+use Rattle.saved_shapes.proofs.good_pitch.Tie as tie
 
 returns : tie.Need-returns
 returns c = search backing-rules
