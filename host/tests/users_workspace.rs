@@ -15,7 +15,8 @@ fn main() {
 #[test]
 fn a_workspace_with_the_project_as_a_folder_builds() {
     let folder = Folder::new("users-workspace");
-    folder.put("Cargo.toml", "[workspace]\nmembers = [\"emulator\"]\n");
+    let workspace = "[workspace]\nresolver = \"2\"\nmembers = [\"emulator\"]\n";
+    folder.put("Cargo.toml", workspace);
     folder.put_emulator("emulator", EMULATOR);
 
     let built = build(&folder, &["build", "--package", "emulator"]);
