@@ -1,16 +1,16 @@
 // A resource of a saved desk: its twelve fields, read once and judged in their order.
 
-use saved_shapes::good_layers;
-use saved_shapes::good_mips;
-use saved_shapes::good_offset;
-use saved_shapes::good_pitch;
-use saved_shapes::has_size;
 use rules::FileCheck;
 use rules::Shape;
 use rules::numbers::BUFFER_KIND;
 use rules::numbers::TEXTURE_KIND;
 use saved_fields::field_at;
 use saved_fields::must;
+use saved_shapes::good_layers;
+use saved_shapes::good_mips;
+use saved_shapes::good_offset;
+use saved_shapes::good_pitch;
+use saved_shapes::has_size;
 use texture_shapes::formats::unit_of;
 use texture_shapes::good_side_of;
 ghost use mathlib.Core.Path.{_≡_};

@@ -231,4 +231,3 @@ pub fn clear_packet(part: &[u8]) -> Packet
         stencil,
     })
 }
-
