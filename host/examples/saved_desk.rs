@@ -1,4 +1,5 @@
-//! A desk that moves from one program to another: the sample night of `play`, of which the second half is played elsewhere.
+//! A desk that moves from one program to another: the sample night of `play`, of which the second half is played elsewhere, with a surface
+//! that two programs of the guest share.
 //!
 //! `save FILE` plays the first half and saves the desk into FILE and guest memory into FILE.memory; `play FILE` loads both and plays on.
 //! Without words this program does the first by itself, and starts itself again for the second. What both print together is the
@@ -19,7 +20,7 @@ use std::io::{self, Write};
 use std::path::{Path, PathBuf};
 use std::process::{self, Command};
 use zelezmut::script::Player;
-use zelezmut::Desk;
+use zelezmut::{Desk, Form};
 
 type Done = Result<(), Box<dyn Error>>;
 
@@ -30,13 +31,13 @@ fn memory_file(file: &Path) -> PathBuf {
     name.into()
 }
 
-/// The first half of the night. Then desk and memory go to files.
+/// The first half of the night. Then desk and memory go to files: a surface has two names by then, and a token, so the form is 2.
 fn save(file: &Path, out: &mut impl Write) -> Done {
     let [first, _] = sample::halves()?;
     let mut player = Player::new(sample::MEMORY);
     sample::print_title(out)?;
     sample::play(&first, &mut player, out)?;
-    fs::write(file, player.desk().save()?)?;
+    fs::write(file, player.desk().save_as(Form::Two)?)?;
     fs::write(memory_file(file), player.memory())?;
     Ok(())
 }

@@ -17,6 +17,7 @@ static struct zelezmut_state device;
 static struct zelezmut_state moved;
 static uint8_t memory[MEMORY];
 static uint8_t file[ZELEZMUT_LONGEST_SAVED];
+static uint8_t form_2[ZELEZMUT_LONGEST_SAVED];
 
 /* The guest's memory is little-endian, and so is x86-64. */
 static void put32(size_t at, uint32_t value) { memcpy(memory + at, &value, sizeof value); }
@@ -69,17 +70,21 @@ static void print_ran(const char *call, uint64_t said) {
     printf("%s %u %u %s\n", call, zelezmut_ran_answer(said), zelezmut_ran_units(said), endings[zelezmut_ran_ended(said)]);
 }
 
-/* The device goes into a file and comes out of it as another one; a file that is a byte short does not. Whoever moves a device elsewhere
- * moves guest memory, too. */
+/* The device goes into a file of form 1, which is moved to form 2, and comes out of that as another one; a file that is a byte short does
+ * not. Whoever moves a device elsewhere moves guest memory, too. */
 static void move_device(void) {
-    uint64_t said = zelezmut_save(device.words, device.first, device.second, file, sizeof file);
+    uint64_t said = zelezmut_save(device.words, device.first, device.second, device.first_tokens, device.second_tokens, file,
+                                  sizeof file);
     uint32_t length = zelezmut_saved_length(said);
     printf("save %u, %u bytes\n", zelezmut_saved_answer(said), length);
     if (zelezmut_saved_answer(said) != ZELEZMUT_DONE)
         return;
-    said = zelezmut_load(moved.words, moved.first, file, length - 1);
+    said = zelezmut_load(moved.words, moved.first, moved.first_tokens, file, length - 1);
     printf("load %u, byte %u\n", zelezmut_loaded_answer(said), zelezmut_loaded_place(said));
-    said = zelezmut_load(moved.words, moved.first, file, length);
+    said = zelezmut_move(file, length, form_2, sizeof form_2);
+    length = zelezmut_saved_length(said);
+    printf("move %u, %u bytes\n", zelezmut_saved_answer(said), length);
+    said = zelezmut_load(moved.words, moved.first, moved.first_tokens, form_2, length);
     printf("load %u\n", zelezmut_loaded_answer(said));
     printf("fence %u\n", (unsigned)zelezmut_read(moved.words, 0x130));
 }

@@ -121,20 +121,34 @@ uint64_t zelezmut_answer(uint64_t words[ZELEZMUT_WORDS], uint64_t entries[ZELEZM
                          uint64_t second_tokens[ZELEZMUT_TOKENS], uint64_t records[ZELEZMUT_RECORDS], uint8_t *memory, size_t len,
                          uint32_t good, uint16_t allowance);
 
-/* The most bytes of a saved device: one with so many resources. docs/SAVED-DESK.md has the form, field by field. */
-#define ZELEZMUT_LONGEST_SAVED (92 + 48 * ZELEZMUT_MOST)
+/* The most bytes of a saved device: in form 1 one with so many resources, in form 2, which is longer, with all tokens too.
+ * docs/SAVED-DESK.md has both forms, field by field. */
+#define ZELEZMUT_LONGEST_FORM_1 (96 + 48 * ZELEZMUT_MOST)
+#define ZELEZMUT_LONGEST_SAVED (108 + 48 * ZELEZMUT_MOST + 12 * ZELEZMUT_MOST_TOKENS)
 
-/* Saves a device at rest in form 1: registers, the memory's length, the doorbell flag and the resources. The length in the low 32 bits,
- * the answer in the high ones: ZELEZMUT_IN_WORK, else ZELEZMUT_NOT_IN_FORM, else ZELEZMUT_TOO_SHORT, each beside length 0 and with the
- * buffer untouched. Bytes of the buffer behind the length are kept. Guest memory is not saved: the host moves it beside the file. */
+/* Saves a device at rest, in form 1: registers, the memory's length, the doorbell flag and the resources; or in form 2: the error detail, the
+ * other names and the tokens, too. A file begins with the number of its form. The length in the low 32 bits, the answer in the high
+ * ones: ZELEZMUT_IN_WORK, else ZELEZMUT_NOT_IN_FORM (never in form 2), else ZELEZMUT_TOO_SHORT, each beside length 0 and with the buffer
+ * untouched. Bytes of the buffer behind the length are kept. Guest memory is not saved: the host moves it beside the file. */
 uint64_t zelezmut_save(const uint64_t words[ZELEZMUT_WORDS], const uint64_t first[ZELEZMUT_RESOURCES],
-                       const uint64_t second[ZELEZMUT_RESOURCES], uint8_t *buffer, size_t len);
+                       const uint64_t second[ZELEZMUT_RESOURCES], const uint64_t first_tokens[ZELEZMUT_TOKENS],
+                       const uint64_t second_tokens[ZELEZMUT_TOKENS], uint8_t *buffer, size_t len);
+uint64_t zelezmut_save_form_2(const uint64_t words[ZELEZMUT_WORDS], const uint64_t first[ZELEZMUT_RESOURCES],
+                              const uint64_t second[ZELEZMUT_RESOURCES], const uint64_t first_tokens[ZELEZMUT_TOKENS],
+                              const uint64_t second_tokens[ZELEZMUT_TOKENS], uint8_t *buffer, size_t len);
 
-/* Loads a saved device. Words and arrays may hold anything: what was in work is gone, nothing of it settles, and no guest byte changes. The
- * device is for the memory length that the file says. The answer in the high 32 bits: ZELEZMUT_DONE, or ZELEZMUT_BAD_FILE with the offset of
- * the first field that is missing or breaks a rule, or of the first byte too many, in the low ones. An answer that the host still owes
- * to a submission from before is to be dropped, as after a reset. */
-uint64_t zelezmut_load(uint64_t words[ZELEZMUT_WORDS], uint64_t first[ZELEZMUT_RESOURCES], const uint8_t *file, size_t len);
+/* Loads a saved device of either form, or an old file of form 1, which has no number. Words and arrays may hold anything: what was in work is
+ * gone, nothing of it settles, and no guest byte changes. The device is for the memory length that the file says. The answer in the
+ * high 32 bits: ZELEZMUT_DONE, or ZELEZMUT_BAD_FILE with the offset of the first field that is missing or breaks a rule, or of the first byte
+ * too many, in the low ones; offsets count from the file's first byte, its number included. An answer that the host still owes to a
+ * submission from before is to be dropped, as after a reset. */
+uint64_t zelezmut_load(uint64_t words[ZELEZMUT_WORDS], uint64_t first[ZELEZMUT_RESOURCES], uint64_t first_tokens[ZELEZMUT_TOKENS],
+                       const uint8_t *file, size_t len);
+
+/* Moves a saved device to the other form: one of form 1, an old file among them, to form 2, and one of form 2 to form 1. It is about files alone,
+ * and loading either gives the same device. Said as a save does, with answers ZELEZMUT_BAD_FILE (zelezmut_load tells where), else
+ * ZELEZMUT_NOT_IN_FORM for a file of form 2 with other names, tokens or a detail that is not 0, else ZELEZMUT_TOO_SHORT. */
+uint64_t zelezmut_move(const uint8_t *file, size_t file_len, uint8_t *buffer, size_t len);
 
 /* The bytes of a backed texture, 0 for a bad shape. */
 uint64_t zelezmut_packed_size(uint32_t format, uint32_t width, uint32_t height, uint32_t mips, uint32_t layers, uint32_t pitch);
@@ -143,7 +157,7 @@ uint64_t zelezmut_packed_size(uint32_t format, uint32_t width, uint32_t height, 
 uint32_t zelezmut_table_error(const uint8_t *table, size_t len, uint64_t memory);
 uint32_t zelezmut_table_place(const uint8_t *table, size_t len, uint64_t memory);
 
-/* The parts of what zelezmut_save and zelezmut_load say. */
+/* The parts of what zelezmut_save, zelezmut_save_form_2 and zelezmut_move say, and zelezmut_load. */
 static inline uint32_t zelezmut_saved_answer(uint64_t said) { return (uint32_t)(said >> 32); }
 static inline uint32_t zelezmut_saved_length(uint64_t said) { return (uint32_t)said; }
 static inline uint32_t zelezmut_loaded_answer(uint64_t said) { return (uint32_t)(said >> 32); }

@@ -14,7 +14,7 @@ pub(crate) fn none_of_ours(what: &str, number: u64) -> ! {
 
 /// Why a call was refused. A refused call has changed no state and no byte of what it was lent.
 ///
-/// A load is refused in words of its own: [`BadFile`](crate::BadFile), call answer 7.
+/// A load is refused in words of its own: [`BadFile`](crate::BadFile), call answer 7; and so is a move: [`NotMoved`](crate::NotMoved).
 #[derive(Clone, Copy, Debug, PartialEq, Eq, Hash)]
 pub enum Refused {
     /// The lent memory has another length than the desk was made for.
@@ -29,8 +29,8 @@ pub enum Refused {
     InWork,
     /// The lent buffer is too short for the saved desk.
     TooShort,
-    /// The device has what a saved desk of form 1 has no field for: a token that was used since the last reset or load, a second name, or
-    /// an error detail that is not 0.
+    /// The device has what a saved desk of form 1 has no field for: a token, used since the last reset or come with a loaded file, a second
+    /// name, or an error detail that is not 0.
     NotInForm,
     /// The host answered a submission that is over, and another one waits. This crate's own refusal, which has no number.
     StaleTicket,

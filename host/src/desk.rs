@@ -289,8 +289,9 @@ impl Desk {
         self.state.names()
     }
 
-    /// The tokens that were used since the last reset or load, in rising order, each beside the lowest name of the resource that it is bound to;
-    /// `None` if it is spent: released, or its resource is gone. A submission in work has changed nothing here.
+    /// The tokens that were used since the last reset, those of a loaded file among them, in rising order, each beside the lowest name of the
+    /// resource that it is bound to; `None` if it is spent: released, or its resource is gone. A submission in work has changed nothing
+    /// here.
     pub fn tokens(&self) -> Vec<(u64, Option<u32>)> {
         self.state.tokens()
     }
@@ -305,7 +306,7 @@ impl Desk {
         self.known(registers::IRQ_STATUS) & self.known(registers::IRQ_ENABLE) != 0
     }
 
-    /// The last error since the desk was made; a reset keeps it, and a loaded file has its own, without the place.
+    /// The last error since the desk was made; a reset keeps it, and a loaded file has its own, of form 1 without the place.
     pub fn last_error(&self) -> Option<ErrorReport> {
         let error = DeviceError::from_front(self.known(registers::ERROR_CODE))?;
         Some(ErrorReport {

@@ -8,6 +8,7 @@
 //! That the library linked is the one of these declarations is asked once, before the first call: it gives the number of its layout.
 #![allow(unsafe_code)]
 
+use crate::saved::Form;
 use crate::state::{Entries, Records, Resources, State, Tokens, Words, LAYOUT};
 use std::alloc::{alloc_zeroed, handle_alloc_error, Layout};
 use std::mem::MaybeUninit;
@@ -73,11 +74,23 @@ mod library {
             good: u32,
             allowance: u16,
         ) -> u64;
-        /// The length written, and 2^32 times the answer.
+        /// In form 1: the length written, and 2^32 times the answer.
         pub fn zelezmut_save(
             words: &Words,
             first: &Resources,
             second: &Resources,
+            first_tokens: &Tokens,
+            second_tokens: &Tokens,
+            buffer: *mut u8,
+            len: usize,
+        ) -> u64;
+        /// Likewise in form 2.
+        pub fn zelezmut_save_form_2(
+            words: &Words,
+            first: &Resources,
+            second: &Resources,
+            first_tokens: &Tokens,
+            second_tokens: &Tokens,
             buffer: *mut u8,
             len: usize,
         ) -> u64;
@@ -85,8 +98,16 @@ mod library {
         pub fn zelezmut_load(
             words: &mut Words,
             first: &mut Resources,
+            first_tokens: &mut Tokens,
             file: *const u8,
             len: usize,
+        ) -> u64;
+        /// The length written, and 2^32 times the answer.
+        pub fn zelezmut_move(
+            file: *const u8,
+            file_len: usize,
+            buffer: *mut u8,
+            buffer_len: usize,
         ) -> u64;
     }
 }
@@ -247,13 +268,19 @@ pub(crate) fn answer(state: &mut State, memory: &mut [u8], good: bool, allowance
 
 /// The call's answer, and how many bytes of the buffer are the saved desk.
 #[inline]
-pub(crate) fn save(state: &State, buffer: &mut [u8]) -> (u32, u32) {
+pub(crate) fn save(state: &State, form: Form, buffer: &mut [u8]) -> (u32, u32) {
+    let export = match form {
+        Form::One => library::zelezmut_save,
+        Form::Two => library::zelezmut_save_form_2,
+    };
     // SAFETY: references; the buffer's own pointer and length.
     halves(unsafe {
-        library::zelezmut_save(
+        export(
             &state.words,
             &state.first,
             &state.second,
+            &state.first_tokens,
+            &state.second_tokens,
             buffer.as_mut_ptr(),
             buffer.len(),
         )
@@ -268,9 +295,20 @@ pub(crate) fn load(state: &mut State, file: &[u8]) -> (u32, u32) {
         library::zelezmut_load(
             &mut state.words,
             &mut state.first,
+            &mut state.first_tokens,
             file.as_ptr(),
             file.len(),
         )
+    })
+}
+
+/// The call's answer, and how many bytes of the buffer are the file in its other form.
+#[inline]
+pub(crate) fn move_form(file: &[u8], buffer: &mut [u8]) -> (u32, u32) {
+    check_layout();
+    // SAFETY: pointers and lengths of the slices themselves; the file is only read, and a buffer lent for writing overlaps nothing.
+    halves(unsafe {
+        library::zelezmut_move(file.as_ptr(), file.len(), buffer.as_mut_ptr(), buffer.len())
     })
 }
 

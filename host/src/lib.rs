@@ -93,14 +93,14 @@
 //!
 //! # A desk that moves
 //!
-//! [`Desk::save`] gives a desk at rest as a file of at most [`LONGEST_SAVED_DESK`] bytes, and [`Desk::from_saved`] makes a desk of one, in
-//! another program or on another machine; [`Desk::load`] does so in a desk that there is. `docs/SAVED-DESK.md` publishes the form.
+//! [`Desk::save_as`] gives a desk at rest as a file of at most [`LONGEST_SAVED_DESK`] bytes, and [`Desk::from_saved`] makes a desk of one, in
+//! another program or on another machine; [`Desk::load`] does so in a desk that there is. `docs/SAVED-DESK.md` publishes the forms.
 //!
 //! ```
-//! use zelezmut::{Desk, Refused};
+//! use zelezmut::{Desk, Form, Refused};
 //!
 //! let desk = Desk::new(4096);
-//! let file = match desk.save() {
+//! let file = match desk.save_as(Form::Two) {
 //!     Ok(file) => file,
 //!     Err(Refused::InWork) => todo!("run on, carry out and answer what waits, and save then"),
 //!     Err(refused) => panic!("it cannot be saved: {}", refused),
@@ -112,8 +112,12 @@
 //!
 //! - Guest memory is the host's to move, and so is what it keeps for resources. The loaded desk is for a memory of the length that it had.
 //! - A submission in work is not saved: [`Refused::InWork`]. What waits is answered first. What is only pending in the ring is guest memory.
-//! - Form 1 has no fields for tokens, second names and the error detail: [`Refused::NotInForm`] while there are any.
+//! - [`Form::Two`] has all that a desk at rest has. [`Form::One`], which [`Desk::save`] writes, has no fields for tokens, second names and the
+//!   error detail: [`Refused::NotInForm`] while there are any.
+//! - A file begins with the number of its form. One load takes both forms, and old files that have no number; [`saved::move_form`] makes
+//!   of a file of one form one of the other.
 //! - A file is judged field by field, and a [`BadFile`] says which is wrong. It comes from outside: no file makes a load panic.
+//! - A [`SavedDesk`] is what a file says, in values and in words; the program `show_desk FILE` prints it.
 //! - A load ends what was before: tickets are used up, what was in work is gone, and nothing of it settles.
 //!
 //! `examples/saved_desk.rs` plays a night of which one half is played by another program: `cargo run --example saved_desk`.
@@ -136,7 +140,7 @@
 //! - A call ends. One unit is one step (an opening, a table entry or a packet), and a run, behind an answer or by itself, takes no
 //!   more than its allowance.
 //! - No call panics on what a guest wrote, and none allocates once the desk is made, but for those that give lists, [`Desk::names`],
-//!   [`Desk::tokens`] and [`Desk::save`]; [`Desk::save_into`] takes a lent buffer.
+//!   [`Desk::tokens`], [`Desk::save`] and [`Desk::save_as`]; [`Desk::save_into`] and [`Desk::save_as_into`] take a lent buffer.
 //! - Desks compare by meaning: `==` of two that came to the same by different slices holds.
 //! - The static library is code for 64-bit Linux on x86-64, and a build for anything else is refused. `rt staticlib zelezmut` in
 //!   the project's root builds it, and so does `./play` there; the build script warns if it is missing. Checking and documentation
@@ -158,7 +162,7 @@ mod numbers;
 mod place;
 mod record;
 pub mod registers;
-mod saved;
+pub mod saved;
 pub mod script;
 mod state;
 mod ticket;
@@ -167,5 +171,6 @@ pub use answers::{DeviceError, Ended, HostAnswer, RecordKind, Refused, UnknownKi
 pub use desk::{packed_size, table_error, Desk, ErrorReport, Ran, TableError};
 pub use place::Place;
 pub use record::{Range, Record, Rectangle};
-pub use saved::{BadFile, FileField, ResourceField, LONGEST_SAVED_DESK};
+pub use saved::{BadFile, FileField, FileLayout, Form, NameField, NotMoved, ResourceField};
+pub use saved::{SavedDesk, SavedKind, SavedResource, SavedShape, TokenField, LONGEST_SAVED_DESK};
 pub use ticket::{Ticket, Waiting};

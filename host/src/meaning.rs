@@ -244,7 +244,7 @@ mod tests {
     use crate::front::{answer, make, record, run, save, write};
     use crate::numbers::Numbers;
     use crate::registers;
-    use crate::saved::LONGEST_SAVED_DESK;
+    use crate::saved::{Form, LONGEST_SAVED_DESK};
 
     const MEMORY_BYTES: usize = 4096;
     const SMALL: [usize; 10] = [
@@ -475,10 +475,12 @@ mod tests {
         other.second_tokens[..most].copy_from_slice(&state.second_tokens[..most]);
     }
 
-    /// What a save says, and the buffer after it.
-    fn saved(state: &State) -> ((u32, u32), Vec<u8>) {
-        let mut buffer = vec![0; LONGEST_SAVED_DESK];
-        (save(state, &mut buffer), buffer)
+    /// What a save in each form says, and the buffer after it.
+    fn saved(state: &State) -> [((u32, u32), Vec<u8>); 2] {
+        Form::ALL.map(|form| {
+            let mut buffer = vec![0; LONGEST_SAVED_DESK];
+            (save(state, form, &mut buffer), buffer)
+        })
     }
 
     /// Calls of all kinds on two states that are the same in other words: they say the same, and leave what is the same.

@@ -20,14 +20,14 @@ mod player;
 
 pub use player::{transcript, Player};
 
-use crate::HostAnswer;
+use crate::{Form, HostAnswer};
 use std::error::Error;
 use std::fmt;
 
 const MAGIC: [u8; 4] = *b"DSK2";
 
 /// What [`encode`] says of itself: bit N for wish N. Nobody who plays a script asks for it.
-const WISHES: u32 = 1 << 1 | 1 << 2 | 1 << 5 | 1 << 6 | 1 << 7 | 1 << 9;
+const WISHES: u32 = 1 << 1 | 1 << 2 | 1 << 5 | 1 << 6 | 1 << 7 | 1 << 9 | 1 << 11;
 
 /// The most bytes that a script has.
 pub const LONGEST_SCRIPT: usize = 1 << 20;
@@ -35,7 +35,7 @@ pub const LONGEST_SCRIPT: usize = 1 << 20;
 /// The most bytes that a script's memories have.
 pub const LONGEST_MEMORY: u32 = 1 << 16;
 
-/// The most bytes of a buffer that a script has a desk saved into.
+/// The most bytes of a buffer that a script has a desk saved into, or a file moved into.
 pub const LONGEST_BUFFER: u32 = 1 << 16;
 
 const POKE: u8 = 1;
@@ -49,6 +49,8 @@ const RUN_ELSEWHERE: u8 = 8;
 const ANSWER_ELSEWHERE: u8 = 9;
 const SAVE: u8 = 10;
 const LOAD: u8 = 11;
+const SAVE_FORM_2: u8 = 12;
+const MOVE: u8 = 13;
 
 /// One operation of a script.
 #[derive(Clone, Debug, PartialEq, Eq)]
@@ -109,11 +111,20 @@ pub enum Operation {
     },
     /// The host saves the desk, into a buffer in which every byte is AA (hex) before.
     Save {
+        /// The form that it is saved in.
+        form: Form,
         /// The buffer's bytes.
         length: u32,
     },
     /// The host loads a desk. It may be one for another memory length than the script's memory has: nothing runs then.
     Load {
+        /// What is to be a saved desk.
+        file: Vec<u8>,
+    },
+    /// The host moves a saved desk to the other form, into a buffer in which every byte is AA (hex) before. The desk is not asked.
+    Move {
+        /// The buffer's bytes.
+        length: u32,
         /// What is to be a saved desk.
         file: Vec<u8>,
     },
@@ -279,11 +290,22 @@ fn operation(tag: u8, rest: &mut Reader<'_>) -> Result<Operation, Fault> {
 fn saving_operation(tag: u8, rest: &mut Reader<'_>) -> Result<Operation, Fault> {
     Ok(match tag {
         SAVE => Operation::Save {
+            form: Form::One,
             length: buffer_length(rest.u32()?)?,
         },
         LOAD => Operation::Load {
             file: rest.counted()?,
         },
+        SAVE_FORM_2 => Operation::Save {
+            form: Form::Two,
+            length: buffer_length(rest.u32()?)?,
+        },
+        // The length is judged once the file is read, too.
+        MOVE => {
+            let (length, file) = (rest.u32()?, rest.counted()?);
+            let length = buffer_length(length)?;
+            Operation::Move { length, file }
+        }
         _ => return Err(Fault::UnknownTag(tag)),
     })
 }
@@ -336,7 +358,7 @@ impl<'a> Reader<'a> {
 /// Writes a script. What is longer than a script may be is written all the same, and is refused by whoever plays it.
 ///
 /// # Panics
-/// If a poke or a file to be loaded has 4 GiB or more, which no script can say.
+/// If a poke or a file to be loaded or moved has 4 GiB or more, which no script can say.
 pub fn encode(memory: u32, operations: &[Operation]) -> Vec<u8> {
     let mut script = MAGIC.to_vec();
     script.extend(memory.to_le_bytes());
@@ -382,8 +404,25 @@ fn encode_operation(script: &mut Vec<u8>, operation: &Operation) {
             let run = [&allowance.to_le_bytes()[..], &length.to_le_bytes()].concat();
             put(script, ANSWER_ELSEWHERE, &[&told(*answer), &run]);
         }
-        Operation::Save { length } => put(script, SAVE, &[&length.to_le_bytes()]),
+        saving => encode_saving(script, saving),
+    }
+}
+
+/// Those that came with saved desks.
+fn encode_saving(script: &mut Vec<u8>, operation: &Operation) {
+    match operation {
+        Operation::Save { form, length } => {
+            let tag = match form {
+                Form::One => SAVE,
+                Form::Two => SAVE_FORM_2,
+            };
+            put(script, tag, &[&length.to_le_bytes()]);
+        }
         Operation::Load { file } => put(script, LOAD, &[&count(file), file]),
+        Operation::Move { length, file } => {
+            put(script, MOVE, &[&length.to_le_bytes(), &count(file), file]);
+        }
+        _ => unreachable!("it is about no saved desk: {:?}", operation),
     }
 }
 
@@ -411,6 +450,11 @@ mod tests {
 
     /// One of each.
     fn every_operation() -> Vec<Operation> {
+        [first_operations(), saving_operations()].concat()
+    }
+
+    /// One of each that there was before desks were saved.
+    fn first_operations() -> Vec<Operation> {
         vec![
             Operation::Poke {
                 address: 70_000,
@@ -441,11 +485,26 @@ mod tests {
                 allowance: 258,
                 length: 0,
             },
+        ]
+    }
+
+    /// One of each that came with saved desks.
+    fn saving_operations() -> Vec<Operation> {
+        vec![
             Operation::Save {
+                form: Form::One,
                 length: LONGEST_BUFFER,
             },
             Operation::Load {
                 file: vec![21, 0, 0, 0, 65],
+            },
+            Operation::Save {
+                form: Form::Two,
+                length: 0,
+            },
+            Operation::Move {
+                length: LONGEST_BUFFER,
+                file: vec![2, 0, 0, 0, 22, 0],
             },
         ]
     }
@@ -485,16 +544,28 @@ mod tests {
                 allowance,
                 length: 0x1234,
             },
-            Operation::Save { length: 0x1234 },
+            Operation::Save {
+                form: Form::One,
+                length: 0x1234,
+            },
             Operation::Load {
+                file: b"AGP".to_vec(),
+            },
+            Operation::Save {
+                form: Form::Two,
+                length: 0x1234,
+            },
+            Operation::Move {
+                length: 0x1234,
                 file: b"AGP".to_vec(),
             },
         ];
         let bytes = encode(0x1234, &operations);
-        assert_eq!(bytes[..HEAD], *b"DSK2\x34\x12\x00\x00\xE6\x02\x00\x00");
+        assert_eq!(bytes[..HEAD], *b"DSK2\x34\x12\x00\x00\xE6\x0A\x00\x00");
         assert_eq!(
             bytes[HEAD..],
-            *b"\x04\x06\x05\x06\x01\x06\x05\x09\x01\x06\x05\x34\x12\x00\x00\x0A\x34\x12\x00\x00\x0B\x03\x00\x00\x00AGP"
+            *b"\x04\x06\x05\x06\x01\x06\x05\x09\x01\x06\x05\x34\x12\x00\x00\x0A\x34\x12\x00\x00\x0B\x03\x00\x00\x00AGP\
+               \x0C\x34\x12\x00\x00\x0D\x34\x12\x00\x00\x03\x00\x00\x00AGP"
         );
     }
 
@@ -595,27 +666,42 @@ mod tests {
     }
 
     #[test]
-    fn buffers_have_at_most_64_kib_and_files_what_the_script_has() {
-        let [longest, longer] = [65_536, 65_537].map(|length| Operation::Save { length });
-        let bytes = encode(16, &[longest.clone(), longer]);
-        let longest = [longest];
-        let script = decode(&bytes);
-        assert_eq!(script.operations, longest);
-        assert_eq!(script.fault, Some(Fault::LongBuffer(65_537)));
-        assert_eq!(Fault::LongBuffer(65_537).line(), "bad script");
-        // Its length is judged once it is read.
-        for cut in 1..=4 {
-            let script = decode(&bytes[..bytes.len() - cut]);
+    fn buffers_have_at_most_64_kib() {
+        let save = |form| [65_536, 65_537].map(|length| Operation::Save { form, length });
+        let moves = [65_536, 65_537].map(|length| Operation::Move {
+            length,
+            file: vec![1, 2, 3],
+        });
+        for [longest, longer] in [save(Form::One), save(Form::Two), moves] {
+            let bytes = encode(16, &[longest.clone(), longer]);
+            let longest = [longest];
+            let size = (bytes.len() - HEAD) / 2;
+            let script = decode(&bytes);
             assert_eq!(script.operations, longest);
-            assert_eq!(script.fault, Some(Fault::Truncated));
+            assert_eq!(script.fault, Some(Fault::LongBuffer(65_537)));
+            // The length is judged once the operation is read.
+            for cut in 1..size {
+                let script = decode(&bytes[..bytes.len() - cut]);
+                assert_eq!(script.operations, longest);
+                assert_eq!(script.fault, Some(Fault::Truncated));
+            }
         }
-        let load = [Operation::Load {
-            file: vec![7; 100_000],
-        }];
-        assert_eq!(decode(&encode(16, &load)).operations, load);
-        let mut promised = encode(16, &[]);
-        promised.extend([LOAD, 0xFF, 0xFF, 0xFF, 0xFF, 1, 2]);
-        assert_eq!(decode(&promised).fault, Some(Fault::Truncated));
+        assert_eq!(Fault::LongBuffer(65_537).line(), "bad script");
+    }
+
+    #[test]
+    fn files_have_what_the_script_has() {
+        let file = vec![7; 100_000];
+        let operations = [
+            Operation::Load { file: file.clone() },
+            Operation::Move { length: 5, file },
+        ];
+        assert_eq!(decode(&encode(16, &operations)).operations, operations);
+        for tag in [&[LOAD][..], &[MOVE, 1, 0, 0, 0]] {
+            let mut promised = encode(16, &[]);
+            promised.extend([tag, &[0xFF, 0xFF, 0xFF, 0xFF, 1, 2]].concat());
+            assert_eq!(decode(&promised).fault, Some(Fault::Truncated));
+        }
     }
 
     #[test]
@@ -638,14 +724,14 @@ mod tests {
 
     #[test]
     fn an_unknown_tag_ends_the_script() {
-        for tag in (0..=255).filter(|tag| !(1..=11).contains(tag)) {
+        for tag in (0..=255).filter(|tag| !(1..=13).contains(tag)) {
             let mut bytes = encode(16, &[Operation::State]);
             bytes.extend([tag, STATE]);
             let script = decode(&bytes);
             assert_eq!(script.operations, [Operation::State]);
             assert_eq!(script.fault, Some(Fault::UnknownTag(tag)));
         }
-        assert_eq!(Fault::UnknownTag(12).line(), "unknown tag 12");
+        assert_eq!(Fault::UnknownTag(14).line(), "unknown tag 14");
     }
 
     #[test]

@@ -1,13 +1,15 @@
-//! Files that are no saved desk: each is told by the first field that is wrong, and leaves the desk as it was.
+//! Files of form 1 that are no saved desk: each is told by the first field that is wrong, and leaves the desk as it was.
 mod current;
 mod night;
 
 use current::ticket;
 use night::Night;
 use zelezmut::guest::{Backing, Packet, Shape};
-use zelezmut::{registers, BadFile, Desk, FileField, HostAnswer, ResourceField};
+use zelezmut::saved::{self, NotMoved};
+use zelezmut::{registers, BadFile, Desk, FileField, FileLayout, HostAnswer, ResourceField};
 
-const HEAD: usize = 92;
+/// The sections stand behind the file's number; places count from the file's first byte.
+const HEAD: usize = 96;
 const RESOURCE: usize = 48;
 
 /// Buffer 2, which is backed; texture 5, which is too; texture 9, which lives with the host.
@@ -56,9 +58,10 @@ fn load(file: &[u8]) -> Result<(), BadFile> {
     night.run(100);
     let (before, waiting) = (night.desk.clone(), night.desk.waiting());
     let loaded = night.desk.load(file);
-    if loaded.is_err() {
+    if let Err(bad) = loaded {
         assert_eq!(night.desk, before);
         assert_eq!(night.desk.waiting(), waiting);
+        assert_eq!(saved::move_form(file), Err(NotMoved::BadFile(bad)));
     }
     assert_eq!(Desk::from_saved(file).err(), loaded.err());
     loaded
@@ -66,26 +69,31 @@ fn load(file: &[u8]) -> Result<(), BadFile> {
 
 /// Where the file with these changes is bad: its rule is broken there.
 fn broken(changes: &[(usize, u32)]) -> Option<usize> {
-    let bad = load(&with(changes)).err()?;
-    let field = bad.field().unwrap();
-    assert_eq!(bad, BadFile::BreaksRule(field));
-    assert_eq!(FileField::at(bad.place()), Some(field));
+    let file = with(changes);
+    let bad = load(&file).err()?;
+    let (field, place) = (bad.field().unwrap(), bad.place());
+    assert_eq!(bad, BadFile::BreaksRule { field, place });
+    assert_eq!(FileLayout::of(&file).field(place), Some(field));
     assert_eq!(bad.number(), 7);
-    Some(bad.place())
+    // The same file without its number is an old one, and bad four bytes earlier, unless its count is read as a number.
+    if place != 4 {
+        assert_eq!(load(&file[4..]).unwrap_err().place(), place - 4);
+    }
+    Some(place)
 }
 
 #[test]
 fn registers_are_judged_one_by_one() {
     for (at, good, bad) in [
-        (0, &[21][..], &[0, 1, 2, 18, 20, 22, u32::MAX][..]),
-        (4, &[0x5550_4741], &[0, 0x5550_4742]),
-        (8, &[65_539], &[65_538, 65_540, 131_075]),
-        (12, &[7], &[0, 6, 8]),
-        (16, &[0], &[1, u32::MAX]),
-        (32, &[0, 1], &[2, 3, u32::MAX]),
-        (52, &[0, 1, 2, 3], &[4, u32::MAX]),
-        (84, &[0, 1], &[2, u32::MAX]),
-        (88, &[3], &[65, u32::MAX]),
+        (4, &[21][..], &[0, 1, 2, 18, 20, 22, u32::MAX][..]),
+        (8, &[0x5550_4741], &[0, 0x5550_4742]),
+        (12, &[65_539], &[65_538, 65_540, 131_075]),
+        (16, &[7], &[0, 6, 8]),
+        (20, &[0], &[1, u32::MAX]),
+        (36, &[0, 1], &[2, 3, u32::MAX]),
+        (56, &[0, 1, 2, 3], &[4, u32::MAX]),
+        (88, &[0, 1], &[2, u32::MAX]),
+        (92, &[3], &[65, u32::MAX]),
     ] {
         for &value in good {
             assert_eq!(broken(&[(at, value)]), None, "{} at {}", value, at);
@@ -94,7 +102,7 @@ fn registers_are_judged_one_by_one() {
             assert_eq!(broken(&[(at, value)]), Some(at), "{} at {}", value, at);
         }
     }
-    for at in [20, 24, 28, 36, 40, 44, 48, 56, 76, 80] {
+    for at in [24, 28, 32, 40, 44, 48, 52, 60, 80, 84] {
         for value in [0, 1, u32::MAX] {
             assert_eq!(broken(&[(at, value)]), None, "{} at {}", value, at);
         }
@@ -106,23 +114,23 @@ fn an_error_is_judged_as_a_whole_at_its_count() {
     for code in 0..40 {
         let good = code == 0 || (10..=30).contains(&code);
         let count = u32::from(code != 0);
-        let expected = if good { None } else { Some(60) };
+        let expected = if good { None } else { Some(64) };
         assert_eq!(
-            broken(&[(60, code), (72, count)]),
+            broken(&[(64, code), (76, count)]),
             expected,
             "code {}",
             code
         );
     }
-    assert_eq!(broken(&[(60, u32::MAX), (72, 1)]), Some(60));
+    assert_eq!(broken(&[(64, u32::MAX), (76, 1)]), Some(64));
     // Without an error no fence and no count; with one any fence, for a bad ring too, and a count.
-    for at in [64, 68, 72] {
-        assert_eq!(broken(&[(at, 1)]), Some(72));
+    for at in [68, 72, 76] {
+        assert_eq!(broken(&[(at, 1)]), Some(76));
     }
     for code in [10, 18, 30] {
-        assert_eq!(broken(&[(60, code)]), Some(72));
-        assert_eq!(broken(&[(60, code), (64, 1), (68, 9)]), Some(72));
-        let all = [(60, code), (64, 1), (68, 9), (72, u32::MAX)];
+        assert_eq!(broken(&[(64, code)]), Some(76));
+        assert_eq!(broken(&[(64, code), (68, 1), (72, 9)]), Some(76));
+        let all = [(64, code), (68, 1), (72, 9), (76, u32::MAX)];
         assert_eq!(broken(&all), None);
     }
 }
@@ -218,8 +226,8 @@ fn pitch_and_backing_are_judged_at_the_backing_id() {
 
 #[test]
 fn of_several_that_are_wrong_the_first_counts() {
-    assert_eq!(broken(&[(88, 65), (HEAD, 0), (32, 2)]), Some(32));
-    assert_eq!(broken(&[(88, 65), (HEAD, 0)]), Some(88));
+    assert_eq!(broken(&[(92, 65), (HEAD, 0), (36, 2)]), Some(36));
+    assert_eq!(broken(&[(92, 65), (HEAD, 0)]), Some(92));
     assert_eq!(
         broken(&[(HEAD + 44, 0), (HEAD + 4, 3), (HEAD, 0)]),
         Some(HEAD)
@@ -231,19 +239,19 @@ fn a_file_that_is_cut_misses_the_field_at_the_cut() {
     let file = file();
     for cut in 0..file.len() {
         let bad = load(&file[..cut]).unwrap_err();
-        assert_eq!(bad, BadFile::Missing(FileField::at(cut / 4 * 4).unwrap()));
-        assert_eq!(bad.place(), cut / 4 * 4);
+        let place = cut / 4 * 4;
+        let field = FileLayout::of(&file).field(place).unwrap();
+        assert_eq!(bad, BadFile::Missing { field, place });
     }
     // A field before the cut that breaks its rule comes first.
-    let spoilt = with(&[(32, 2)]);
-    assert_eq!(load(&spoilt[..90]).unwrap_err().place(), 32);
+    let spoilt = with(&[(36, 2)]);
+    assert_eq!(load(&spoilt[..90]).unwrap_err().place(), 36);
     // A count promises more than there is.
-    let promised = with(&[(88, 4)]);
-    let index = 3;
-    let field = ResourceField::Handle;
-    let missing = BadFile::Missing(FileField::Resource { index, field });
-    assert_eq!(load(&promised), Err(missing));
-    assert_eq!(missing.place(), file.len());
+    let promised = with(&[(92, 4)]);
+    let (index, field) = (3, ResourceField::Handle);
+    let field = FileField::Resource { index, field };
+    let place = file.len();
+    assert_eq!(load(&promised), Err(BadFile::Missing { field, place }));
 }
 
 #[test]
@@ -251,13 +259,14 @@ fn a_file_that_goes_on_is_bad_at_its_end() {
     let file = file();
     for more in [1, 2, 4, 48, 10_000] {
         let longer = [&file[..], &vec![0; more]].concat();
-        assert_eq!(load(&longer), Err(BadFile::GoesOn(file.len())));
+        let place = file.len();
+        assert_eq!(load(&longer), Err(BadFile::GoesOn { place }));
     }
     // Fewer resources than there are.
     for count in 0..3 {
-        let end = HEAD + RESOURCE * count;
-        let short = with(&[(88, count as u32)]);
-        assert_eq!(load(&short), Err(BadFile::GoesOn(end)));
+        let place = HEAD + RESOURCE * count;
+        let short = with(&[(92, count as u32)]);
+        assert_eq!(load(&short), Err(BadFile::GoesOn { place }));
     }
     assert_eq!(load(&file), Ok(()));
 }
@@ -265,35 +274,46 @@ fn a_file_that_goes_on_is_bad_at_its_end() {
 #[test]
 fn what_is_wrong_is_told_in_words() {
     for (file, words) in [
-        (Vec::new(), "a field is missing at byte 0, the count of section 1"),
-        (with(&[(0, 1)]), "a rule is broken at byte 0, the count of section 1: 21"),
+        (Vec::new(), "a field is missing at byte 0, the form's number"),
         (
-            with(&[(32, 3)]),
-            "a rule is broken at byte 32, register 10C (CONTROL): at most 1",
+            with(&[(0, 3)]),
+            "a rule is broken at byte 0, the form's number: 1 or 2, or 21 in an old file, whose count of section 1 this is",
+        ),
+        (with(&[(4, 1)]), "a rule is broken at byte 4, the count of section 1: 21"),
+        (
+            with(&[(36, 3)]),
+            "a rule is broken at byte 36, register 10C (CONTROL): at most 1",
         ),
         (
-            with(&[(64, 1)]),
-            "a rule is broken at byte 72, register 31C (ERROR_COUNT): 0 exactly with error code 0, and then the error fence is 0",
+            with(&[(68, 1)]),
+            "a rule is broken at byte 76, register 31C (ERROR_COUNT): 0 exactly with error code 0, and then the error fence is 0",
         ),
         (
-            with(&[(88, 65)]),
-            "a rule is broken at byte 88, the count of section 2: at most 64",
+            with(&[(92, 65)]),
+            "a rule is broken at byte 92, the count of section 2: at most 64",
         ),
         (
             with(&[(HEAD + 2 * RESOURCE + 28, 4)]),
-            "a rule is broken at byte 216, the mips of resource 2: 0 for a buffer; for a texture 1 to its full chain",
+            "a rule is broken at byte 220, the mips of resource 2: 0 for a buffer; for a texture 1 to its full chain",
         ),
         (
             file()[..HEAD + RESOURCE + 43].to_vec(),
-            "a field is missing at byte 180, the backing id of resource 1",
+            "a field is missing at byte 184, the backing id of resource 1",
         ),
         (
             [&file()[..], &[0]].concat(),
-            "the file goes on at byte 236, behind its last field",
+            "the file goes on at byte 240, behind its last field",
         ),
     ] {
         assert_eq!(load(&file).unwrap_err().to_string(), words);
     }
-    let control = BadFile::BreaksRule(FileField::Register(registers::CONTROL));
-    assert_eq!(load(&with(&[(32, 2)])), Err(control));
+}
+
+#[test]
+fn what_is_wrong_is_told_as_a_value() {
+    let (field, place) = (FileField::Register(registers::CONTROL), 36);
+    assert_eq!(
+        load(&with(&[(36, 2)])),
+        Err(BadFile::BreaksRule { field, place })
+    );
 }

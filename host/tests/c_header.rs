@@ -3,7 +3,7 @@ mod project;
 
 use project::{c_compiler, library_folder, said, started, Folder, Said};
 use std::path::Path;
-use zelezmut::{BadFile, Refused, LONGEST_SAVED_DESK};
+use zelezmut::{BadFile, Form, Refused, LONGEST_SAVED_DESK};
 
 /// Calls the C compiler, with every warning an error.
 fn compile(words: &[&str]) -> Said {
@@ -37,8 +37,9 @@ fn the_c_example_plays_a_submission() {
          record 1: kind 2, handle 1, id 5, 32 bytes at 8272\n\
          answer 0 1 idle\n\
          fence 1\n\
-         save 0, 140 bytes\n\
-         load 7, byte 136\n\
+         save 0, 144 bytes\n\
+         load 7, byte 140\n\
+         move 0, 156 bytes\n\
          load 0\n\
          fence 1\n"
     );
@@ -74,7 +75,8 @@ fn the_c_example_tells_a_library_of_another_layout() {
 
 /// An array of one byte if the numbers are the same, else of a length that no array has.
 const LONGEST: &str = "#include \"zelezmut.h\"\n\
-    typedef char longest[ZELEZMUT_LONGEST_SAVED == LONGEST ? 1 : -1];\n";
+    typedef char longest[ZELEZMUT_LONGEST_SAVED == LONGEST ? 1 : -1];\n\
+    typedef char longest_form_1[ZELEZMUT_LONGEST_FORM_1 == LONGEST_FORM_1 ? 1 : -1];\n";
 
 #[test]
 fn the_header_has_the_length_of_the_longest_file() {
@@ -84,6 +86,7 @@ fn the_header_has_the_length_of_the_longest_file() {
         let [source, object] = ["longest.c", "longest.o"].map(|name| folder.path(name));
         let built = compile(&[
             &format!("-DLONGEST={}", length),
+            &format!("-DLONGEST_FORM_1={}", Form::One.longest()),
             "-c",
             source.to_str().expect("a path of text"),
             "-o",
@@ -109,7 +112,7 @@ fn the_header_has_the_call_answers() {
         let number = number_behind(header, &format!(" ZELEZMUT_{} = ", name));
         assert_eq!(Some(number as u32), refused.number(), "{}", name);
     }
-    let bad = BadFile::GoesOn(92).number();
+    let bad = BadFile::GoesOn { place: 96 }.number();
     assert_eq!(number_behind(header, " ZELEZMUT_BAD_FILE = "), bad.into());
 }
 

@@ -21,6 +21,8 @@ NEVER(zelezmut_answer)
 NEVER(zelezmut_packed_size)
 NEVER(zelezmut_table_error)
 NEVER(zelezmut_table_place)
+NEVER(zelezmut_load)
+NEVER(zelezmut_move)
 "#;
 
 /// A host whose first call is the one that it is told.
@@ -29,6 +31,7 @@ fn main() {
     match std::env::args().nth(1).as_deref() {
         Some("make") => println!("{:?}", zelezmut::Desk::new(4096)),
         Some("size") => println!("{:?}", zelezmut::packed_size(1, 5, 3, 3, 1, 20)),
+        Some("move") => println!("{:?}", zelezmut::saved::move_form(&[])),
         _ => println!("{:?}", zelezmut::table_error(&[], 64)),
     }
 }
@@ -66,7 +69,7 @@ fn a_library_of_another_layout_is_told_and_not_called() {
     put_library(&folder, "newer", &["-DLAYOUT=0x7fff0201002c0140"]);
     let built = build(&folder, "newer");
     assert!(built.good(), "{}", built.all);
-    for call in ["make", "size", "table"] {
+    for call in ["make", "size", "move", "table"] {
         let said = said(with(folder.program("emulator"), &[call]));
         assert_eq!(said.status, Some(101), "{}", said.all);
         let words = "zelezmut: the libzelezmut.a that is linked has layout 0x7fff0201002c0140, and this crate has 0x";

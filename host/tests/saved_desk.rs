@@ -41,10 +41,10 @@ fn desk_and_memory_go_from_one_program_to_the_other() {
     assert!(first.good() && second.good());
     assert_eq!(first.all + &second.all, SAMPLE);
     let mut saved = fs::read(&file).unwrap();
-    assert_eq!(saved.len(), 236);
+    assert_eq!((saved[0], saved.len()), (2, 272));
     assert_eq!(fs::read(folder.path("desk.memory")).unwrap().len(), 16_384);
     // It is the file that says what is played on with: in this one the device is disabled.
-    saved[32] = 0;
+    saved[36] = 0;
     fs::write(&file, saved).unwrap();
     let disabled = play(&["play", name]);
     assert!(disabled.good());
@@ -61,7 +61,7 @@ fn files_that_do_not_fit_are_told() {
     fs::write(&file, &saved[..200]).unwrap();
     let short = play(&["play", name]);
     assert_eq!(short.status, Some(1));
-    let words = "saved_desk: a field is missing at byte 200, the size HI of resource 2\n";
+    let words = "saved_desk: a field is missing at byte 200, the kind of resource 2\n";
     assert_eq!(short.all, words);
     fs::write(&file, &saved).unwrap();
     fs::write(folder.path("desk.memory"), [0; 100]).unwrap();

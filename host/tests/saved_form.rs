@@ -1,10 +1,11 @@
-//! docs/SAVED-DESK.md, which publishes form 1: its tables and its example are held against the crate and a desk that was played.
+//! docs/SAVED-DESK.md, which publishes the forms: its tables and its examples are held against the crate and desks that were played.
 mod current;
 
 use current::ticket;
 use zelezmut::guest::{self, Backing, Descriptor, Entry, Packet, Part, Shape};
-use zelezmut::{registers, Desk, FileField, HostAnswer, Refused, ResourceField};
-use zelezmut::{BadFile, LONGEST_SAVED_DESK};
+use zelezmut::saved::{self, NotMoved};
+use zelezmut::{registers, BadFile, Desk, Ended, FileField, FileLayout, Form, HostAnswer};
+use zelezmut::{NameField, Refused, ResourceField, TokenField};
 
 const PAGE: &str = include_str!("../../docs/SAVED-DESK.md");
 
@@ -24,9 +25,15 @@ fn rows(heading: &str) -> Vec<Vec<&'static str>> {
         .collect()
 }
 
-/// The example's bytes: of each line the offset, four bytes and what they say.
-fn example() -> Vec<u8> {
-    let listing = PAGE.split("```").nth(1).expect("a listing");
+/// The page's listings, in its order.
+const FORM_1: usize = 0;
+const OLD: usize = 1;
+const MOVED: usize = 2;
+const FORM_2: usize = 3;
+
+/// A listing's bytes: of each line the offset, four bytes and what they say.
+fn listing(index: usize) -> Vec<u8> {
+    let listing = PAGE.split("```").nth(2 * index + 1).expect("a listing");
     let mut bytes = Vec::new();
     for line in listing.lines().filter(|line| !line.is_empty()) {
         let (offset, rest) = line.split_once(':').expect("an offset");
@@ -61,8 +68,9 @@ fn submit(desk: &mut Desk, memory: &mut [u8], fence: u32, packets: &[Packet], an
     guest::put(memory, STREAM, &stream);
     guest::put_tail(memory, RING as usize, fence);
     desk.write(registers::DOORBELL, 1).unwrap();
-    desk.run(memory, 100).unwrap();
-    desk.answer(memory, ticket(desk), answer, 100).unwrap();
+    if desk.run(memory, 100).unwrap().ended == Ended::Waiting {
+        desk.answer(memory, ticket(desk), answer, 100).unwrap();
+    }
 }
 
 /// A texture that lives with the host.
@@ -104,10 +112,45 @@ const CREATES: [Packet; 3] = [
     },
 ];
 
-/// The desk of the example.
-fn played() -> Desk {
-    let mut memory = vec![0; MEMORY];
-    guest::put(&mut memory, RING as usize, &guest::ring(SLOTS, 0, 0));
+/// What the guests make in the example of form 2, and what becomes of it.
+const SHARES: [Packet; 7] = [
+    Packet::CreateBuffer {
+        handle: 3,
+        size: 256,
+        backing: None,
+    },
+    Packet::CreateTexture {
+        handle: 2,
+        shape: Shape { mips: 1, ..BACKED },
+        backing: Some(Backing { id: 5, offset: 512 }),
+    },
+    Packet::Export {
+        handle: 2,
+        token: 5_000_000_000,
+    },
+    Packet::Import {
+        handle: 7,
+        token: 5_000_000_000,
+    },
+    Packet::CreateTexture {
+        handle: 9,
+        shape: Shape {
+            mips: 1,
+            layers: 1,
+            ..HOSTED
+        },
+        backing: None,
+    },
+    Packet::Export {
+        handle: 9,
+        token: 77,
+    },
+    Packet::Destroy { handle: 9 },
+];
+
+/// A desk whose driver has set it up.
+fn set_up(memory: &mut [u8]) -> Desk {
+    guest::put(memory, RING as usize, &guest::ring(SLOTS, 0, 0));
     let mut desk = Desk::new(MEMORY);
     for (offset, value) in [
         (registers::RING_GPA_LO, RING),
@@ -118,6 +161,13 @@ fn played() -> Desk {
     ] {
         desk.write(offset, value).unwrap();
     }
+    desk
+}
+
+/// The desk of the example of form 1.
+fn played() -> Desk {
+    let mut memory = vec![0; MEMORY];
+    let mut desk = set_up(&mut memory);
     let destroy = [Packet::Destroy { handle: 9 }];
     submit(&mut desk, &mut memory, 1, &CREATES, HostAnswer::Good);
     submit(&mut desk, &mut memory, 2, &destroy, HostAnswer::Failed);
@@ -127,44 +177,129 @@ fn played() -> Desk {
     desk
 }
 
-#[test]
-fn the_example_is_loaded_and_saved_again() {
-    let file = example();
-    let desk = Desk::from_saved(&file).unwrap();
-    assert_eq!(desk.save(), Ok(file));
+/// The desk of the example of form 2.
+fn shared() -> Desk {
+    let mut memory = vec![0; MEMORY];
+    let mut desk = set_up(&mut memory);
+    let destroy = [Packet::Destroy { handle: 9 }];
+    submit(&mut desk, &mut memory, 1, &SHARES, HostAnswer::Good);
+    submit(&mut desk, &mut memory, 2, &destroy, HostAnswer::Good);
+    desk
 }
 
 #[test]
-fn the_example_is_what_a_desk_is_saved_as() {
-    let desk = played();
-    assert_eq!(desk.save(), Ok(example()));
-    assert_eq!(Desk::from_saved(&example()), Ok(desk));
+fn the_examples_are_loaded_and_saved_again() {
+    for (index, form) in [(FORM_1, Form::One), (MOVED, Form::Two), (FORM_2, Form::Two)] {
+        let file = listing(index);
+        let desk = Desk::from_saved(&file).unwrap();
+        assert_eq!(desk.save_as(form), Ok(file));
+    }
 }
 
 #[test]
-fn the_tables_have_every_field_in_its_place_with_its_rule() {
-    let (numbers, resources) = (rows("### Section 1"), rows("### Section 2"));
-    let mut fields = (0..LONGEST_SAVED_DESK)
-        .step_by(4)
-        .map(|at| FileField::at(at).unwrap());
-    for row in &numbers {
-        let field = fields.next().unwrap();
-        assert_eq!(
-            row[..3],
-            [&field.place().to_string(), &field.to_string(), field.rule()]
-        );
+fn the_examples_are_what_a_desk_is_saved_as() {
+    for (desk, index, form) in [
+        (played(), FORM_1, Form::One),
+        (shared(), FORM_2, Form::Two),
+        (Desk::new(MEMORY), MOVED, Form::Two),
+    ] {
+        assert_eq!(desk.save_as(form), Ok(listing(index)));
+        assert_eq!(Desk::from_saved(&listing(index)), Ok(desk));
     }
-    let count = fields.next().unwrap();
-    assert_eq!(count, FileField::ResourceCount);
-    assert_eq!(numbers.len(), 22);
-    assert!(PAGE.contains(&format!("{}: {}", count, count.rule())));
-    for (row, field) in resources.iter().zip(ResourceField::ALL) {
-        let whole = FileField::Resource { index: 0, field };
-        let offset = format!("+{}", whole.place() - 92);
-        assert_eq!(row[..3], [&offset, &field.to_string(), whole.rule()]);
+}
+
+#[test]
+fn the_old_file_is_loaded_and_moved() {
+    let (old, moved) = (listing(OLD), listing(MOVED));
+    assert_eq!(Desk::from_saved(&old), Ok(Desk::new(MEMORY)));
+    assert_eq!(saved::move_form(&old), Ok(moved.clone()));
+    let back = saved::move_form(&moved).unwrap();
+    assert_eq!(back, [&[1, 0, 0, 0], &old[..]].concat());
+    assert_eq!(Desk::new(MEMORY).save(), Ok(back));
+    for (index, length) in [(FORM_1, 252), (FORM_2, 0)] {
+        let moved = saved::move_form(&listing(index));
+        assert_eq!(moved.map_or(0, |file| file.len()), length);
     }
-    assert_eq!(resources.len(), ResourceField::ALL.len());
-    assert!(PAGE.contains("3,164 bytes"));
+}
+
+/// Each field of a section in its place, with its name and its rule.
+fn assert_part(heading: &str, layout: FileLayout, fields: &[(FileField, String)]) {
+    let rows = rows(heading);
+    assert_eq!(rows.len(), fields.len());
+    let first = layout.place(fields[0].0).unwrap();
+    for (row, (field, words)) in rows.iter().zip(fields) {
+        let offset = format!("+{}", layout.place(*field).unwrap() - first);
+        assert_eq!(row[..3], [offset.as_str(), words, field.rule()]);
+    }
+}
+
+#[test]
+fn the_tables_of_the_sections_have_every_field() {
+    let layout = FileLayout::of(&listing(FORM_2));
+    let index = 0;
+    let resources =
+        ResourceField::ALL.map(|field| (FileField::Resource { index, field }, field.to_string()));
+    assert_part("### Section 2", layout, &resources);
+    let names = NameField::ALL.map(|field| (FileField::Name { index, field }, field.to_string()));
+    assert_part("### Section 3", layout, &names);
+    let tokens =
+        TokenField::ALL.map(|field| (FileField::Token { index, field }, field.to_string()));
+    assert_part("### Section 4", layout, &tokens);
+    for count in [
+        FileField::ResourceCount,
+        FileField::NameCount,
+        FileField::TokenCount,
+    ] {
+        assert!(PAGE.contains(&format!("{}: {}", count, count.rule())));
+    }
+}
+
+#[test]
+fn the_table_of_section_1_has_every_field_in_its_place_with_its_rule() {
+    let rows = rows("### Section 1");
+    let layouts = [FORM_1, FORM_2].map(|index| FileLayout::of(&listing(index)));
+    let last = layouts[1].place(FileField::ResourceCount).unwrap();
+    let fields = (0..last).step_by(4).map(|at| layouts[1].field(at).unwrap());
+    assert_eq!(rows.len(), last / 4);
+    for (row, field) in rows.iter().zip(fields) {
+        let counted = matches!(field, FileField::NumberCount(_));
+        let in_form_1 = if counted {
+            FileField::NumberCount(Form::One)
+        } else {
+            field
+        };
+        let places = [layouts[0].place(in_form_1), layouts[1].place(field)];
+        let places = places.map(|place| place.map_or(String::new(), |place| place.to_string()));
+        let rule = if counted {
+            format!("{} in form 1, {} in form 2", in_form_1.rule(), field.rule())
+        } else {
+            field.rule().to_string()
+        };
+        let [one, two] = &places;
+        assert_eq!(row[..4], [one.as_str(), two, &field.to_string(), &rule]);
+    }
+}
+
+#[test]
+fn the_lengths_are_the_forms() {
+    for (form, words) in [
+        (Form::One, "3,168 bytes at most"),
+        (Form::Two, "6,252 bytes at most"),
+    ] {
+        assert!(PAGE.contains(words));
+        let digits: String = words.chars().filter(char::is_ascii_digit).collect();
+        assert_eq!(digits.parse(), Ok(form.longest()));
+    }
+    for (index, form, words) in [
+        (FORM_1, "form 1", "240 bytes"),
+        (OLD, "old", "92 bytes"),
+        (MOVED, "moved", "108 bytes"),
+        (FORM_2, "form 2", "236 bytes"),
+    ] {
+        let length = format!("{} bytes", listing(index).len());
+        assert_eq!(length, words, "{}", form);
+        assert!(PAGE.contains(words));
+    }
 }
 
 #[test]
@@ -173,11 +308,9 @@ fn the_answers_are_the_crates() {
         .iter()
         .map(|row| row[0].parse().unwrap())
         .collect();
-    let saving = [Refused::InWork, Refused::NotInForm, Refused::TooShort];
-    let mut expected: Vec<u32> = saving
-        .iter()
-        .filter_map(|refused| refused.number())
-        .collect();
-    expected.push(BadFile::GoesOn(0).number());
-    assert_eq!(numbers, expected);
+    let bad = NotMoved::BadFile(BadFile::GoesOn { place: 0 });
+    let moving = [bad, NotMoved::NotInForm, NotMoved::TooShort].map(NotMoved::number);
+    assert_eq!(numbers[1..], moving);
+    let saving = [Refused::InWork, Refused::NotInForm, Refused::TooShort].map(Refused::number);
+    assert_eq!(saving, [numbers[0], numbers[2], numbers[3]].map(Some));
 }

@@ -1,4 +1,4 @@
-//! A desk is saved and loaded: what comes back is the same desk, what is refused changes nothing, and what came before a load is over.
+//! A desk is saved in form 1 and loaded: what comes back is the same desk, what is refused changes nothing, and what came before a load is over.
 mod current;
 mod night;
 
@@ -6,10 +6,11 @@ use current::ticket;
 use night::{Night, MEMORY};
 use zelezmut::guest::{Backing, Packet, Shape};
 use zelezmut::{
-    registers, Desk, DeviceError, Ended, HostAnswer, Place, Refused, Ticket, LONGEST_SAVED_DESK,
+    registers, Desk, DeviceError, Ended, Form, HostAnswer, Place, Refused, Ticket,
+    LONGEST_SAVED_DESK,
 };
 
-const HEAD: usize = 92;
+const HEAD: usize = 96;
 const RESOURCE: usize = 48;
 const UNWRITTEN: u8 = 0xAA;
 
@@ -97,15 +98,27 @@ fn what_is_loaded_is_what_was_saved() {
         failed.desk,
         furnished().desk,
     ] {
-        let file = desk.save().unwrap();
-        assert_eq!(file.len(), HEAD + RESOURCE * desk.names().len());
-        let loaded = Desk::from_saved(&file).unwrap();
-        assert_eq!(loaded, desk);
-        assert_eq!(loaded.memory_len(), desk.memory_len());
-        assert_eq!(loaded.save(), Ok(file.clone()));
-        let mut other = furnished().desk;
-        assert_eq!(other.load(&file), Ok(()));
-        assert_eq!(other, desk);
+        let old_length = HEAD - 4 + RESOURCE * desk.names().len();
+        let one = desk.save().unwrap();
+        assert_eq!(one.len(), 4 + old_length);
+        let two = desk.save_as(Form::Two).unwrap();
+        assert_eq!(two.len(), one.len() + 12);
+        // An old file is one of form 1 without its number.
+        for (file, form) in [
+            (&one[..], Form::One),
+            (&one[4..], Form::One),
+            (&two, Form::Two),
+        ] {
+            let loaded = Desk::from_saved(file).unwrap();
+            assert_eq!(loaded, desk);
+            assert_eq!(loaded.memory_len(), desk.memory_len());
+            let saved = loaded.save_as(form).unwrap();
+            assert!(saved == one || saved == two);
+            assert!(saved.ends_with(file));
+            let mut other = furnished().desk;
+            assert_eq!(other.load(file), Ok(()));
+            assert_eq!(other, desk);
+        }
     }
 }
 
@@ -116,7 +129,7 @@ fn the_longest_file_has_64_resources() {
     let night = after(&halves);
     assert_eq!(night.desk.last_error(), None);
     let file = night.desk.save().unwrap();
-    assert_eq!(file.len(), LONGEST_SAVED_DESK);
+    assert_eq!(file.len(), Form::One.longest());
     let mut handles = file[HEAD..].chunks_exact(RESOURCE).map(|row| row[0]);
     assert!((1..=64).all(|handle| handles.next() == Some(handle)));
     assert_eq!(Desk::from_saved(&file), Ok(night.desk));
@@ -303,7 +316,7 @@ fn the_completed_fence_may_be_lower_and_the_memory_another() {
 #[test]
 fn a_loaded_error_has_no_place() {
     let mut file = Desk::new(64).save().unwrap();
-    for (at, value) in [(60, 18), (64, 5), (72, 2)] {
+    for (at, value) in [(64, 18), (68, 5), (76, 2)] {
         file[at] = value;
     }
     let report = Desk::from_saved(&file).unwrap().last_error().unwrap();

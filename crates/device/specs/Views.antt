@@ -3,7 +3,7 @@ use mathlib.Core.List.{List}
 use Prim.Native.Nat.{ℕ}
 use Rattle.rules.specs.State.{State, World}
 use Rattle.rules.specs.Calls.{Wrote as WroteBy, Ran as RanBy}
-use Rattle.rules.specs.Saved.{Loaded as LoadedBy}
+use Rattle.rules.specs.Loaded.{Loaded as LoadedBy}
 use Rattle.run_state.specs.Views.{stateIn, deskIn}
 use Rattle.device.specs.declared.Device.{Device}
 use Rattle.device.specs.declared.Wrote.{Wrote}

@@ -4,11 +4,13 @@
 use device_calls::RecordRead;
 use device_calls::ValueRead;
 use rules::Ended;
+use rules::Form;
 use saved_save::FileSaved;
 ghost use mathlib.Core.Path.{_≡_};
 ghost use Rattle.rules.specs.State.{made};
 ghost use Rattle.rules.specs.Calls.{call-write, call-read, call-run, call-record, call-answer};
-ghost use Rattle.rules.specs.Saved.{call-save, call-load};
+ghost use Rattle.rules.specs.Saved.{call-save};
+ghost use Rattle.rules.specs.Loaded.{call-load};
 ghost use Rattle.device_calls.specs.Views.{valueOf, recordReadOf};
 ghost use Rattle.saved_save.specs.Views.{savedOf};
 ghost use Rattle.device.specs.Views.{stateOf, worldOf, wroteOf, ranOf, loadedOf};
@@ -186,14 +188,24 @@ impl Device {
         }
     }
 
-    // Writes the device, at rest, into the lent buffer, in form 1 of a saved desk; says how many bytes those are.
-    pub fn save(self, buffer: &mut [u8]) -> FileSaved
-        ensures { λ r. ⌜ savedOf r (now (buffer .exit)) ≡ call-save (stateOf self) (now (buffer .entry)) ⌝ }
+    // Writes the device, at rest, into the lent buffer, in this form of a saved desk; says how many bytes those are.
+    pub fn save(self, form: Form, buffer: &mut [u8]) -> FileSaved
+        ensures { λ r. ⌜ savedOf r (now (buffer .exit)) ≡ call-save form (stateOf self) (now (buffer .entry)) ⌝ }
     {
         let words = self.words;
         let first = self.first;
         let second = self.second;
-        saved_save::save(&words, &first, &second, buffer)
+        let firsttokens = self.firsttokens;
+        let secondtokens = self.secondtokens;
+        saved_save::save(
+            form,
+            &words,
+            &first,
+            &second,
+            &firsttokens,
+            &secondtokens,
+            buffer,
+        )
     }
 
     // What a saved desk makes of the device, whatever it was; a bad file leaves it.
@@ -204,10 +216,10 @@ impl Device {
         let entries = self.entries;
         let mut first = self.first;
         let second = self.second;
-        let firsttokens = self.firsttokens;
+        let mut firsttokens = self.firsttokens;
         let secondtokens = self.secondtokens;
         let records = self.records;
-        let x = saved_load::load(&mut words, &mut first, file);
+        let x = saved_load::load(&mut words, &mut first, &mut firsttokens, file);
         let device = Device {
             words,
             entries,

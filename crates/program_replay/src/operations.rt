@@ -2,11 +2,13 @@
 // One whose fields are cut short does nothing and prints nothing.
 use crate::lines::say_answer;
 use crate::saved::load;
+use crate::saved::move_file;
 use crate::saved::save;
 use crate::script::ANSWER;
 use crate::script::ANSWER_ELSEWHERE;
 use crate::script::LOAD;
 use crate::script::LONGEST_MEMORY;
+use crate::script::MOVE;
 use crate::script::Next;
 use crate::script::POKE;
 use crate::script::READ;
@@ -14,6 +16,7 @@ use crate::script::RECORD;
 use crate::script::RUN;
 use crate::script::RUN_ELSEWHERE;
 use crate::script::SAVE;
+use crate::script::SAVE_FORM_2;
 use crate::script::STATE;
 use crate::script::WRITE;
 use crate::script::u16_at;
@@ -23,6 +26,7 @@ use device::Ran;
 use program_lines::say;
 use program_lines::say_named;
 use rules::Ended;
+use rules::Form;
 ghost use Prim.Native.Nat.{_≤_};
 ghost use lib.ListN.{length};
 
@@ -245,7 +249,9 @@ fn answer_elsewhere(device: Device, fields: &[u8]) -> Played {
 fn look(tag: u8, device: Device, memory: &[u8], fields: &[u8]) -> Next {
     match tag {
         READ => read_register(device, fields),
-        SAVE => save(device, fields),
+        SAVE => save(device, Form::One, fields),
+        SAVE_FORM_2 => save(device, Form::Two, fields),
+        MOVE => move_file(fields),
         RECORD => record(device, fields),
         STATE => {
             say_state(device, memory);

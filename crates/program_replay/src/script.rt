@@ -41,6 +41,10 @@ pub const SAVE: u8 = 10;
 
 pub const LOAD: u8 = 11;
 
+pub const SAVE_FORM_2: u8 = 12;
+
+pub const MOVE: u8 = 13;
+
 // ---- operations
 
 // How an operation went: played, with the bytes taken after its tag; or the script ends here.

@@ -7,7 +7,7 @@ use mathlib.Core.List.{List, []}
 use mathlib.Core.Logic.{_⊎_}
 use native.Mathlib.Omega.{arith}
 use Rattle.machine.specs.Machine.{pick, run-none, run-stop}
-use Prim.Native.Nat.{ℕ, _^_, _≤_, _<_}
+use Prim.Native.Nat.{ℕ, _+_, _^_, _≤_, _<_}
 use lib.Ieee.{lt}
 use lib.ListN.{length, take}
 use Rattle.rules.specs.Numbers.{done, no-record, host-failed, clips, bad-handle, bad-state, too-many, most as most-records, set-target, set-viewport, set-scissor, clear as clear-opcode, export-surface, import-surface, release-token, bad-file, in-work, not-in-form, too-short}
@@ -86,17 +86,24 @@ use Rattle.promises_of_sharing.specs.SharedPackets.{ExportPacket, ImportPacket,
 use Rattle.promises_of_sharing.specs.TokensOverCalls.{CalledOn, tokens-go-on-between-resets, a-reset-forgets-the-tokens, a-failed-submission-leaves-the-tokens, at-most-256-tokens, shared-is-one-mip-one-layer, bound-is-one-mip-one-layer, what-is-held-is-sound}
 use Rattle.promises_of_submissions.specs.Clipping.{Scissored, accepted-scissor-is-clipped}
 use Rattle.promises_of_submissions.specs.Locality.{lent, SameWhereRead, SameRun, run-of-one-reads-only}
-use Rattle.rules.specs.Saved.{file-rules, bad-place, loaded, call-save, call-load, saved, not-saved, beyond-form-1, Loaded}
+use Rattle.rules.specs.Saved.{not-saved, call-save, saved, beyond}
+use Rattle.rules.specs.Loaded.{Loaded, form-in, sections, file-rules, bad-place, loaded, call-load, call-move}
+use Rattle.rules.specs.declared.Form.{Form}
+use Rattle.rules.specs.declared.Form.the-variants.{One, Two}
 use Rattle.promises_of_units.specs.Called.Called.{loads}
 use Rattle.promises_of_units.specs.Sound.{SoundState}
 use Rattle.promises_of_units.specs.LoadedSound.{loaded-sound}
 use Rattle.promises_of_saving.specs.Savable.{Fits, Savable}
 use Rattle.promises_of_saving.specs.SameDevice.{SameDevice}
 use Rattle.promises_of_saving.specs.FirstBroken.{FirstBroken, Kept}
-use Rattle.promises_of_saving.specs.Refusals.{refused-exactly, refused-load-leaves-the-device, SaveDone, SaveRefused, SaveWritten, save-done-exactly, refused-save-leaves-the-buffer, done-save-keeps-later-bytes, save-in-work, save-not-in-form, save-too-short, loaded-exactly, loaded-or-refused, kept-is-good, load-of-good}
-use Rattle.promises_of_saving.specs.Places.{reported-place-is-in-the-file}
+use Rattle.promises_of_saving.specs.Refusals.{refused-exactly, refused-load-leaves-the-device, SaveDone, NothingWritten, FileWritten, save-done-exactly, refused-save-leaves-the-buffer, done-save-keeps-later-bytes, save-in-work, save-not-in-form, save-too-short, loaded-exactly, loaded-or-refused, kept-is-good, load-of-good}
+use Rattle.promises_of_saving.specs.Places.{NotBefore, reported-place-is-in-the-file, reported-place-is-the-lowest}
+use Rattle.promises_of_saving.specs.Numbered.{with-number}
 use Rattle.promises_of_saving.specs.SaveOfLoad.{equal-devices-equal-files, load-then-save}
 use Rattle.promises_of_saving.specs.LoadOfSave.{LoadedBack, load-of-save}
+use Rattle.promises_of_saving.specs.GoesBack.{GoesBack}
+use Rattle.promises_of_saving.specs.MoveAnswers.{moved, LoadRefused, MoveNotInForm, MoveTooShort, MoveDone, move-refused-exactly, move-not-in-form-exactly, move-too-short-exactly, move-done-exactly, refused-move-leaves-the-buffer, done-move-keeps-later-bytes}
+use Rattle.promises_of_saving.specs.Moved.{form-1-is-never-refused-with-8, form-2-goes-back-exactly, move-wrote, load-of-moved, form-1-moves-there-and-back}
 
 -- ---- demand 1
 
@@ -531,7 +538,7 @@ pub when-tokens-are-left-and-when-forgotten : (w : World) → Leaves w
 when-tokens-are-left-and-when-forgotten w =
     record { forgotten = a-reset-forgets-the-tokens (w .state); refused = unit-keeps-belongings w; failed = a-failed-submission-leaves-the-tokens w }
 
--- ---- wish 1: a desk that can be saved
+-- ---- wish 1: a desk that can be saved; wish 11, in either form
 
 -- what soundness says of every device that was made, called or loaded; that its numbers fit the fields of a file is so of all that stand in words
 called-is-savable : (s : State) → Called s → Fits s → Savable s
@@ -543,34 +550,36 @@ called-is-savable s k fits =
       some = sound .belongings .resources .some;
       once = sound .belongings .resources .once;
       created = sound .belongings .resources .created;
+      names = sound .belongings .resources .names;
+      tokens = sound .belongings .tokens;
       fits = fits;
     }
 
--- "the device at rest written into a lent buffer and read back elsewhere": what was saved is loaded as the same device, whatever the device it is
--- loaded into was: the same memory length, registers and flag, the same resources by their handles, no token, nothing in work
-pub a-saved-desk-is-read-back-elsewhere : (s : State) → Called s → Fits s → (buffer : List ℕ) → call-save s buffer .answer ≡ done
-    → (t : State) → LoadedBack s (call-load t (take (call-save s buffer .length) (call-save s buffer .buffer)))
-a-saved-desk-is-read-back-elsewhere s k fits = load-of-save s (called-is-savable s k fits)
+-- "the device at rest written into a lent buffer and read back elsewhere": what was saved is loaded as the same device, whatever the device it is loaded
+-- into was: the same memory length, registers and flag, the same resources by their names, the same tokens, nothing in work
+pub a-saved-desk-is-read-back-elsewhere : (f : Form) (s : State) → Called s → Fits s → (buffer : List ℕ) → call-save f s buffer .answer ≡ done
+    → (t : State) → LoadedBack s (call-load t (take (call-save f s buffer .length) (call-save f s buffer .buffer)))
+a-saved-desk-is-read-back-elsewhere f s k fits = load-of-save f s (called-is-savable s k fits)
 
 -- "Saving while a submission is in work answers 5; then a buffer too short answers 6; both leave it untouched. It gives the length and keeps later
--- bytes." And by wish 5, "Saving in form 1 answers 8 (after 5, before 6)".
-pub record Saving (s : State) (buffer : List ℕ) : Type 0 where
-  pub five : at-rest (s .work) ≡ false → call-save s buffer ≡ not-saved in-work buffer
-  pub eight : at-rest (s .work) ≡ true → beyond-form-1 s ≡ true → call-save s buffer ≡ not-saved not-in-form buffer
-  pub six : at-rest (s .work) ≡ true → beyond-form-1 s ≡ false → length buffer < length (saved s) → call-save s buffer ≡ not-saved too-short buffer
-  pub done-when : (call-save s buffer .answer ≡ done → SaveDone s buffer) × (SaveDone s buffer → call-save s buffer .answer ≡ done)
-  pub untouched : (call-save s buffer .answer ≡ done → ⊥) → SaveRefused s buffer
-  pub later-bytes : call-save s buffer .answer ≡ done → SaveWritten s buffer
+-- bytes." And by wish 5, "Saving in form 1 answers 8 (after 5, before 6)": form 2 has a field for all, so `beyond` is false of it.
+pub record Saving (f : Form) (s : State) (buffer : List ℕ) : Type 0 where
+  pub five : at-rest (s .work) ≡ false → call-save f s buffer ≡ not-saved in-work buffer
+  pub eight : at-rest (s .work) ≡ true → beyond f s ≡ true → call-save f s buffer ≡ not-saved not-in-form buffer
+  pub six : at-rest (s .work) ≡ true → beyond f s ≡ false → length buffer < length (saved f s) → call-save f s buffer ≡ not-saved too-short buffer
+  pub done-when : (call-save f s buffer .answer ≡ done → SaveDone f s buffer) × (SaveDone f s buffer → call-save f s buffer .answer ≡ done)
+  pub untouched : (call-save f s buffer .answer ≡ done → ⊥) → NothingWritten (call-save f s buffer) buffer
+  pub later-bytes : call-save f s buffer .answer ≡ done → FileWritten (call-save f s buffer) (saved f s) buffer
 
-pub when-a-desk-is-saved : (s : State) (buffer : List ℕ) → Saving s buffer
-when-a-desk-is-saved s buffer =
+pub when-a-desk-is-saved : (f : Form) (s : State) (buffer : List ℕ) → Saving f s buffer
+when-a-desk-is-saved f s buffer =
     record {
-      five = save-in-work s buffer;
-      eight = save-not-in-form s buffer;
-      six = save-too-short s buffer;
-      done-when = save-done-exactly s buffer;
-      untouched = refused-save-leaves-the-buffer s buffer;
-      later-bytes = done-save-keeps-later-bytes s buffer;
+      five = save-in-work f s buffer;
+      eight = save-not-in-form f s buffer;
+      six = save-too-short f s buffer;
+      done-when = save-done-exactly f s buffer;
+      untouched = refused-save-leaves-the-buffer f s buffer;
+      later-bytes = done-save-keeps-later-bytes f s buffer;
     }
 
 -- "Loading answers 7, device unchanged, exactly when a field is missing or breaks a rule, or a byte follows the last .. It gives the offset of the first
@@ -579,6 +588,7 @@ pub record Loading (s : State) (b : List ℕ) : Type 0 where
   pub bad-when : (call-load s b .answer ≡ bad-file → FirstBroken (file-rules b) (call-load s b .place)) × ((p : ℕ) → FirstBroken (file-rules b) p → call-load s b ≡ record { answer = bad-file; place = p; state = s })
   pub unchanged : call-load s b .answer ≡ bad-file → call-load s b .state ≡ s
   pub in-the-file : call-load s b .answer ≡ bad-file → call-load s b .place ≤ length b
+  pub lowest : call-load s b .answer ≡ bad-file → Every (NotBefore (call-load s b .place)) (file-rules b)
   -- and else the device is what the file says, whatever it was
   pub good-when : (call-load s b .answer ≡ done → Every Kept (file-rules b)) × (Every Kept (file-rules b) → call-load s b ≡ record { answer = done; place = 0; state = loaded b })
   pub either : (call-load s b .answer ≡ done) ⊎ (call-load s b .answer ≡ bad-file)
@@ -589,18 +599,57 @@ when-a-file-is-loaded s b =
       bad-when = refused-exactly s b;
       unchanged = refused-load-leaves-the-device s b;
       in-the-file = reported-place-is-in-the-file s b;
+      lowest = reported-place-is-the-lowest s b;
       good-when = loaded-exactly s b;
       either = loaded-or-refused s b;
     }
 
--- and a good file and the device that it says are one thing in two forms: saving what was loaded gives the same bytes, and two files of the same device
--- are equal
-pub what-was-loaded-is-saved-again : (s : State) (b : List ℕ) → OfBytes b → call-load s b .answer ≡ done → (buffer : List ℕ) → length b ≤ length buffer
-    → call-save (call-load s b .state) buffer ≡ record { answer = done; length = length b; buffer = over 0 b buffer }
+-- and a good file and the device that it says are one thing: saving what was loaded in the file's form gives the same bytes, an old file with its
+-- number, and two files of one form that say the same device are equal but for that number
+pub what-was-loaded-is-saved-again : (s : State) (b : List ℕ) → OfBytes b → call-load s b .answer ≡ done → (buffer : List ℕ) → length (with-number b) ≤ length buffer
+    → call-save (form-in b) (call-load s b .state) buffer ≡ record { answer = done; length = length (with-number b); buffer = over 0 (with-number b) buffer }
 what-was-loaded-is-saved-again = load-then-save
 
-pub one-device-has-one-file : (b c : List ℕ) → OfBytes b → OfBytes c → bad-place b ≡ none → bad-place c ≡ none → SameDevice (loaded b) (loaded c) → b ≡ c
+pub one-device-has-one-file : (b c : List ℕ) → OfBytes b → OfBytes c → bad-place b ≡ none → bad-place c ≡ none → form-in b ≡ form-in c
+    → SameDevice (loaded b) (loaded c) → with-number b ≡ with-number c
 one-device-has-one-file = equal-devices-equal-files
+
+-- "Form 2 goes back exactly when both sections are empty and detail is 0, else 8 (7 comes before it, 6 after) and nothing written": the answers of a move
+pub record Moving (b buffer : List ℕ) : Type 0 where
+  pub seven-when : (call-move b buffer .answer ≡ bad-file → LoadRefused b) × (LoadRefused b → call-move b buffer .answer ≡ bad-file)
+  pub eight-when : (call-move b buffer .answer ≡ not-in-form → MoveNotInForm b) × (MoveNotInForm b → call-move b buffer .answer ≡ not-in-form)
+  pub six-when : (call-move b buffer .answer ≡ too-short → MoveTooShort b buffer) × (MoveTooShort b buffer → call-move b buffer .answer ≡ too-short)
+  pub done-when : (call-move b buffer .answer ≡ done → MoveDone b buffer) × (MoveDone b buffer → call-move b buffer .answer ≡ done)
+  pub form-1-goes : form-in b ≡ One → call-move b buffer .answer ≡ not-in-form → ⊥
+  pub form-2-goes : bad-place b ≡ none → form-in b ≡ Two
+      → (call-move b buffer .answer ≡ not-in-form → GoesBack (sections b) → ⊥) × ((GoesBack (sections b) → ⊥) → call-move b buffer ≡ not-saved not-in-form buffer)
+  pub untouched : (call-move b buffer .answer ≡ done → ⊥) → NothingWritten (call-move b buffer) buffer
+  pub later-bytes : call-move b buffer .answer ≡ done → FileWritten (call-move b buffer) (moved b) buffer
+
+pub when-a-file-is-moved : (b buffer : List ℕ) → Moving b buffer
+when-a-file-is-moved b buffer =
+    record {
+      seven-when = move-refused-exactly b buffer;
+      eight-when = move-not-in-form-exactly b buffer;
+      six-when = move-too-short-exactly b buffer;
+      done-when = move-done-exactly b buffer;
+      form-1-goes = form-1-is-never-refused-with-8 b buffer;
+      form-2-goes = λ good form. form-2-goes-back-exactly b good form buffer;
+      untouched = refused-move-leaves-the-buffer b buffer;
+      later-bytes = done-move-keeps-later-bytes b buffer;
+    }
+
+-- "Every form 1 file, an old one once it has its number, moves to form 2 and back to equal bytes": form 2 takes 12 bytes more
+pub every-form-1-file-moves-to-form-2-and-back : (b : List ℕ) → OfBytes b → bad-place b ≡ none → form-in b ≡ One → (buffer back : List ℕ)
+    → 12 + length (with-number b) ≤ length buffer → length (with-number b) ≤ length back
+    → (call-move b buffer .answer ≡ done)
+    × (call-move (move-wrote b buffer) back ≡ record { answer = done; length = length (with-number b); buffer = over 0 (with-number b) back })
+every-form-1-file-moves-to-form-2-and-back = form-1-moves-there-and-back
+
+-- "Loading either gives the same device"
+pub loading-either-gives-the-same-device : (b buffer : List ℕ) → OfBytes b → call-move b buffer .answer ≡ done
+    → (t : State) → LoadedBack (loaded b) (call-load t (move-wrote b buffer))
+loading-either-gives-the-same-device = load-of-moved
 
 -- "Demands 2 and 3 read from the loaded state on": the statements above are of any device, or of any that is `Called`. A device that was loaded is so, and
 -- it is sound

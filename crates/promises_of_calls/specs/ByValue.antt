@@ -8,7 +8,7 @@ use Rattle.rules.specs.State.{World, made}
 use Rattle.rules.specs.Calls.{Wrote as WroteBy, Value, Ran as RanBy, RecordRead as RecordReadBy, call-write, call-read, call-run, call-record, call-answer}
 use Rattle.rules.specs.Numbers.{done}
 use Rattle.rules.specs.Lists.Found.{none}
-use Rattle.rules.specs.Saved.{bad-place, loaded, Loaded as LoadedBy, call-load}
+use Rattle.rules.specs.Loaded.{Loaded as LoadedBy, bad-place, loaded, call-load}
 use Rattle.run_state.specs.Views.{worldIn}
 use Rattle.device_calls.specs.Views.{valueOf, recordReadOf}
 use Rattle.device_calls.specs.declared.ValueRead.{ValueRead}

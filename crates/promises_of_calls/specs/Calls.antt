@@ -109,7 +109,7 @@ call-is-the-rules {L} {c} k =
 -- any calls, each lent any memory at all, of whatever length
 pub data MadeAndCalled (L : Layer) : L .Device → Type 0 where
   made-one : {d : L .Device} (memory : ℕ) → L .Makes memory d → MadeAndCalled L d
-  -- or, in place of being made, loaded from a good file
+  -- or, in place of being made, loaded from a good file of whatever form
   loaded-one : {d : L .Device} (b : List ℕ) → L .Loads b d → MadeAndCalled L d
   called-one : {d d′ : L .Device} (m m′ : List ℕ) (c : Call) (x : L .Said) → L .Gives d m c x d′ m′ → MadeAndCalled L d → MadeAndCalled L d′
 

@@ -8,7 +8,7 @@ use native.Mathlib.Omega.{arith}
 use lib.ListN.{getD}
 use Rattle.rules.specs.Numbers.{done}
 use Rattle.rules.specs.Lists.Found.{none}
-use Rattle.rules.specs.Saved.{bad-place, loaded, Loaded, call-load}
+use Rattle.rules.specs.Loaded.{Loaded, bad-place, loaded, call-load}
 use Rattle.rules.specs.State.{World}
 use Rattle.rules.specs.Calls.{ended-number, Ran, call-run, call-record, call-answer}
 use Rattle.rules.specs.declared.Record.{Record}
@@ -123,20 +123,20 @@ gives-world d m c x d′ m′ (zelezmut-answer good allowance n e n′ k) = k .w
 pub record LoadsSaid (b : List ℕ) (d : Device) : Type 0 where
   pub before : Device
   pub said : ℕ
-  pub loads : SaysLoaded (before .words) (before .first) b said (d .words) (d .first)
+  pub loads : SaysLoaded (before .words) (before .first) (before .firsttokens) b said (d .words) (d .first) (d .firsttokens)
   pub answered : said / 4294967296 ≡ done
-  pub leaves : with-loaded (d .words) (d .first) before ≡ d
+  pub leaves : with-loaded (d .words) (d .first) (d .firsttokens) before ≡ d
 
 -- the file is good, and the device is what it says
 pub loads-loaded : (b : List ℕ) (d : Device) → LoadsSaid b d → (bad-place b ≡ none) × (stateOf d ≡ loaded b)
 loads-loaded b d k =
     let old : Device = k .before in
-    let place = k .loads .place (old .entries) (old .second) (old .firsttokens) (old .secondtokens) (old .records) in
+    let place = k .loads .place (old .entries) (old .second) (old .secondtokens) (old .records) in
     let zero : call-load (stateOf old) b .answer ≡ done = omega (arith, place, k .answered) in
     let good : bad-place b ≡ none = kept-is-good b (loaded-exactly (stateOf old) b .0 zero) in (
       good,
       sym (ap stateOf (k .leaves))
-          ∙ (k .loads .state (old .entries) (old .second) (old .firsttokens) (old .secondtokens) (old .records) ∙ ap (λ (l : Loaded). l .state) (load-of-good (stateOf old) b good)),
+          ∙ (k .loads .state (old .entries) (old .second) (old .secondtokens) (old .records) ∙ ap (λ (l : Loaded). l .state) (load-of-good (stateOf old) b good)),
     )
 
 -- the layer

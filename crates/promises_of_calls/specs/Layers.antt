@@ -10,10 +10,10 @@ use Rattle.rules.specs.Numbers.{done}
 use Rattle.rules.specs.State.{State, World, made}
 use Rattle.rules.specs.Calls.{no-range, RecordRead, call-write, call-read, call-run, call-record, call-answer}
 use Rattle.rules.specs.Lists.Found.{none}
-use Rattle.rules.specs.Saved.{bad-place, loaded}
 use Rattle.rules.specs.declared.Record.{Record}
 use Rattle.rules.specs.declared.Ended.{Ended}
 use Rattle.rules.specs.declared.Ended.the-variants.{Idle}
+use Rattle.rules.specs.Loaded.{bad-place, loaded}
 use Rattle.promises_of_units.specs.Called.{Call, after}
 use Rattle.promises_of_units.specs.Called.Call.{writes, reads, runs, records, answers}
 use Rattle.promises_of_submissions.specs.Locality.{lent}

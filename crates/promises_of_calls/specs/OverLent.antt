@@ -51,24 +51,24 @@ is-by-value {d} {m} (lent-answer good n x d′ m′ k) =
     answer-gives good n (record { answer = x .answer; units = x .units; ended = x .ended; device = d′ }) m′
     (answered d m good n x (d′ .words) (d′ .entries) (d′ .first) (d′ .second) (d′ .firsttokens) (d′ .secondtokens) (d′ .records) m′ k)
 
--- the same tables under other words, with another first table of resources
-abbrev pub with-loaded : List ℕ → List ℕ → Device → Device
-with-loaded s a d = record { words = s; entries = d .entries; first = a; second = d .second; firsttokens = d .firsttokens; secondtokens = d .secondtokens; records = d .records }
+-- the same tables under other words, with other first tables of resources and of tokens
+abbrev pub with-loaded : List ℕ → List ℕ → List ℕ → Device → Device
+with-loaded s a ft d = record { words = s; entries = d .entries; first = a; second = d .second; firsttokens = ft; secondtokens = d .secondtokens; records = d .records }
 
 -- a load of this file was lent words and tables, whatever stood there, left these, and answered 0
 pub record LoadsLent (b : List ℕ) (d : Device) : Type 0 where
   pub before : Device
   pub reply : FileLoaded
-  pub loads : LoadsOver b (before .words) (before .first) (d .words) (d .first) reply
+  pub loads : LoadsOver b (before .words) (before .first) (before .firsttokens) (d .words) (d .first) (d .firsttokens) reply
   pub answered : reply .answer ≡ done
-  pub leaves : with-loaded (d .words) (d .first) before ≡ d
+  pub leaves : with-loaded (d .words) (d .first) (d .firsttokens) before ≡ d
 
 pub lent-load-is-by-value : (b : List ℕ) (d : Device) → LoadsLent b d → Loads b d
 lent-load-is-by-value b d k =
     record {
       before = k .before;
-      reply = record { answer = k .reply .answer; place = k .reply .place; device = with-loaded (d .words) (d .first) (k .before) };
-      loads = loaded (k .before) b (k .reply) (d .words) (d .first) (k .loads);
+      reply = record { answer = k .reply .answer; place = k .reply .place; device = with-loaded (d .words) (d .first) (d .firsttokens) (k .before) };
+      loads = loaded (k .before) b (k .reply) (d .words) (d .first) (d .firsttokens) (k .loads);
       answered = k .answered;
       leaves = k .leaves;
     }

@@ -48,10 +48,20 @@ module _ {A : Type 0} (P : A → Type 0) where
   unfolding Every
   every-none = omega arith
 
-  every-both : (xs ys : List A) → Every xs → Every ys → Every (xs ++ ys)
+  pub every-both : (xs ys : List A) → Every xs → Every ys → Every (xs ++ ys)
   unfolding Every
   every-both [] ys h k = k
   every-both (x ∷ xs) ys h k = (h .0, every-both xs ys (h .1) k)
+
+  pub every-front : (xs ys : List A) → Every (xs ++ ys) → Every xs
+  unfolding Every
+  every-front [] ys h = every-none
+  every-front (x ∷ xs) ys h = (h .0, every-front xs ys (h .1))
+
+  pub every-back : (xs ys : List A) → Every (xs ++ ys) → Every ys
+  unfolding Every
+  every-back [] ys h = h
+  every-back (x ∷ xs) ys h = every-back xs ys (h .1)
 
   every-take : (n : ℕ) (xs : List A) → Every xs → Every (take n xs)
   unfolding Every

@@ -39,14 +39,6 @@ word-of-file (v ∷ vs) (suc i) =
     ap (λ n. le (take 4 (drop n (bytesOf 4 v ++ file-of vs)))) e
     ∙ (ap (λ x. le (take 4 x)) (drop-append-add (bytesOf 4 v) (file-of vs) (4 * i)) ∙ word-of-file vs i)
 
--- also behind others
-pub word-behind : (us vs : List ℕ) (at i : ℕ) → at ≡ 4 * length us → word (file-of (us ++ vs)) (at + 4 * i) ≡ getD vs i 0 % 2 ^ 32
-word-behind us vs at i e =
-    let s : at + 4 * i ≡ length (file-of us) + 4 * i = omega (arith, length-file us) in
-    ap (λ x. word x (at + 4 * i)) (file-both us vs)
-    ∙ (ap (λ n. word (file-of us ++ file-of vs) n) s
-    ∙ (ap (λ x. le (take 4 x)) (drop-append-add (file-of us) (file-of vs) (4 * i)) ∙ word-of-file vs i))
-
 -- a number of 64 bits is two fields, LO first
 pub long-is-two : (b : List ℕ) (at : ℕ) → at + 4 ≤ length b → long b at ≡ word b at + 2 ^ 32 * word b (at + 4)
 long-is-two b at h = le-add 4 4 at b h
@@ -65,8 +57,12 @@ words-both (suc m) n b at =
     let e : at + 4 + 4 * m ≡ at + 4 * suc m = omega arith in
     rw suc-add (ap (λ x. word b at ∷ x) (words-both m n b (at + 4) ∙ ap (λ i. words-at m b (at + 4) ++ words-at n b i) e))
 
+-- the same, where the later ones' place is said otherwise
+pub words-on : (m n : ℕ) (b : List ℕ) (at next : ℕ) → next ≡ at + 4 * m → words-at m b at ++ words-at n b next ≡ words-at (m + n) b at
+words-on m n b at next e = ap (λ k. words-at m b at ++ words-at n b k) e ∙ sym (words-both m n b at)
+
 -- the bytes of a word are those that it was read from
-bytes-of-word : (b : List ℕ) (at : ℕ) → OfBytes b → at + 4 ≤ length b → bytesOf 4 (word b at) ≡ take 4 (drop at b)
+pub bytes-of-word : (b : List ℕ) (at : ℕ) → OfBytes b → at + 4 ≤ length b → bytesOf 4 (word b at) ≡ take 4 (drop at b)
 bytes-of-word b at o h =
     let e : length (take 4 (drop at b)) ≡ 4 = length-take-le 4 (drop at b) (simp length-drop (omega arith)) in
     ap (λ n. bytesOf n (word b at)) (sym e) ∙ bytesOf-le (take 4 (drop at b)) (bytes-taken 4 (drop at b) (λ i. subst (λ x. x < 256) (sym (getD-drop at b i 0)) (o (at + i))))

@@ -6,7 +6,7 @@ use Prim.Native.Nat.{ℕ, _+_, _≤_}
 use borrow.Author.Tests.{ltb-false, le-ltb}
 use lib.ListN.{length}
 use Rattle.rules.specs.Lists.Found.{none, found}
-use Rattle.rules.specs.Saved.{Rule, missing, must, first-broken}
+use Rattle.rules.specs.Loaded.{Rule, missing, must, first-broken, behind}
 use Rattle.promises_of_packets.specs.Names.{none-not-found, found-same, true-not-false}
 use Rattle.promises_of_packets.specs.Held.{Every, every-none}
 
@@ -87,22 +87,17 @@ broken-not-none (q ∷ qs) r back h e = by-test (q .broken) refl (λ i. broken-n
     by-test true i later = none-not-found (q .place) (sym e ∙ first-one q (qs ++ (r ∷ back)) i)
     by-test false i later = later i
 
--- ---- rules of two parts
+-- ---- rules that stand behind a number: the same ones are kept
 
-pub kept-front : (xs ys : List Rule) → Every Kept (xs ++ ys) → Every Kept xs
-unfolding Every
-kept-front [] ys k = every-none Kept
-kept-front (x ∷ xs) ys k = (k .0, kept-front xs ys (k .1))
+pub kept-behind : (n : ℕ) (rs : List Rule) → Every Kept rs → Every Kept (behind n rs)
+unfolding Every behind
+kept-behind n [] k = every-none Kept
+kept-behind n (r ∷ rs) k = (k .0, kept-behind n rs (k .1))
 
-pub kept-back : (xs ys : List Rule) → Every Kept (xs ++ ys) → Every Kept ys
-unfolding Every
-kept-back [] ys k = k
-kept-back (x ∷ xs) ys k = kept-back xs ys (k .1)
-
-pub kept-both : (xs ys : List Rule) → Every Kept xs → Every Kept ys → Every Kept (xs ++ ys)
-unfolding Every
-kept-both [] ys h k = k
-kept-both (x ∷ xs) ys h k = (h .0, kept-both xs ys (h .1) k)
+pub kept-before : (n : ℕ) (rs : List Rule) → Every Kept (behind n rs) → Every Kept rs
+unfolding Every behind
+kept-before n [] k = every-none Kept
+kept-before n (r ∷ rs) k = (k .0, kept-before n rs (k .1))
 
 -- ---- one rule: its field is there, and what it asks holds
 

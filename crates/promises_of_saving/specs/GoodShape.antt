@@ -5,7 +5,7 @@ use lib.Dec.{ltb, leb}
 use Rattle.rules.specs.Numbers.{most-layers, longest-side}
 use Rattle.rules.specs.Shapes.{block-bytes, full-chain, good-shape}
 use Rattle.rules.specs.declared.Shape.{Shape}
-use Rattle.rules.specs.Saved.{between}
+use Rattle.rules.specs.Loaded.{between}
 use Rattle.rule_laws.specs.Fine.{both-left, both-right}
 
 pub record GoodSides (s : Shape) : Type 0 where

@@ -1,37 +1,44 @@
--- "I need the device at rest written into a lent buffer and read back elsewhere": what saving wrote, any device loads, and it is then the same
--- device. Assumes nothing.
+-- "I need the device at rest written into a lent buffer and read back elsewhere": what saving wrote in either form, any device loads, and it is
+-- then the same device, as maps of names and of tokens. Assumes nothing.
 use mathlib.Core.Path.{_≡_, refl, sym, ap, subst, _∙_}
 use mathlib.Core.Bool.{Bool, true, false, not, _||_}
-use mathlib.Core.List.{List, [], _∷_}
-use Prim.Native.Nat.{ℕ, zero, suc, _+_, _*_, _%_, _^_, _≤_}
-use native.Mathlib.Nat.{zero-add}
+use mathlib.Core.List.{List, [], _∷_, _++_}
+use Prim.Native.Nat.{ℕ, _+_}
 use native.Mathlib.Omega.{arith}
 use borrow.Author.Tests.{eqb-true, not-false}
 use lib.Dec.{eqb}
-use lib.ListN.{length, getD, take}
-use Rattle.rules.specs.Numbers.{most, done, device-magic, version, features}
+use lib.ListN.{length, take}
+use Rattle.rules.specs.Numbers.{done}
 use Rattle.rules.specs.Lists.{lookup}
 use Rattle.rules.specs.Lists.Found.{none}
-use Rattle.rules.specs.Layouts.{word, long}
-use Rattle.rules.specs.Packets.{handle-of}
-use Rattle.rules.specs.Registers.{bit, bit-of, status}
+use Rattle.rules.specs.Layouts.{word}
+use Rattle.rules.specs.Names.{token-of}
+use Rattle.rules.specs.Packets.{Belongings, handle-of}
+use Rattle.rules.specs.Registers.{bit-of}
 use Rattle.rules.specs.State.{Work, State, registers-of}
 use Rattle.rules.specs.State.Work.{resting, entries, packets, waiting}
 use Rattle.rules.specs.Calls.{at-rest}
 use Rattle.rules.specs.declared.LastError.{LastError}
 use Rattle.rules.specs.declared.Resource.{Resource}
-use Rattle.rules.specs.Saved.{section-1-count, count-place, head-bytes, good-code, rising, resources-fields, head-fields, saved-fields, saved, is-other-name, other-name-among, beyond-form-1, call-save, bad-place, loaded-registers, loaded-resources, loaded, Loaded, call-load}
+use Rattle.rules.specs.declared.Token.{Token}
+use Rattle.rules.specs.Saved.{resources-fields, is-other-name, other-name-among, beyond-form-1, count-place, head-bytes, firsts-of, others-of, tokens-of, names-fields, tokens-fields, shared-fields, saved, beyond, call-save}
+use Rattle.rules.specs.Loaded.{loaded-resources, Loaded, names-place, tokens-place, sections, bad-place, loaded-registers, loaded-names, loaded-tokens, section-2, section-3, section-4, loaded-belongings, loaded-sections, loaded, call-load}
+use Rattle.rules.specs.declared.Form.{Form}
+use Rattle.rules.specs.declared.Form.the-variants.{One, Two}
 use Rattle.rule_laws.specs.Created.{AsCreated}
 use Rattle.promises_of_packets.specs.Held.{Every, every-none}
 use Rattle.promises_of_packets.specs.Names.{true-not-false}
 use Rattle.promises_of_saving.specs.SameDevice.{SameDevice}
 use Rattle.promises_of_saving.specs.Refusals.{SaveDone, save-done-exactly, done-save-keeps-later-bytes, kept-is-good, load-of-good}
-use Rattle.promises_of_saving.specs.Rising.{none-below, rising-rises, found-rising, rising-few, rising-every}
-use Rattle.promises_of_saving.specs.FileWords.{length-file, word-of-file}
-use Rattle.promises_of_saving.specs.GoodFile.{GoodHead, GoodResources, GoodFile, file-kept}
+use Rattle.promises_of_saving.specs.GoodShared.{GoodNames, GoodTokens, GoodShared, tokens-at}
+use Rattle.promises_of_saving.specs.GoodFile.{GoodResources, GoodLater, GoodSections, GoodFile, file-kept}
 use Rattle.promises_of_saving.specs.LoadedResources.{OneName}
 use Rattle.promises_of_saving.specs.Savable.{FitsResource, Savable}
-use Rattle.promises_of_saving.specs.WrittenResources.{Reads, reads-later, word-back, long-back, length-fields, written-resources}
+use Rattle.promises_of_saving.specs.WrittenResources.{Reads, reads-first, reads-later, word-back, length-fields, written-resources}
+use Rattle.promises_of_saving.specs.WrittenShared.{length-names-fields, written-names, written-tokens}
+use Rattle.promises_of_saving.specs.SavedParts.{firsts-rise, others-rise, tokens-rise, few-names, few-tokens, every-first, every-other, tokens-fit, found-token, found-name, only-firsts, firsts-own, others-are, tokens-are}
+use Rattle.promises_of_saving.specs.SavedFile.{saved-sections, form-of-saved, sections-of-saved, length-sections}
+use Rattle.promises_of_saving.specs.WrittenHead.{flag-of-bit, bits-of-status, saved-detail, HeadRead, head-read, good-head-written, reads-resources}
 
 -- ---- what form 1 has a field for
 
@@ -72,23 +79,7 @@ rests (entries o kept) e = absurd (true-not-false (sym e))
 rests (packets j s at es h) e = absurd (true-not-false (sym e))
 rests (waiting j es h) e = absurd (true-not-false (sym e))
 
--- ---- bits
-
-flag-of-bit : (t : Bool) → eqb (bit t) 1 ≡ t
-flag-of-bit true = refl
-flag-of-bit false = refl
-
-bit-small : (t : Bool) → bit t ≤ 1
-bit-small true = omega arith
-bit-small false = omega arith
-
-bits-of-status : (f g : Bool) → (bit-of 0 (bit f + 2 * bit g) ≡ f) × (bit-of 1 (bit f + 2 * bit g) ≡ g)
-bits-of-status true true = (refl, refl)
-bits-of-status true false = (refl, refl)
-bits-of-status false true = (refl, refl)
-bits-of-status false false = (refl, refl)
-
--- ---- parts of a device
+-- ---- registers of equal numbers
 
 same-error : {c c′ f f′ n n′ d d′ : ℕ} → c ≡ c′ → f ≡ f′ → n ≡ n′ → d ≡ d′
     → _≡_ {A = LastError} (record { code = c; fence = f; count = n; detail = d }) (record { code = c′; fence = f′; count = n′; detail = d′ })
@@ -99,148 +90,176 @@ same-registers : {ring ring′ size size′ page page′ completed completed′ 
     → registers-of ring size on page completed fenced failed irq e rung ≡ registers-of ring′ size′ on′ page′ completed′ fenced′ failed′ irq′ e′ rung′
 same-registers a b c d e f g h i j = rw (a, b, c, d, e, f, g, h, i, j)
 
--- ---- the head
+-- ---- the sections
 
--- what is read of it
-pub record HeadRead (b : List ℕ) (s : State) : Type 0 where
-  pub section : word b 0 ≡ section-1-count
-  pub magic : word b 4 ≡ device-magic
-  pub its-version : word b 8 ≡ version
-  pub its-features : word b 12 ≡ features
-  pub more-features : word b 16 ≡ 0
-  pub ring : long b 20 ≡ s .regs .ring
-  pub ringsize : word b 28 ≡ s .regs .ringsize
-  pub control : word b 32 ≡ bit (s .regs .enabled)
-  pub page : long b 36 ≡ s .regs .fencepage
-  pub completed : long b 44 ≡ s .regs .completed
-  pub bits : word b 52 ≡ status (s .regs)
-  pub irqenable : word b 56 ≡ s .regs .irqenable
-  pub code : word b 60 ≡ s .regs .error .code
-  pub fence : long b 64 ≡ s .regs .error .fence
-  pub count : word b 72 ≡ s .regs .error .count
-  pub memory : long b 76 ≡ s .memory
-  pub flag : word b 84 ≡ bit (s .regs .doorbell)
-  pub number : word b 88 ≡ length (rising (s .belongings .resources))
+module _ (f : Form) (s : State) (v : Savable s) where
+  abbrev b : List ℕ
+  b = saved-sections f s
+
+  resources-back : GoodResources (length (firsts-of s)) b (head-bytes f) 0 × (loaded-resources (length (firsts-of s)) b (head-bytes f) ≡ firsts-of s)
+  resources-back =
+      written-resources (firsts-of s) (shared-fields f s) b (head-bytes f) 0 (firsts-rise s v) (every-first s v AsCreated (v .created)) (firsts-own s v)
+      (every-first s v FitsResource (v .fits .resources)) (omega (arith, length-sections f s)) (reads-resources f s v)
+
+  section-2-back : section-2 f b ≡ firsts-of s
+  section-2-back = ap (λ n. loaded-resources n b (head-bytes f)) (head-read f s v .number) ∙ resources-back .1
+
+  -- where what comes after them begins
+  abbrev next : ℕ
+  next = names-place f (length (firsts-of s))
+
+  reads-next : Reads b next (shared-fields f s)
+  reads-next = reads-later b (head-bytes f) next (resources-fields (firsts-of s)) (shared-fields f s) (omega (arith, length-fields (firsts-of s))) (reads-resources f s v)
+
+  at-next : names-place f (word b (count-place f)) ≡ next
+  at-next = ap (names-place f) (head-read f s v .number)
+
+-- other names and tokens, which form 2 has
+record SharedBack (rs : List Resource) (b : List ℕ) (at : ℕ) (s : State) : Type 0 where
+  good : GoodShared rs b at
+  names : section-3 rs b at ≡ others-of s
+  tokens : section-4 b at ≡ tokens-of s
 
 module _ (s : State) (v : Savable s) where
-  abbrev all : List Resource
-  all = rising (s .belongings .resources)
+  abbrev c : List ℕ
+  c = saved-sections Two s
 
-  length-all-fields : length (saved-fields s) ≡ 23 + 12 * length all
-  unfolding saved-fields head-fields
-  length-all-fields = omega (arith, length-fields all)
+  abbrev at : ℕ
+  at = next Two s v
 
-  length-saved : length (saved s) ≡ 92 + 48 * length all
-  unfolding saved
-  length-saved = omega (arith, length-file (saved-fields s), length-all-fields)
+  abbrev tokens-part : List ℕ
+  tokens-part = length (tokens-of s) ∷ tokens-fields (tokens-of s)
 
-  reads : (i : ℕ) → word (saved s) (4 * i) ≡ getD (saved-fields s) i 0 % 2 ^ 32
-  unfolding saved
-  reads i = word-of-file (saved-fields s) i
+  few-others : word c at ≡ length (others-of s)
+  few-others = word-back (word c at) (length (others-of s)) (reads-first c at (shared-fields Two s) (reads-next Two s v)) (omega (arith, few-names s v))
 
-  few-all : length all ≤ most
-  few-all = omega (arith, rising-few (s .belongings .resources), v .few)
+  reads-names : Reads c (at + 4) (names-fields (others-of s) ++ tokens-part)
+  reads-names = reads-later c at (at + 4) (length (others-of s) ∷ []) (names-fields (others-of s) ++ tokens-part) refl (reads-next Two s v)
 
-  -- no file is longer than one of 64 resources
-  pub longest-file : length (saved s) ≤ 3164
-  longest-file = omega (arith, length-saved, few-all)
+  reads-tokens : Reads c (tokens-place at (length (others-of s))) tokens-part
+  reads-tokens =
+      reads-later c (at + 4) (tokens-place at (length (others-of s))) (names-fields (others-of s)) tokens-part
+      (omega (arith, length-names-fields (others-of s))) reads-names
 
-  head-read : HeadRead (saved s) s
-  unfolding saved-fields head-fields
-  head-read =
+  tokens-here : tokens-at c at ≡ tokens-place at (length (others-of s))
+  tokens-here = ap (tokens-place at) few-others
+
+  many-tokens : word c (tokens-at c at) ≡ length (tokens-of s)
+  many-tokens =
+      word-back (word c (tokens-at c at)) (length (tokens-of s))
+      (ap (word c) tokens-here ∙ reads-first c (tokens-place at (length (others-of s))) tokens-part reads-tokens) (omega (arith, few-tokens s v))
+
+  names-back : GoodNames (length (others-of s)) (firsts-of s) c (at + 4) 0 × (loaded-names (length (others-of s)) (firsts-of s) c (at + 4) ≡ others-of s)
+  names-back =
+      written-names (others-of s) (firsts-of s) tokens-part c (at + 4) 0 (others-rise s v) (others-are s v) (every-other s v FitsResource (v .fits .resources))
+      (omega (arith, length-sections Two s)) reads-names
+
+  tokens-back : GoodTokens (length (tokens-of s)) (firsts-of s) c (tokens-place at (length (others-of s)) + 4) 0
+      × (loaded-tokens (length (tokens-of s)) c (tokens-place at (length (others-of s)) + 4) ≡ tokens-of s)
+  tokens-back =
+      written-tokens (tokens-of s) (firsts-of s) c (tokens-place at (length (others-of s)) + 4) 0 (tokens-rise s v) (tokens-are s v) (tokens-fit s v)
+      (omega (arith, length-sections Two s))
+      (reads-later c (tokens-place at (length (others-of s))) (tokens-place at (length (others-of s)) + 4) (length (tokens-of s) ∷ []) (tokens-fields (tokens-of s)) refl reads-tokens)
+
+  shared-back : SharedBack (firsts-of s) c at s
+  shared-back =
       record {
-        section = reads 0;
-        magic = reads 1;
-        its-version = reads 2;
-        its-features = reads 3;
-        more-features = reads 4;
-        ring = long-back (saved s) 20 24 (s .regs .ring) (near 20 (omega arith)) refl (reads 5) (reads 6) (v .fits .regs .ring);
-        ringsize = word-back (word (saved s) 28) (s .regs .ringsize) (reads 7) (v .fits .regs .ringsize);
-        control = word-back (word (saved s) 32) (bit (s .regs .enabled)) (reads 8) (omega (arith, bit-small (s .regs .enabled)));
-        page = long-back (saved s) 36 40 (s .regs .fencepage) (near 36 (omega arith)) refl (reads 9) (reads 10) (v .fits .regs .fencepage);
-        completed = long-back (saved s) 44 48 (s .regs .completed) (near 44 (omega arith)) refl (reads 11) (reads 12) (v .fits .regs .completed);
-        bits = word-back (word (saved s) 52) (status (s .regs)) (reads 13) (omega (arith, bit-small (s .regs .fenced), bit-small (s .regs .failed)));
-        irqenable = word-back (word (saved s) 56) (s .regs .irqenable) (reads 14) (v .fits .regs .irqenable);
-        code = word-back (word (saved s) 60) (s .regs .error .code) (reads 15) (v .fits .regs .error .code);
-        fence = long-back (saved s) 64 68 (s .regs .error .fence) (near 64 (omega arith)) refl (reads 16) (reads 17) (v .fits .regs .error .fence);
-        count = word-back (word (saved s) 72) (s .regs .error .count) (reads 18) (v .fits .regs .error .count);
-        memory = long-back (saved s) 76 80 (s .memory) (near 76 (omega arith)) refl (reads 19) (reads 20) (v .fits .memory);
-        flag = word-back (word (saved s) 84) (bit (s .regs .doorbell)) (reads 21) (omega (arith, bit-small (s .regs .doorbell)));
-        number = word-back (word (saved s) 88) (length all) (reads 22) (omega (arith, few-all));
-      }
-    where
-      near : (at : ℕ) → at ≤ 88 → at + 4 ≤ length (saved s)
-      near at h = omega (arith, length-saved)
-
-  good-head-written : GoodHead (saved s)
-  good-head-written =
-      let h : HeadRead (saved s) s = head-read in
-      record {
-        whole = omega (arith, length-saved);
-        section = h .section;
-        magic = h .magic;
-        its-version = h .its-version;
-        its-features = h .its-features;
-        more-features = h .more-features;
-        control = omega (arith, h .control, bit-small (s .regs .enabled));
-        status = omega (arith, h .bits, bit-small (s .regs .fenced), bit-small (s .regs .failed));
-        code = ap good-code (h .code) ∙ v .error .code;
-        count = rw (h .code, h .fence, h .count) (v .error .rest);
-        flag = omega (arith, h .flag, bit-small (s .regs .doorbell));
-        few = omega (arith, h .number, few-all);
+        good = record {
+          few-names = omega (arith, few-names s v, few-others);
+          names = subst (λ n. GoodNames n (firsts-of s) c (at + 4) 0) (sym few-others) (names-back .0);
+          few-tokens = omega (arith, few-tokens s v, many-tokens);
+          tokens = subst (λ n. GoodTokens n (firsts-of s) c (tokens-at c at + 4) 0) (sym many-tokens)
+              (subst (λ k. GoodTokens (length (tokens-of s)) (firsts-of s) c (k + 4) 0) (sym tokens-here) (tokens-back .0));
+          long-as = omega (arith, length-sections Two s, few-others, many-tokens);
+        };
+        names = ap (λ n. loaded-names n (firsts-of s) c (at + 4)) few-others ∙ names-back .1;
+        tokens = ap (λ n. loaded-tokens n c (tokens-at c at + 4)) many-tokens ∙ (ap (λ k. loaded-tokens (length (tokens-of s)) c (k + 4)) tokens-here ∙ tokens-back .1);
       }
 
-  reads-resources : Reads (saved s) head-bytes (resources-fields all)
-  unfolding saved-fields head-fields
-  reads-resources =
-      reads-later (saved s) 0 head-bytes (head-fields s) (resources-fields all) refl (λ i. ap (word (saved s)) (zero-add (4 * i)) ∙ reads i)
+-- what a file of the form says of the belongings
+abbrev pub said : Form → State → Belongings
+said One s = record { resources = firsts-of s; tokens = [] }
+said Two s = record { resources = firsts-of s ++ others-of s; tokens = tokens-of s }
 
-  -- ---- all of it, of a device that form 1 has a field for
+later-back : (f : Form) (s : State) (v : Savable s) → GoodLater f (saved-sections f s) (names-place f (word (saved-sections f s) (count-place f)))
+later-back One s v = omega (arith, length-sections One s, head-read One s v .number)
+later-back Two s v =
+    subst (GoodShared (section-2 Two (saved-sections Two s)) (saved-sections Two s)) (sym (at-next Two s v))
+    (subst (λ rs. GoodShared rs (saved-sections Two s) (next Two s v)) (sym (section-2-back Two s v)) (shared-back s v .good))
 
-  module _ (f : InForm1 s) where
-    resources-back : GoodResources (length all) (saved s) head-bytes 0 × (loaded-resources (length all) (saved s) head-bytes ≡ all)
-    resources-back =
-        let rs : List Resource = s .belongings .resources in
-        written-resources all (saved s) head-bytes 0 (rising-rises rs) (rising-every rs AsCreated (v .created)) (rising-every rs OneName (f .one-name))
-        (rising-every rs FitsResource (v .fits .resources)) (omega (arith, length-saved)) reads-resources
+pub said-back : (f : Form) (s : State) (v : Savable s)
+    → loaded-belongings f (section-2 f (saved-sections f s)) (saved-sections f s) (names-place f (word (saved-sections f s) (count-place f))) ≡ said f s
+said-back One s v = ap (λ (rs : List Resource). record { resources = rs; tokens = [] }) (section-2-back One s v)
+said-back Two s v =
+    let c : List ℕ = saved-sections Two s in
+    let h : SharedBack (firsts-of s) c (next Two s v) s = shared-back s v in
+    ap (λ k. loaded-belongings Two (section-2 Two c) c k) (at-next Two s v)
+    ∙ (ap (λ rs. loaded-belongings Two rs c (next Two s v)) (section-2-back Two s v) ∙ same-belongings (ap (λ rs. firsts-of s ++ rs) (h .names)) (h .tokens))
+  where
+    same-belongings : {rs rs′ : List Resource} {ts ts′ : List Token} → rs ≡ rs′ → ts ≡ ts′
+        → _≡_ {A = Belongings} (record { resources = rs; tokens = ts }) (record { resources = rs′; tokens = ts′ })
+    same-belongings p q = rw (p, q)
 
-    pub good-file-written : GoodFile (saved s)
-    good-file-written =
-        record {
-          head = good-head-written;
-          resources = subst (λ n. GoodResources n (saved s) head-bytes 0) (sym (head-read .number)) (resources-back .0);
-          long-as = omega (arith, length-saved, head-read .number);
-        }
+-- ---- what a form has a field for, is said
 
-    -- nothing is found by 0, and by any other handle what was found
-    found-back : (k : ℕ) → lookup handle-of k (loaded-resources (word (saved s) count-place) (saved s) head-bytes) ≡ lookup handle-of k (s .belongings .resources)
-    found-back k =
-        ap (λ n. lookup handle-of k (loaded-resources n (saved s) head-bytes)) (head-read .number)
-        ∙ (ap (lookup handle-of k) (resources-back .1) ∙ by-handle k)
-      where
-        by-handle : (k : ℕ) → lookup handle-of k all ≡ lookup handle-of k (s .belongings .resources)
-        by-handle zero = none-below 0 all (rising-rises (s .belongings .resources)) 0 (omega arith) ∙ sym (v .some)
-        by-handle (suc k) = found-rising (s .belongings .resources) (suc k) (omega arith)
+module _ (s : State) (v : Savable s) where
+  all-of-detail : (f : Form) → beyond f s ≡ false → saved-detail f s ≡ s .regs .error .detail
+  all-of-detail One e = sym (in-form-1 s e .detail)
+  all-of-detail Two e = refl
 
-    registers-back : loaded-registers (saved s) ≡ s .regs
-    registers-back =
-        let h : HeadRead (saved s) s = head-read in
-        let b = bits-of-status (s .regs .fenced) (s .regs .failed) in
-        same-registers (h .ring) (h .ringsize) (ap (λ n. eqb n 1) (h .control) ∙ flag-of-bit (s .regs .enabled)) (h .page) (h .completed)
-        (ap (bit-of 0) (h .bits) ∙ b .0) (ap (bit-of 1) (h .bits) ∙ b .1) (h .irqenable)
-        (same-error (h .code) (h .fence) (h .count) (sym (f .detail)))
-        (ap (λ n. eqb n 1) (h .flag) ∙ flag-of-bit (s .regs .doorbell))
+  all-of-resources : (f : Form) → beyond f s ≡ false → (k : ℕ) → lookup handle-of k (said f s .resources) ≡ lookup handle-of k (s .belongings .resources)
+  all-of-resources One e k = only-firsts s v (in-form-1 s e .one-name) k
+  all-of-resources Two e k = found-name s v k
 
-    pub same-back : at-rest (s .work) ≡ true → SameDevice (loaded (saved s)) s
-    unfolding loaded
-    same-back rest =
-        record {
-          memory = head-read .memory;
-          regs = registers-back;
-          resources = found-back;
-          tokens = sym (f .tokens);
-          work = sym (rests (s .work) rest);
-        }
+  all-of-tokens : (f : Form) → beyond f s ≡ false → (k : ℕ) → lookup token-of k (said f s .tokens) ≡ lookup token-of k (s .belongings .tokens)
+  all-of-tokens One e k = ap (lookup token-of k) (sym (in-form-1 s e .tokens))
+  all-of-tokens Two e k = found-token s v k
+
+module _ (f : Form) (s : State) (v : Savable s) where
+  good-sections-written : GoodSections f (saved-sections f s)
+  good-sections-written =
+      record {
+        head = good-head-written f s v;
+        resources = subst (λ n. GoodResources n (saved-sections f s) (head-bytes f) 0) (sym (head-read f s v .number)) (resources-back f s v .0);
+        later = later-back f s v;
+      }
+
+  -- what saving writes is a good file of its form
+  pub good-file-written : GoodFile (saved f s)
+  good-file-written =
+      subst (λ x. GoodSections x (sections (saved f s))) (sym (form-of-saved f s))
+      (subst (GoodSections f) (sym (sections-of-saved f s)) good-sections-written)
+
+  pub saved-is-good : bad-place (saved f s) ≡ none
+  saved-is-good = kept-is-good (saved f s) (file-kept (saved f s) good-file-written)
+
+  pub registers-back : beyond f s ≡ false → loaded-registers f (saved-sections f s) ≡ s .regs
+  registers-back form =
+      let h : HeadRead f (saved-sections f s) s = head-read f s v in
+      let b = bits-of-status (s .regs .fenced) (s .regs .failed) in
+      same-registers (h .ring) (h .ringsize) (ap (λ n. eqb n 1) (h .control) ∙ flag-of-bit (s .regs .enabled)) (h .page) (h .completed)
+      (ap (bit-of 0) (h .bits) ∙ b .0) (ap (bit-of 1) (h .bits) ∙ b .1) (h .irqenable)
+      (same-error (h .code) (h .fence) (h .count) (h .detail ∙ all-of-detail s v f form))
+      (ap (λ n. eqb n 1) (h .flag) ∙ flag-of-bit (s .regs .doorbell))
+
+  sections-same : beyond f s ≡ false → at-rest (s .work) ≡ true → SameDevice (loaded-sections f (saved-sections f s)) s
+  unfolding loaded-sections
+  sections-same form rest =
+      record {
+        memory = head-read f s v .memory;
+        regs = registers-back form;
+        resources = λ k. ap (λ (x : Belongings). lookup handle-of k (x .resources)) (said-back f s v) ∙ all-of-resources s v f form k;
+        tokens = λ k. ap (λ (x : Belongings). lookup token-of k (x .tokens)) (said-back f s v) ∙ all-of-tokens s v f form k;
+        work = sym (rests (s .work) rest);
+      }
+
+  pub loaded-of-saved : loaded (saved f s) ≡ loaded-sections f (saved-sections f s)
+  unfolding loaded
+  loaded-of-saved = ap (λ x. loaded-sections x (sections (saved f s))) (form-of-saved f s) ∙ ap (loaded-sections f) (sections-of-saved f s)
+
+  -- and says the device that was saved
+  pub same-back : beyond f s ≡ false → at-rest (s .work) ≡ true → SameDevice (loaded (saved f s)) s
+  same-back form rest = subst (λ (t : State). SameDevice t s) (sym loaded-of-saved) (sections-same form rest)
 
 -- ---- the theorem
 
@@ -251,12 +270,10 @@ pub record LoadedBack (s : State) (l : Loaded) : Type 0 where
   pub device : SameDevice (l .state) s
 
 -- what a save that was done wrote, any device loads, and is then the device that was saved
-pub load-of-save : (s : State) → Savable s → (buffer : List ℕ) → call-save s buffer .answer ≡ done
-    → (t : State) → LoadedBack s (call-load t (take (call-save s buffer .length) (call-save s buffer .buffer)))
-load-of-save s v buffer d t =
-    let y : SaveDone s buffer = save-done-exactly s buffer .0 d in
-    let f : InForm1 s = in-form-1 s (y .form) in
-    let good : bad-place (saved s) ≡ none = kept-is-good (saved s) (file-kept (saved s) (good-file-written s v f)) in
-    let is : call-load t (take (call-save s buffer .length) (call-save s buffer .buffer)) ≡ record { answer = done; place = 0; state = loaded (saved s) } =
-    ap (call-load t) (done-save-keeps-later-bytes s buffer d .file) ∙ load-of-good t (saved s) good in
-    subst (LoadedBack s) (sym is) (record { answer = refl; place = refl; device = same-back s v f (y .rest) })
+pub load-of-save : (f : Form) (s : State) → Savable s → (buffer : List ℕ) → call-save f s buffer .answer ≡ done
+    → (t : State) → LoadedBack s (call-load t (take (call-save f s buffer .length) (call-save f s buffer .buffer)))
+load-of-save f s v buffer d t =
+    let y : SaveDone f s buffer = save-done-exactly f s buffer .0 d in
+    let is : call-load t (take (call-save f s buffer .length) (call-save f s buffer .buffer)) ≡ record { answer = done; place = 0; state = loaded (saved f s) } =
+    ap (call-load t) (done-save-keeps-later-bytes f s buffer d .file) ∙ load-of-good t (saved f s) (saved-is-good f s v) in
+    subst (LoadedBack s) (sym is) (record { answer = refl; place = refl; device = same-back f s v (y .form) (y .rest) })

@@ -12,12 +12,13 @@ use lib.ListN.{length}
 use Rattle.machine.specs.Machine.{pick}
 use Rattle.rules.specs.Layouts.{word, long}
 use Rattle.rules.specs.Shapes.{good-shape, packed-size}
-use Rattle.rules.specs.Packets.{backed, resource-of}
+use Rattle.rules.specs.Packets.{handle-of, backed, resource-of}
 use Rattle.rules.specs.Registers.{low, high}
 use Rattle.rules.specs.declared.Kind.the-variants.{Buffer, Texture}
 use Rattle.rules.specs.declared.Resource.{Resource}
 use Rattle.rules.specs.Numbers.{buffer-kind, texture-kind}
-use Rattle.rules.specs.Saved.{resource-bytes, resource-fields, resources-fields, saved-shape, is-buffer, good-pitch, loaded-resource, loaded-resources}
+use Rattle.rules.specs.Saved.{resource-bytes, resource-fields, resources-fields}
+use Rattle.rules.specs.Loaded.{saved-shape, is-buffer, good-pitch, loaded-resource, loaded-resources}
 use Rattle.rule_laws.specs.Created.{AsCreated}
 use Rattle.promises_of_packets.specs.Held.{Every, every-none}
 use Rattle.promises_of_submissions.specs.LentBytes.{OfBytes, word-fits}
@@ -180,13 +181,13 @@ length-loaded zero b at = refl
 length-loaded (suc n) b at = ap suc (length-loaded n b (at + resource-bytes))
 
 -- "handles non-zero and rising"
-pub loaded-rises : (n : ℕ) (b : List ℕ) (at before : ℕ) → GoodResources n b at before → Rises before (loaded-resources n b at)
+pub loaded-rises : (n : ℕ) (b : List ℕ) (at before : ℕ) → GoodResources n b at before → Rises handle-of before (loaded-resources n b at)
 unfolding loaded-resources GoodResources Rises
 loaded-rises zero b at before g = omega arith
 loaded-rises (suc n) b at before g =
     let e : loaded-resource b at .handle ≡ word b at = its-handle b at before (g .0) in
     let l : before < word b at = ltb-true before (word b at) (g .0 .handle) in
-    (omega arith, subst (λ k. Rises k (loaded-resources n b (at + resource-bytes))) (sym e) (loaded-rises n b (at + resource-bytes) (word b at) (g .1)))
+    (omega arith, subst (λ k. Rises handle-of k (loaded-resources n b (at + resource-bytes))) (sym e) (loaded-rises n b (at + resource-bytes) (word b at) (g .1)))
 
 pub loaded-as-created : (n : ℕ) (b : List ℕ) (at before : ℕ) → GoodResources n b at before → Every AsCreated (loaded-resources n b at)
 unfolding loaded-resources GoodResources Every

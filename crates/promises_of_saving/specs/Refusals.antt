@@ -13,7 +13,9 @@ use Rattle.rules.specs.Lists.{Found, over}
 use Rattle.rules.specs.Lists.Found.{none, found}
 use Rattle.rules.specs.State.{State}
 use Rattle.rules.specs.Calls.{at-rest}
-use Rattle.rules.specs.Saved.{Rule, file-rules, first-broken, bad-place, Loaded, loaded, call-load, Saved, not-saved, saved, beyond-form-1, call-save}
+use Rattle.rules.specs.Saved.{Saved, not-saved, saved, beyond, call-save}
+use Rattle.rules.specs.Loaded.{Rule, first-broken, Loaded, file-rules, bad-place, loaded, call-load}
+use Rattle.rules.specs.declared.Form.{Form}
 use Rattle.words.specs.Over.{length-over, part-at, drop-after}
 use Rattle.promises_of_packets.specs.Held.{Every}
 use Rattle.promises_of_saving.specs.FirstBroken.{Kept, FirstBroken, first-is-found, found-is-first, all-kept-none, none-all-kept, broken-not-none}
@@ -112,97 +114,102 @@ refused-load-leaves-the-device s b e =
 pub load-is-the-files : (s t : State) (b : List ℕ) → call-load s b .answer ≡ done → call-load t b ≡ call-load s b
 load-is-the-files s t b e = load-of-good t b (good-by-answer s b e) ∙ sym (load-of-good s b (good-by-answer s b e))
 
+-- ---- what a call leaves that writes a file into a buffer
+
+-- "both leave it untouched", and so do 7 and 8: beside them stands length 0
+pub record NothingWritten (r : Saved) (buffer : List ℕ) : Type 0 where
+  pub no-length : r .length ≡ 0
+  pub untouched : r .buffer ≡ buffer
+
+-- "It gives the length and keeps later bytes": what is written stands before them
+pub record FileWritten (r : Saved) (b buffer : List ℕ) : Type 0 where
+  pub so-long : r .length ≡ length b
+  pub file : take (r .length) (r .buffer) ≡ b
+  pub later : drop (r .length) (r .buffer) ≡ drop (r .length) buffer
+  pub as-long : length (r .buffer) ≡ length buffer
+
+module _ (r : Saved) (buffer : List ℕ) where
+  pub nothing-written : (answer : ℕ) → r ≡ not-saved answer buffer → NothingWritten r buffer
+  nothing-written answer e = record { no-length = ap (λ (v : Saved). v .length) e; untouched = ap (λ (v : Saved). v .buffer) e }
+
+  pub file-written : (b : List ℕ) → length b ≤ length buffer → r ≡ record { answer = done; length = length b; buffer = over 0 b buffer } → FileWritten r b buffer
+  file-written b room e =
+      let fits : 0 + length b ≤ length buffer = omega arith in
+      record {
+        so-long = ap (λ (v : Saved). v .length) e;
+        file = ap (λ (v : Saved). take (v .length) (v .buffer)) e ∙ part-at 0 b buffer fits (length b) refl;
+        later = ap (λ (v : Saved). drop (v .length) (v .buffer)) e ∙ (drop-after 0 b buffer fits (length b) (omega arith) ∙ ap (λ (v : Saved). drop (v .length) buffer) (sym e));
+        as-long = ap (λ (v : Saved). length (v .buffer)) e ∙ length-over 0 b buffer fits;
+      }
+
 -- ---- saving
 
-module _ (s : State) (buffer : List ℕ) where
+module _ (f : Form) (s : State) (buffer : List ℕ) where
   abbrev rested : Bool
   rested = at-rest (s .work)
 
   abbrev short : Bool
-  short = ltb (length buffer) (length (saved s))
-
-  abbrev whole : Saved
-  whole = record { answer = done; length = length (saved s); buffer = over 0 (saved s) buffer }
+  short = ltb (length buffer) (length (saved f s))
 
   -- "Saving while a submission is in work answers 5"
-  pub save-in-work : at-rest (s .work) ≡ false → call-save s buffer ≡ not-saved in-work buffer
+  pub save-in-work : at-rest (s .work) ≡ false → call-save f s buffer ≡ not-saved in-work buffer
   unfolding call-save
   save-in-work e = rw e
 
   -- "8 (after 5, before 6)"
-  pub save-not-in-form : at-rest (s .work) ≡ true → beyond-form-1 s ≡ true → call-save s buffer ≡ not-saved not-in-form buffer
+  pub save-not-in-form : at-rest (s .work) ≡ true → beyond f s ≡ true → call-save f s buffer ≡ not-saved not-in-form buffer
   unfolding call-save
-  save-not-in-form e f = rw (e, f)
+  save-not-in-form e n = rw (e, n)
 
   -- "then a buffer too short answers 6"
-  pub save-too-short : at-rest (s .work) ≡ true → beyond-form-1 s ≡ false → length buffer < length (saved s) → call-save s buffer ≡ not-saved too-short buffer
+  pub save-too-short : at-rest (s .work) ≡ true → beyond f s ≡ false → length buffer < length (saved f s) → call-save f s buffer ≡ not-saved too-short buffer
   unfolding call-save
-  save-too-short e f h = rw (e, f, lt-ltb (length buffer) (length (saved s)) h)
+  save-too-short e n h = rw (e, n, lt-ltb (length buffer) (length (saved f s)) h)
 
   -- else it is saved
-  pub save-done : at-rest (s .work) ≡ true → beyond-form-1 s ≡ false → length (saved s) ≤ length buffer
-      → call-save s buffer ≡ record { answer = done; length = length (saved s); buffer = over 0 (saved s) buffer }
+  pub save-done : at-rest (s .work) ≡ true → beyond f s ≡ false → length (saved f s) ≤ length buffer
+      → call-save f s buffer ≡ record { answer = done; length = length (saved f s); buffer = over 0 (saved f s) buffer }
   unfolding call-save
-  save-done e f h = rw (e, f, le-ltb (length buffer) (length (saved s)) h)
+  save-done e n h = rw (e, n, le-ltb (length buffer) (length (saved f s)) h)
 
   -- what an answer 0 says
   pub record SaveDone : Type 0 where
     pub rest : at-rest (s .work) ≡ true
-    pub form : beyond-form-1 s ≡ false
-    pub room : length (saved s) ≤ length buffer
+    pub form : beyond f s ≡ false
+    pub room : length (saved f s) ≤ length buffer
 
-  -- "both leave it untouched", and so does 8: beside them stands length 0
-  pub record SaveRefused : Type 0 where
-    pub no-length : call-save s buffer .length ≡ 0
-    pub untouched : call-save s buffer .buffer ≡ buffer
-
-  not-done : (answer : ℕ) → (answer ≡ done → ⊥) → call-save s buffer ≡ not-saved answer buffer → (call-save s buffer .answer ≡ done → ⊥) × SaveRefused
+  not-done : (answer : ℕ) → (answer ≡ done → ⊥) → call-save f s buffer ≡ not-saved answer buffer → (call-save f s buffer .answer ≡ done → ⊥) × NothingWritten (call-save f s buffer) buffer
   not-done answer n e = (
     λ d. n (sym (ap (λ (v : Saved). v .answer) e) ∙ d),
-    record { no-length = ap (λ (v : Saved). v .length) e; untouched = ap (λ (v : Saved). v .buffer) e },
+    nothing-written (call-save f s buffer) buffer answer e,
   )
 
-  done-or-not : SaveDone ⊎ ((call-save s buffer .answer ≡ done → ⊥) × SaveRefused)
+  done-or-not : SaveDone ⊎ ((call-save f s buffer .answer ≡ done → ⊥) × NothingWritten (call-save f s buffer) buffer)
   done-or-not = by-rest rested refl
     where
-      by-room : (t : Bool) → short ≡ t → rested ≡ true → beyond-form-1 s ≡ false → SaveDone ⊎ ((call-save s buffer .answer ≡ done → ⊥) × SaveRefused)
-      by-room true h e f = inr (not-done too-short (λ u. omega arith) (save-too-short e f (ltb-true (length buffer) (length (saved s)) h)))
-      by-room false h e f = inl (record { rest = e; form = f; room = ltb-false (length buffer) (length (saved s)) h })
+      by-room : (t : Bool) → short ≡ t → rested ≡ true → beyond f s ≡ false → SaveDone ⊎ ((call-save f s buffer .answer ≡ done → ⊥) × NothingWritten (call-save f s buffer) buffer)
+      by-room true h e n = inr (not-done too-short (λ u. omega arith) (save-too-short e n (ltb-true (length buffer) (length (saved f s)) h)))
+      by-room false h e n = inl (record { rest = e; form = n; room = ltb-false (length buffer) (length (saved f s)) h })
 
-      by-form : (t : Bool) → beyond-form-1 s ≡ t → rested ≡ true → SaveDone ⊎ ((call-save s buffer .answer ≡ done → ⊥) × SaveRefused)
-      by-form true f e = inr (not-done not-in-form (λ u. omega arith) (save-not-in-form e f))
-      by-form false f e = by-room short refl e f
+      by-form : (t : Bool) → beyond f s ≡ t → rested ≡ true → SaveDone ⊎ ((call-save f s buffer .answer ≡ done → ⊥) × NothingWritten (call-save f s buffer) buffer)
+      by-form true n e = inr (not-done not-in-form (λ u. omega arith) (save-not-in-form e n))
+      by-form false n e = by-room short refl e n
 
-      by-rest : (t : Bool) → rested ≡ t → SaveDone ⊎ ((call-save s buffer .answer ≡ done → ⊥) × SaveRefused)
-      by-rest true e = by-form (beyond-form-1 s) refl e
+      by-rest : (t : Bool) → rested ≡ t → SaveDone ⊎ ((call-save f s buffer .answer ≡ done → ⊥) × NothingWritten (call-save f s buffer) buffer)
+      by-rest true e = by-form (beyond f s) refl e
       by-rest false e = inr (not-done in-work (λ u. omega arith) (save-in-work e))
 
-  pub save-done-exactly : (call-save s buffer .answer ≡ done → SaveDone) × (SaveDone → call-save s buffer .answer ≡ done)
+  pub save-done-exactly : (call-save f s buffer .answer ≡ done → SaveDone) × (SaveDone → call-save f s buffer .answer ≡ done)
   save-done-exactly = (
     λ d. ⊎-elim (λ y. y) (λ n. absurd (n .0 d)) done-or-not,
     λ y. ap (λ (v : Saved). v .answer) (save-done (y .rest) (y .form) (y .room)),
   )
 
-  pub refused-save-leaves-the-buffer : (call-save s buffer .answer ≡ done → ⊥) → SaveRefused
+  pub refused-save-leaves-the-buffer : (call-save f s buffer .answer ≡ done → ⊥) → NothingWritten (call-save f s buffer) buffer
   refused-save-leaves-the-buffer n =
       ⊎-elim (λ y. absurd (n (save-done-exactly .1 y))) (λ r. r .1) done-or-not
 
-  -- "It gives the length and keeps later bytes": what is written stands before them
-  pub record SaveWritten : Type 0 where
-    pub so-long : call-save s buffer .length ≡ length (saved s)
-    pub file : take (call-save s buffer .length) (call-save s buffer .buffer) ≡ saved s
-    pub later : drop (call-save s buffer .length) (call-save s buffer .buffer) ≡ drop (call-save s buffer .length) buffer
-    pub as-long : length (call-save s buffer .buffer) ≡ length buffer
-
-  pub done-save-keeps-later-bytes : call-save s buffer .answer ≡ done → SaveWritten
+  pub done-save-keeps-later-bytes : call-save f s buffer .answer ≡ done → FileWritten (call-save f s buffer) (saved f s) buffer
   done-save-keeps-later-bytes d =
       let y : SaveDone = save-done-exactly .0 d in
-      let e : call-save s buffer ≡ whole = save-done (y .rest) (y .form) (y .room) in
-      let fits : 0 + length (saved s) ≤ length buffer = omega (arith, y .room) in
-      record {
-        so-long = ap (λ (v : Saved). v .length) e;
-        file = ap (λ (v : Saved). take (v .length) (v .buffer)) e ∙ part-at 0 (saved s) buffer fits (length (saved s)) refl;
-        later = ap (λ (v : Saved). drop (v .length) (v .buffer)) e
-            ∙ (drop-after 0 (saved s) buffer fits (length (saved s)) (omega arith) ∙ ap (λ (v : Saved). drop (v .length) buffer) (sym e));
-        as-long = ap (λ (v : Saved). length (v .buffer)) e ∙ length-over 0 (saved s) buffer fits;
-      }
+      file-written (call-save f s buffer) buffer (saved f s) (y .room) (save-done (y .rest) (y .form) (y .room))

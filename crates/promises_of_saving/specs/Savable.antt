@@ -13,9 +13,11 @@ use Rattle.rules.specs.declared.Kind.the-variants.{Buffer, Texture}
 use Rattle.rules.specs.declared.LastError.{LastError}
 use Rattle.rules.specs.declared.Registers.{Registers}
 use Rattle.rules.specs.declared.Resource.{Resource}
+use Rattle.rules.specs.declared.Token.{Token}
 use Rattle.rule_laws.specs.Created.{AsCreated, SoundError}
 use Rattle.rows.specs.Keys.{Once}
 use Rattle.promises_of_packets.specs.Held.{Every}
+use Rattle.promises_of_packets.specs.SoundNames.{SoundNames, SoundTokens}
 
 -- ---- numbers fit their fields: a u32 or a u64
 
@@ -39,6 +41,10 @@ pub record FitsResource (r : Resource) : Type 0 where
   pub offset : r .offset < 2 ^ 32
   pub lowest : r .lowest < 2 ^ 32
 
+pub record FitsToken (t : Token) : Type 0 where
+  pub name : t .name < 2 ^ 32
+  pub token : t .token < 2 ^ 64
+
 pub record FitsError (e : LastError) : Type 0 where
   pub code : e .code < 2 ^ 32
   pub fence : e .fence < 2 ^ 64
@@ -57,6 +63,7 @@ pub record Fits (s : State) : Type 0 where
   pub memory : s .memory < 2 ^ 64
   pub regs : FitsRegisters (s .regs)
   pub resources : Every FitsResource (s .belongings .resources)
+  pub tokens : Every FitsToken (s .belongings .tokens)
 
 -- ---- and it is sound
 
@@ -66,4 +73,6 @@ pub record Savable (s : State) : Type 0 where
   pub some : lookup handle-of 0 (s .belongings .resources) ≡ none
   pub once : Once handle-of (s .belongings .resources)
   pub created : Every AsCreated (s .belongings .resources)
+  pub names : SoundNames (s .belongings .resources)
+  pub tokens : SoundTokens (s .belongings .resources) (s .belongings .tokens)
   pub fits : Fits s

@@ -1,7 +1,7 @@
 -- The resources that saving writes keep the rules of a file, and are read back as they were. Assumes nothing.
 use mathlib.Core.Path.{_≡_, refl, sym, ap, subst, _∙_}
 use mathlib.Core.Bool.{Bool, true, false, _||_}
-use mathlib.Core.List.{List, [], _∷_, _++_}
+use mathlib.Core.List.{List, [], _∷_, _++_, append-assoc}
 use Prim.Native.Nat.{ℕ, _+_, _*_, _%_, _^_, _≤_, _<_}
 use native.Mathlib.Nat.{add-zero}
 use native.Mathlib.Omega.{arith}
@@ -12,14 +12,15 @@ use lib.Seq.{getD-append-add}
 use Rattle.machine.specs.Machine.{pick}
 use Rattle.rules.specs.Layouts.{word, long}
 use Rattle.rules.specs.Shapes.{packed-size, tight}
-use Rattle.rules.specs.Packets.{backed}
+use Rattle.rules.specs.Packets.{backed, handle-of}
 use Rattle.rules.specs.Registers.{low, high}
 use Rattle.rules.specs.declared.Shape.{Shape}
 use Rattle.rules.specs.declared.Kind.{Kind}
 use Rattle.rules.specs.declared.Kind.the-variants.{Buffer, Texture}
 use Rattle.rules.specs.declared.Resource.{Resource}
 use Rattle.rules.specs.Numbers.{buffer-kind, texture-kind}
-use Rattle.rules.specs.Saved.{kind-fields, resource-fields, resources-fields, saved-shape, is-buffer, good-pitch, loaded-resource, loaded-resources}
+use Rattle.rules.specs.Saved.{kind-fields, resource-fields, resources-fields}
+use Rattle.rules.specs.Loaded.{saved-shape, is-buffer, good-pitch, loaded-resource, loaded-resources}
 use Rattle.rule_laws.specs.Created.{AsCreated}
 use Rattle.promises_of_packets.specs.Held.{Every}
 use Rattle.promises_of_saving.specs.Rising.{Rises}
@@ -187,12 +188,16 @@ unfolding resources-fields
 length-fields [] = refl
 length-fields (r ∷ rs) = length-append (resource-fields r) (resources-fields rs) ∙ omega (arith, twelve-fields r, length-fields rs)
 
-pub written-resources : (rs : List Resource) (b : List ℕ) (at before : ℕ) → Rises before rs → Every AsCreated rs → Every OneName rs → Every FitsResource rs
-    → at + 48 * length rs ≤ length b → Reads b at (resources-fields rs) → GoodResources (length rs) b at before × (loaded-resources (length rs) b at ≡ rs)
+-- so many resources, and what stands behind them
+pub written-resources : (rs : List Resource) (rest : List ℕ) (b : List ℕ) (at before : ℕ) → Rises handle-of before rs → Every AsCreated rs → Every OneName rs
+    → Every FitsResource rs → at + 48 * length rs ≤ length b → Reads b at (resources-fields rs ++ rest)
+    → GoodResources (length rs) b at before × (loaded-resources (length rs) b at ≡ rs)
 unfolding resources-fields loaded-resources GoodResources Every Rises
-written-resources [] b at before rise created own fits room reads = (omega arith, refl)
-written-resources (r ∷ rs) b at before rise created own fits room reads =
-    let one : ReadBack b at before r = read-back b at before (omega arith) r (resources-fields rs) (rise .0) (created .0) (own .0) (fits .0) reads in
-    let later = written-resources rs b (at + 48) (r .handle) (rise .1) (created .1) (own .1) (fits .1) (omega arith)
-    (reads-later b at (at + 48) (resource-fields r) (resources-fields rs) (omega (arith, twelve-fields r)) reads) in
+written-resources [] rest b at before rise created own fits room reads = (omega arith, refl)
+written-resources (r ∷ rs) rest b at before rise created own fits room reads =
+    let all : Reads b at (resource-fields r ++ (resources-fields rs ++ rest)) =
+    subst (Reads b at) (append-assoc (resource-fields r) (resources-fields rs) rest) reads in
+    let one : ReadBack b at before r = read-back b at before (omega arith) r (resources-fields rs ++ rest) (rise .0) (created .0) (own .0) (fits .0) all in
+    let later = written-resources rs rest b (at + 48) (r .handle) (rise .1) (created .1) (own .1) (fits .1) (omega arith)
+    (reads-later b at (at + 48) (resource-fields r) (resources-fields rs ++ rest) (omega (arith, twelve-fields r)) all) in
     ((one .good, subst (GoodResources (length rs) b (at + 48)) (sym (one .first)) (later .0)), rw (one .same, later .1))

@@ -27,7 +27,7 @@ use Rattle.rules.specs.declared.Opened.{Opened}
 use Rattle.rules.specs.declared.Resource.{Resource}
 use Rattle.rules.specs.declared.Stream.{Stream}
 use Rattle.rules.specs.declared.Token.{Token}
-use Rattle.rules.specs.Saved.{loaded}
+use Rattle.rules.specs.Loaded.{loaded-sections, loaded}
 use Rattle.promises_of_packets.specs.SoundNames.{two-names-shareable, sound-bound}
 use Rattle.promises_of_packets.specs.Held.{SoundProgress}
 use Rattle.promises_of_units.specs.Called.{Call, after, Called, is-reset}
@@ -152,9 +152,9 @@ forgotten (answers good n) w y s = absurd (let z : _≡_ {A = ℕ} 0 1 = cc in o
 
 -- what is in work has tokens that go on from the device's
 called-work-goes-on : (s : State) → Called s → Onward (s .belongings .tokens) s
-unfolding loaded
+unfolding loaded loaded-sections
 called-work-goes-on s (makes memory) = record { sound = called-sound s (makes memory); tokens = go-on-same []; work = omega arith }
-called-work-goes-on s (loads b good) = record { sound = called-sound s (loads b good); tokens = go-on-same []; work = omega arith }
+called-work-goes-on s (loads b good) = record { sound = called-sound s (loads b good); tokens = go-on-same (loaded b .belongings .tokens); work = omega arith }
 called-work-goes-on s (calls {s = t} c m k) = by-reset c (is-reset c) refl (called-work-goes-on t k)
   where
     again : (x : State) → Onward (t .belongings .tokens) x → Onward (x .belongings .tokens) x

@@ -9,7 +9,7 @@ use Rattle.rules.specs.Numbers.{done}
 use Rattle.rules.specs.State.{State, World, made, with-state}
 use Rattle.rules.specs.Calls.{call-write, call-run, call-answer}
 use Rattle.rules.specs.Lists.Found.{none}
-use Rattle.rules.specs.Saved.{bad-place, loaded}
+use Rattle.rules.specs.Loaded.{bad-place, loaded}
 use Rattle.promises_of_units.specs.Writes.{resets}
 
 -- the five calls: write and read a register, run for an allowance, ask for a record, answer and run for an allowance

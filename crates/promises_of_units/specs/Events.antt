@@ -20,7 +20,7 @@ use Rattle.rules.specs.Calls.{lent-another, wrote, call-write, Ran, call-run, c
 use Rattle.rules.specs.declared.Entry.{Entry}
 use Rattle.rules.specs.declared.Job.{Job}
 use Rattle.rules.specs.declared.Registers.{Registers}
-use Rattle.rules.specs.Saved.{bad-place, loaded}
+use Rattle.rules.specs.Loaded.{bad-place, loaded}
 use Rattle.promises_of_units.specs.Writes.{resets, Written, write-keeps-or-drops}
 use Rattle.promises_of_units.specs.Writes.Written.{keeps, drops}
 use Rattle.promises_of_units.specs.Runs.{of-run, of-answer, taken-and-run}

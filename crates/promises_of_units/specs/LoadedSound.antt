@@ -4,7 +4,7 @@ use mathlib.Core.List.{List}
 use Prim.Native.Nat.{ℕ}
 use native.Mathlib.Omega.{arith}
 use Rattle.rules.specs.Lists.Found.{none}
-use Rattle.rules.specs.Saved.{bad-place, loaded}
+use Rattle.rules.specs.Loaded.{bad-place, loaded}
 use Rattle.promises_of_saving.specs.LoadedIsSound.{SoundAtRest, loaded-is-sound}
 use Rattle.promises_of_units.specs.Sound.{SoundWork, SoundState}
 

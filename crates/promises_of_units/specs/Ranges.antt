@@ -22,7 +22,7 @@ use Rattle.rules.specs.Calls.{handed-out, record-read, call-record}
 use Rattle.rules.specs.declared.Entry.{Entry}
 use Rattle.rules.specs.declared.Record.{Record}
 use Rattle.rules.specs.declared.Job.{Job}
-use Rattle.rules.specs.Saved.{loaded}
+use Rattle.rules.specs.Loaded.{loaded-sections, loaded}
 use Rattle.rows.specs.Keys.{Once}
 use Rattle.promises_of_packets.specs.Held.{Every, Within, Inside, OfAKind}
 use Rattle.promises_of_units.specs.Sound.{SoundState, made-sound, waiting-ranges-inside, waiting-kinds}
@@ -58,7 +58,7 @@ called-sound s (loads b good) = loaded-sound b good
 called-sound s (calls {s = t} c m k) = call-keeps-sound c (record { state = t; mem = m }) (called-sound t k)
 
 pub called-lies : (s : State) → Called s → Lies s
-unfolding loaded
+unfolding loaded loaded-sections
 called-lies s (makes memory) = made-lies memory
 called-lies s (loads b good) = omega arith
 called-lies s (calls {s = t} c m k) = call-lies c (record { state = t; mem = m }) (called-lies t k)

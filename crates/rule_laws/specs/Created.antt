@@ -8,7 +8,7 @@ use Rattle.rules.specs.declared.Kind.{Kind}
 use Rattle.rules.specs.declared.Kind.the-variants.{Buffer, Texture}
 use Rattle.rules.specs.declared.LastError.{LastError}
 use Rattle.rules.specs.declared.Resource.{Resource}
-use Rattle.rules.specs.Saved.{good-code, good-error, good-pitch}
+use Rattle.rules.specs.Loaded.{good-code, good-error, good-pitch}
 
 -- ---- a resource as create leaves it
 

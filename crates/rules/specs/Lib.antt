@@ -19,3 +19,4 @@ pub mod Steps
 pub mod Unsliced
 pub mod Calls
 pub mod Saved
+pub mod Loaded

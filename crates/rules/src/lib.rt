@@ -307,7 +307,13 @@ pub enum Ended {
     Paused,
 }
 
-// ---- Saved desks (02, wish 1)
+// ---- Saved desks (02, wishes 1 and 11)
+
+// A form of a saved desk, by its number.
+pub enum Form {
+    One,
+    Two,
+}
 
 // What is found of a file: it is good, or the first rule that it breaks is reported at this offset.
 pub enum FileCheck {

@@ -1,2 +1,4 @@
 pub mod Whole
+pub mod Near
+pub mod File
 pub mod Good

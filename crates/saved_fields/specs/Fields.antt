@@ -9,10 +9,10 @@ use borrow.Author.Tests.{lt-ltb, le-ltb}
 use lib.Dec.{eqb, leb}
 use lib.ListN.{length}
 use Rattle.rules.specs.Layouts.{word}
-use Rattle.rules.specs.Saved.{must}
+use Rattle.rules.specs.Loaded.{must}
 use Rattle.rules.specs.declared.FileCheck.{FileCheck}
 use Rattle.rules.specs.declared.FileCheck.the-variants.{Good, BadAt}
-use Rattle.saved_fields.specs.Judging.{rule, judge-rule, seen, same-rule, seen-there}
+use Rattle.saved_fields.specs.Judging.{rule, ends, judge-rule, seen, same-rule, seen-there}
 
 -- ---- field_at
 
@@ -55,3 +55,14 @@ module _ (b : List ℕ) (c r : FileCheck) (at n v : ℕ) (is : v ≡ seen b at) 
   asks-at-most = asks (λ k. leb k n)
 
 pub ruleset asking-field = (asks-equal, asks-at-most, needs)
+
+-- ---- must_end
+
+module _ (c : FileCheck) (bytes end place : ℕ) (good : c ≡ Good) (here : place ≡ end) where
+  pub follows : place < bytes → BadAt end ≡ judge-rule c (ends bytes end)
+  follows h = rw (good, lt-ltb end bytes (omega arith))
+
+  pub nothing-follows : bytes ≤ place → Good ≡ judge-rule c (ends bytes end)
+  nothing-follows h = rw (good, le-ltb end bytes (omega arith))
+
+pub ruleset ending = (follows, nothing-follows, needs)

@@ -12,7 +12,7 @@ use Rattle.rules.specs.Lists.{Found}
 use Rattle.rules.specs.Lists.Found.{none, found}
 use Rattle.rules.specs.Layouts.{word, long}
 use Rattle.words.specs.Fields.{le-add}
-use Rattle.rules.specs.Saved.{Rule, missing, first-broken}
+use Rattle.rules.specs.Loaded.{Rule, missing, first-broken}
 use Rattle.rules.specs.declared.FileCheck.{FileCheck}
 use Rattle.rules.specs.declared.FileCheck.the-variants.{Good, BadAt}
 
@@ -34,6 +34,10 @@ judge-rules c (r ∷ rs) = judge-rules (judge-rule c r) rs
 -- the rule of a field, in a file of so many bytes
 abbrev pub rule : ℕ → ℕ → Bool → Rule
 rule bytes at kept = record { place = at; broken = ltb bytes (at + 4) || not kept }
+
+-- "or a byte follows the last", in a file of so many bytes
+abbrev pub ends : ℕ → ℕ → Rule
+ends bytes end = record { place = end; broken = ltb end bytes }
 
 -- a field as it is read: 0 where it is not all there
 abbrev pub seen : List ℕ → ℕ → ℕ
@@ -59,11 +63,6 @@ pub judged-append : (c : FileCheck) (xs ys : List Rule) → judge-rules c (xs ++
 unfolding judge-rules
 judged-append c [] ys = refl
 judged-append c (x ∷ xs) ys = judged-append (judge-rule c x) xs ys
-
--- what comes after a rule that is broken says nothing
-pub after-broken : (c : FileCheck) (r : Rule) (rs : List Rule) → r .broken ≡ true → judge-rules (judge-rule c r) rs ≡ judge-rule c r
-after-broken Good r rs h = rw h (once-bad (r .place) rs)
-after-broken (BadAt place) r rs h = once-bad place rs
 
 -- of a field that is not there nothing else is asked
 pub same-rule : (bytes at : ℕ) (kept kept′ : Bool) → (at + 4 ≤ bytes → kept ≡ kept′) → rule bytes at kept ≡ rule bytes at kept′

@@ -1,2 +1,5 @@
 pub mod Judging
 pub mod Fields
+pub mod Kept
+pub mod Items
+pub mod Good

@@ -5,8 +5,8 @@ use words::u32_at;
 ghost use mathlib.Core.Path.{_≡_};
 ghost use lib.Dec.{eqb, leb};
 ghost use Rattle.rules.specs.Layouts.{word};
-ghost use Rattle.rules.specs.Saved.{must as must-hold, any};
-ghost use Rattle.saved_fields.specs.Judging.{rule, judge-rule, seen};
+ghost use Rattle.rules.specs.Loaded.{must as must-hold, any};
+ghost use Rattle.saved_fields.specs.Judging.{rule, ends, judge-rule, seen};
 
 // The bytes of a field.
 const FIELD: usize = 4;
@@ -61,4 +61,19 @@ pub fn must_be_at_most(sofar: FileCheck, file: &[u8], at: u32, n: u32) -> FileCh
 {
     let v = field_at(file, at);
     must(sofar, file.len(), at, v <= n)
+}
+
+// No byte may follow the last field.
+pub fn must_end(sofar: FileCheck, bytes: usize, end: u32) -> FileCheck
+    ensures { λ r. ⌜ r ≡ judge-rule sofar (ends bytes end) ⌝ }
+{
+    match sofar {
+        FileCheck::Good => {
+            if u32_to_usize(end) < bytes {
+                return FileCheck::BadAt(end);
+            }
+            FileCheck::Good
+        }
+        _ => sofar,
+    }
 }

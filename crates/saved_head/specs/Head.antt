@@ -1,8 +1,8 @@
--- The rules of a saved desk's head in four parts, and what the code of each asks. Assumes nothing.
-use mathlib.Core.Path.{_≡_}
-use mathlib.Core.Bool.{Bool, true, false, not, _&&_}
+-- The rules of a saved desk's head in five parts, and what the code of each asks. Assumes nothing.
+use mathlib.Core.Path.{_≡_, ap, _∙_}
+use mathlib.Core.Bool.{Bool, true, false, not, _&&_, _||_}
 use mathlib.Core.List.{List, [], _∷_}
-use Prim.Native.Nat.{ℕ, _≤_, _<_}
+use Prim.Native.Nat.{ℕ, _+_, _*_, _≤_, _<_}
 use native.Mathlib.Omega.{arith}
 use borrow.Author.Needs.{needs}
 use borrow.Author.Tests.{eq-eqb, ne-eqb, le-leb, lt-leb}
@@ -11,16 +11,19 @@ use lib.ListN.{length}
 use Rattle.machine.specs.Machine.{pick}
 use Rattle.rules.specs.Numbers.{device-magic, version, features, most, bad-ring}
 use Rattle.rules.specs.Layouts.{word, long}
-use Rattle.rules.specs.Saved.{Rule, must, any, section-1-count, good-code, good-error, head-rules}
+use Rattle.rules.specs.Saved.{more-registers}
+use Rattle.rules.specs.Loaded.{Rule, must, any, good-code, good-error, detail-rules, head-rules}
 use Rattle.rules.specs.declared.FileCheck.{FileCheck}
 use Rattle.rules.specs.declared.FileCheck.the-variants.{Good}
 use Rattle.saved_fields.specs.Judging.{judge-rule, judge-rules, rule, seen, same-rule, seen-there, zero-by-halves}
+use Rattle.rules.specs.declared.Form.{Form}
+use Rattle.rules.specs.declared.Form.the-variants.{One, Two}
 
--- ---- the head in four parts
+-- ---- the head in five parts; the fourth is `detail-rules`
 
-abbrev pub fixed-rules : List ℕ → List Rule
-fixed-rules b =
-    must b 0 (eqb (word b 0) section-1-count)
+abbrev pub fixed-rules : ℕ → List ℕ → List Rule
+fixed-rules count b =
+    must b 0 (eqb (word b 0) count)
     ∷ must b 4 (eqb (word b 4) device-magic)
     ∷ must b 8 (eqb (word b 8) version)
     ∷ must b 12 (eqb (word b 12) features)
@@ -41,8 +44,8 @@ status-rules b =
     ∷ must b 72 (good-error (word b 60) (long b 64) (word b 72))
     ∷ []
 
-abbrev pub memory-rules : List ℕ → List Rule
-memory-rules b = any b 76 ∷ any b 80 ∷ must b 84 (leb (word b 84) 1) ∷ must b 88 (leb (word b 88) most) ∷ []
+abbrev pub memory-rules : List ℕ → ℕ → List Rule
+memory-rules b at = any b at ∷ any b (at + 4) ∷ must b (at + 8) (leb (word b (at + 8)) 1) ∷ must b (at + 12) (leb (word b (at + 12)) most) ∷ []
 
 -- ---- good_code
 
@@ -83,14 +86,14 @@ module _ (code low high count : ℕ) where
 
 pub ruleset tying = (some-error, low-fence, high-fence, no-fence, needs)
 
--- ---- the four parts, and the head
+-- ---- the five parts, and the head
 
 module _ (b : List ℕ) where
-  pub judges-fixed : (c₁ c₂ c₃ c₄ c₅ : FileCheck) → c₁ ≡ judge-rule Good (must b 0 (eqb (word b 0) 21)) → c₂ ≡ judge-rule c₁ (must b 4 (eqb (word b 4) device-magic))
+  pub judges-fixed : (n : ℕ) (c₁ c₂ c₃ c₄ c₅ : FileCheck) → c₁ ≡ judge-rule Good (must b 0 (eqb (word b 0) n)) → c₂ ≡ judge-rule c₁ (must b 4 (eqb (word b 4) device-magic))
       → c₃ ≡ judge-rule c₂ (must b 8 (eqb (word b 8) version)) → c₄ ≡ judge-rule c₃ (must b 12 (eqb (word b 12) features))
-      → c₅ ≡ judge-rule c₄ (must b 16 (eqb (word b 16) 0)) → c₅ ≡ judge-rules Good (fixed-rules b)
+      → c₅ ≡ judge-rule c₄ (must b 16 (eqb (word b 16) 0)) → c₅ ≡ judge-rules Good (fixed-rules n b)
   unfolding judge-rules
-  judges-fixed c₁ c₂ c₃ c₄ c₅ e₁ e₂ e₃ e₄ e₅ = rw (e₅, e₄, e₃, e₂, e₁)
+  judges-fixed n c₁ c₂ c₃ c₄ c₅ e₁ e₂ e₃ e₄ e₅ = rw (e₅, e₄, e₃, e₂, e₁)
 
   pub judges-ring : (c₀ c₁ c₂ c₃ c₄ c₅ c₆ c₇ c₈ : FileCheck) → c₁ ≡ judge-rule c₀ (any b 20) → c₂ ≡ judge-rule c₁ (any b 24)
       → c₃ ≡ judge-rule c₂ (any b 28) → c₄ ≡ judge-rule c₃ (must b 32 (leb (word b 32) 1))
@@ -115,15 +118,37 @@ module _ (b : List ℕ) where
     unfolding judge-rules
     judges-status good tied c₀ c₁ c₂ c₃ c₄ c₅ c₆ e₁ e₂ g e₃ e₄ e₅ t e₆ = rw (e₆, e₅, e₄, e₃, e₂, e₁, g, t, code-rule, error-rule)
 
-  pub judges-memory : (c₀ c₁ c₂ c₃ c₄ : FileCheck) → c₁ ≡ judge-rule c₀ (any b 76) → c₂ ≡ judge-rule c₁ (any b 80)
-      → c₃ ≡ judge-rule c₂ (must b 84 (leb (word b 84) 1)) → c₄ ≡ judge-rule c₃ (must b 88 (leb (word b 88) 64))
-      → c₄ ≡ judge-rules c₀ (memory-rules b)
-  unfolding judge-rules
-  judges-memory c₀ c₁ c₂ c₃ c₄ e₁ e₂ e₃ e₄ = rw (e₄, e₃, e₂, e₁)
+  module _ (f : Form) (c r : FileCheck) where
+    pub no-detail : f ≡ One → c ≡ judge-rules c (detail-rules f b)
+    unfolding judge-rules
+    no-detail e = rw e
 
-  pub judges-head : (c₁ c₂ c₃ c₄ : FileCheck) → c₁ ≡ judge-rules Good (fixed-rules b) → c₂ ≡ judge-rules c₁ (ring-rules b)
-      → c₃ ≡ judge-rules c₂ (status-rules b) → c₄ ≡ judge-rules c₃ (memory-rules b) → c₄ ≡ judge-rules Good (head-rules b)
-  unfolding judge-rules
-  judges-head c₁ c₂ c₃ c₄ e₁ e₂ e₃ e₄ = rw (e₄, e₃, e₂, e₁)
+    module _ (two : f ≡ Two) (code : ℕ) (is : code ≡ seen b 60) where
+      pub no-code-detail : code ≡ 0 → r ≡ judge-rule c (must b 76 (eqb (word b 76) 0)) → r ≡ judge-rules c (detail-rules f b)
+      unfolding judge-rules
+      no-code-detail z e =
+          rw two (e ∙ ap (judge-rule c) (same-rule (length b) 76 (eqb (word b 76) 0) (not (eqb (word b 60) 0) || eqb (word b 76) 0) (λ h.
+          let zero : word b 60 ≡ 0 = rw (← seen-there b 60 (omega arith), ← is) z in
+          rw (eq-eqb (word b 60) 0 zero))))
 
-pub ruleset judging-head = (judges-fixed, judges-ring, judges-status, judges-memory, judges-head, needs)
+      pub some-code-detail : (code ≡ 0 → ⊥) → r ≡ judge-rule c (any b 76) → r ≡ judge-rules c (detail-rules f b)
+      unfolding judge-rules
+      some-code-detail n e =
+          rw two (e ∙ ap (judge-rule c) (same-rule (length b) 76 true (not (eqb (word b 60) 0) || eqb (word b 76) 0) (λ h.
+          let some : eqb (word b 60) 0 ≡ false = ne-eqb (word b 60) 0 (λ z. n (is ∙ (seen-there b 60 (omega arith) ∙ z))) in
+          rw some)))
+
+  pub judges-memory : (at : ℕ) (c₀ c₁ c₂ c₃ c₄ : FileCheck) → c₁ ≡ judge-rule c₀ (any b at) → c₂ ≡ judge-rule c₁ (any b (at + 4))
+      → c₃ ≡ judge-rule c₂ (must b (at + 8) (leb (word b (at + 8)) 1)) → c₄ ≡ judge-rule c₃ (must b (at + 12) (leb (word b (at + 12)) 64))
+      → c₄ ≡ judge-rules c₀ (memory-rules b at)
+  unfolding judge-rules
+  judges-memory at c₀ c₁ c₂ c₃ c₄ e₁ e₂ e₃ e₄ = rw (e₄, e₃, e₂, e₁)
+
+  pub judges-head : (f : Form) (m : ℕ) (c₁ c₂ c₃ c₄ c₅ : FileCheck) → m ≡ more-registers f → c₁ ≡ judge-rules Good (fixed-rules (21 + m) b)
+      → c₂ ≡ judge-rules c₁ (ring-rules b) → c₃ ≡ judge-rules c₂ (status-rules b) → c₄ ≡ judge-rules c₃ (detail-rules f b)
+      → c₅ ≡ judge-rules c₄ (memory-rules b (76 + 4 * m)) → c₅ ≡ judge-rules Good (head-rules f b)
+  unfolding judge-rules
+  judges-head One m c₁ c₂ c₃ c₄ c₅ n e₁ e₂ e₃ e₄ e₅ = rw (e₅, e₄, e₃, e₂, e₁, n)
+  judges-head Two m c₁ c₂ c₃ c₄ c₅ n e₁ e₂ e₃ e₄ e₅ = rw (e₅, e₄, e₃, e₂, e₁, n)
+
+pub ruleset judging-head = (judges-fixed, judges-ring, judges-status, no-detail, no-code-detail, some-code-detail, judges-memory, judges-head, needs)

@@ -19,7 +19,7 @@ use Rattle.rules.specs.declared.Resource.{Resource}
 use Rattle.rows.specs.Rows.{table-zero}
 use Rattle.kept_resources.specs.Views.{resourceOf, resourcesOf}
 use Rattle.rules.specs.Numbers.{buffer-kind}
-use Rattle.rules.specs.Saved.{loaded-resource, loaded-resources}
+use Rattle.rules.specs.Loaded.{loaded-resource, loaded-resources}
 use Rattle.saved_fields.specs.Judging.{seen, seen-there}
 use Rattle.saved_resources.specs.Rules.{seen-resource}
 use Rattle.saved_resources.specs.declared.SavedResource.{SavedResource}
@@ -85,16 +85,16 @@ one-more (suc n) b at =
     let far : at + 48 * suc n ≡ at + 48 + 48 * n = omega arith in
     rw (suc-add, far) (ap (λ rs. loaded-resource b at ∷ rs) (one-more n b (at + 48)))
 
-module _ (b : List ℕ) where
-  pub rows-start : (l : List ℕ) → resourcesOf 0 l ≡ loaded-resources 0 b 92
+module _ (b : List ℕ) (start : ℕ) where
+  pub rows-start : (l : List ℕ) → resourcesOf 0 l ≡ loaded-resources 0 b start
   unfolding loaded-resources
   rows-start l = table-zero resourceOf 12 l
 
-  pub rows-turn : (n at : ℕ) (l l′ : List ℕ) (r : Resource) → at ≡ 92 + 48 * n → resourcesOf n l ≡ loaded-resources n b 92 → r ≡ loaded-resource b at
-      → resourcesOf (n + 1) l′ ≡ pushed (resourcesOf n l) r → resourcesOf (n + 1) l′ ≡ loaded-resources (n + 1) b 92
-  rows-turn n at l l′ r here inv e f = f ∙ rw (inv, e, here) (sym (one-more n b 92))
+  pub rows-turn : (n at : ℕ) (l l′ : List ℕ) (r : Resource) → at ≡ start + 48 * n → resourcesOf n l ≡ loaded-resources n b start → r ≡ loaded-resource b at
+      → resourcesOf (n + 1) l′ ≡ pushed (resourcesOf n l) r → resourcesOf (n + 1) l′ ≡ loaded-resources (n + 1) b start
+  rows-turn n at l l′ r here inv e f = f ∙ rw (inv, e, here) (sym (one-more n b start))
 
-  pub rows-end : (n i : ℕ) (l : List ℕ) → i ≤ n → n ≤ i → resourcesOf i l ≡ loaded-resources i b 92 → resourcesOf n l ≡ loaded-resources n b 92
+  pub rows-end : (n i : ℕ) (l : List ℕ) → i ≤ n → n ≤ i → resourcesOf i l ≡ loaded-resources i b start → resourcesOf n l ≡ loaded-resources n b start
   rows-end n i l h k inv =
       let same : n ≡ i = omega arith in
       rw same inv

@@ -5,7 +5,6 @@ use rules::Kind;
 use rules::Resource;
 use rules::Shape;
 use rules::numbers::BUFFER_KIND;
-use saved_head::HEAD_BYTES;
 use saved_resources::RESOURCE_BYTES;
 use saved_resources::SavedResource;
 use saved_resources::read_resource;
@@ -13,13 +12,15 @@ use texture_sizes::packed_size_of;
 use widths::u32_to_usize;
 use words::u64_at;
 ghost use mathlib.Core.Path.{_≡_};
-ghost use Prim.Native.Nat.{_+_, _≤_};
+ghost use Prim.Native.Nat.{_+_, _*_, _≤_};
 ghost use lib.ListN.{length};
 ghost use Rattle.machine.specs.Machine.{pick};
 ghost use Rattle.rules.specs.Numbers.{most};
 ghost use Rattle.rules.specs.Shapes.{packed-size};
 ghost use Rattle.rules.specs.Packets.{backed};
-ghost use Rattle.rules.specs.Saved.{head-bytes, resource-bytes, end-of, loaded-resource, loaded-resources};
+ghost use Rattle.rules.specs.Saved.{resource-bytes, head-bytes};
+ghost use Rattle.rules.specs.Loaded.{loaded-resource, loaded-resources};
+ghost use Rattle.rules.specs.declared.Form.the-variants.{Two};
 ghost use Rattle.saved_resources.specs.Rules.{furthest};
 ghost use Rattle.kept_resources.specs.Views.{resourcesOf};
 ghost use Rattle.saved_load_resources.specs.Loading.{resource-in};
@@ -81,12 +82,12 @@ fn resource_at(file: &[u8], at: u32) -> Resource
     resource_of(read_resource(file, at), size)
 }
 
-// Stores so many resources in their order.
-pub fn load_resources(resources: &mut Resources, file: &[u8], count: usize)
-    requires { ⌜ (count ≤ most) × (end-of count ≤ length (now file)) ⌝ }
-    ensures { λ _. ⌜ resourcesOf count (now (resources .exit)) ≡ loaded-resources count (now (file .entry)) head-bytes ⌝ }
+// Stores so many resources, of which the first one's fields stand from a place on, in their order.
+pub fn load_resources(resources: &mut Resources, file: &[u8], start: u32, count: usize)
+    requires { ⌜ (count ≤ most) × ((start ≤ head-bytes Two) × (start + resource-bytes * count ≤ length (now file))) ⌝ }
+    ensures { λ _. ⌜ resourcesOf count (now (resources .exit)) ≡ loaded-resources count (now (file .entry)) start ⌝ }
 {
-    let mut at: u32 = HEAD_BYTES;
+    let mut at: u32 = start;
     let mut i: usize = 0;
     while i < count {
         let r = resource_at(file, at);

@@ -10,7 +10,7 @@ use Rattle.rules.specs.Numbers.{most-layers}
 use Rattle.rules.specs.Shapes.{block-bytes, full-chain}
 use Rattle.rules.specs.Packets.{backed}
 use Rattle.rules.specs.declared.Shape.{Shape}
-use Rattle.rules.specs.Saved.{between, good-pitch}
+use Rattle.rules.specs.Loaded.{between, good-pitch}
 use Rattle.rules.specs.declared.FileCheck.{FileCheck}
 use Rattle.texture_shapes.specs.Good.{good-side}
 use Rattle.saved_fields.specs.Judging.{rule, seen, judge-rule, judge-rules}

@@ -12,11 +12,11 @@ use Rattle.rules.specs.Layouts.{word, long}
 use Rattle.rules.specs.Shapes.{block-bytes, full-chain}
 use Rattle.rules.specs.Packets.{backed}
 use Rattle.rules.specs.declared.Shape.{Shape}
-use Rattle.rules.specs.Saved.{Rule, between, is-buffer, saved-shape, good-pitch, resource-rules}
+use Rattle.rules.specs.Loaded.{Rule, between, is-buffer, saved-shape, good-pitch, resource-rules}
 use Rattle.saved_fields.specs.Judging.{rule, seen, same-rule, seen-there, zero-by-halves}
 use Rattle.saved_resources.specs.declared.SavedResource.{SavedResource}
 
--- no resource stands further on, and no file ends further on: 92 + 48 * 64
+-- no resource stands further on than behind 64 of them: 92 + 48 * 64
 abbrev pub furthest : ℕ
 furthest = 3164
 

@@ -8,7 +8,7 @@ use lib.Dec.{eqb, leb}
 use Rattle.rules.specs.Shapes.{tight}
 use Rattle.rules.specs.Packets.{backed}
 use Rattle.rules.specs.declared.Shape.{Shape}
-use Rattle.rules.specs.Saved.{between, good-pitch}
+use Rattle.rules.specs.Loaded.{between, good-pitch}
 use Rattle.texture_shapes.specs.Formats.{minimum}
 
 -- ---- has_size

@@ -9,7 +9,7 @@ ghost use lib.Dec.{eqb};
 ghost use Rattle.rules.specs.Numbers.{most-layers};
 ghost use Rattle.rules.specs.Shapes.{full-chain};
 ghost use Rattle.rules.specs.Packets.{backed};
-ghost use Rattle.rules.specs.Saved.{between, good-pitch};
+ghost use Rattle.rules.specs.Loaded.{between, good-pitch};
 
 // Whether a size, by its halves, is not 0.
 pub fn has_size(low: u32, high: u32) -> bool

@@ -24,6 +24,12 @@ unfolding file-of
 file-append [] ys = refl
 file-append (x ∷ xs) ys = rw (file-append xs ys, append-assoc)
 
+-- fields that are written behind others
+pub fields-behind : (start at : ℕ) (xs ys b m m′ : List ℕ) → at ≡ start + length (file-of xs) → at + length (file-of ys) ≤ length b
+    → m ≡ over start (file-of xs) b → m′ ≡ over at (file-of ys) m → m′ ≡ over start (file-of (xs ++ ys)) b
+fields-behind start at xs ys b m m′ e room p q =
+    q ∙ rw (p, file-append xs ys) (over-over start at (file-of xs) (file-of ys) b (omega arith) e)
+
 -- nothing written changes nothing
 pub over-none : (at : ℕ) (l : List ℕ) → l ≡ over at [] l
 unfolding over

@@ -1,3 +1,3 @@
 pub mod Fields
-pub mod Head
+pub mod Items
 pub mod Resources

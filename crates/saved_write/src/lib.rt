@@ -1,5 +1,4 @@
-// What saving writes (02, wish 1): fields of four bytes, one after the other, each by one store.
-pub mod head;
+// What saving writes (02, wishes 1 and 11): fields of four bytes, one after the other, each by one store.
 pub mod resources;
 
 use words::stores::put_u32;
@@ -13,7 +12,7 @@ ghost use Rattle.rules.specs.Saved.{file-of};
 const FIELD: usize = 4;
 
 // Writes some fields from a place on.
-fn put_fields(buffer: &mut [u8], at: usize, fields: &[u32])
+pub fn put_fields(buffer: &mut [u8], at: usize, fields: &[u32])
     requires { ⌜ at + 4 * length (now fields) ≤ length (now buffer) ⌝ }
     ensures { λ _. ⌜ now (buffer .exit) ≡ over at (file-of (now (fields .entry))) (now (buffer .entry)) ⌝ }
 {

@@ -10,16 +10,15 @@ use rules::numbers::TEXTURE_KIND;
 use saved_order::Order;
 use words::low32;
 ghost use mathlib.Core.Path.{_≡_};
-ghost use Prim.Native.Nat.{_+_, _*_, _≤_, _<_};
+ghost use Prim.Native.Nat.{_+_, _*_, _≤_};
 ghost use lib.ListN.{length};
 ghost use Rattle.rules.specs.Lists.{over};
-ghost use Rattle.rules.specs.Saved.{end-of, head-bytes, resource-bytes, resource-fields, resources-fields, file-of};
-ghost use Rattle.saved_order.specs.Orders.{listed};
-ghost use Rattle.saved_write.specs.Resources.{Rows};
+ghost use Rattle.rules.specs.Numbers.{most};
+ghost use Rattle.rules.specs.Saved.{resource-bytes, resource-fields, file-of};
+ghost use Rattle.saved_order.specs.Orders.{Rows, resourcesListed};
+ghost use Rattle.saved_write.specs.Items.{all-fields};
 
-// The bytes of all fields before the first resource, and those of a resource.
-pub const HEAD_BYTES: usize = 92;
-
+// The bytes of a resource.
 pub const RESOURCE_BYTES: usize = 48;
 
 // Writes the fields of a resource from a place on; those that mean nothing for its kind are 0.
@@ -68,16 +67,22 @@ fn put_resource(buffer: &mut [u8], at: usize, r: Resource)
     }
 }
 
-// Writes the fields of the resources of some rows, in this order, after the head.
-pub fn put_resources(buffer: &mut [u8], resources: &Resources, order: &Order, count: usize)
-    requires { ⌜ Rows (now order) count × (end-of count ≤ length (now buffer)) ⌝ }
-    ensures { λ _. ⌜ now (buffer .exit) ≡ over head-bytes (file-of (resources-fields (listed count (now (resources .entry)) (now (order .entry))))) (now (buffer .entry)) ⌝ }
+// Writes the fields of the resources of some rows, in this order, from a place on.
+pub fn put_resources(
+    buffer: &mut [u8],
+    at: usize,
+    resources: &Resources,
+    order: &Order,
+    count: usize,
+)
+    requires { ⌜ Rows most (now order) count × (at + resource-bytes * count ≤ length (now buffer)) ⌝ }
+    ensures { λ _. ⌜ now (buffer .exit) ≡ over at (file-of (all-fields resource-fields (resourcesListed count (now (resources .entry)) (now (order .entry))))) (now (buffer .entry)) ⌝ }
 {
     let mut i: usize = 0;
     while i < count {
-        let at = HEAD_BYTES + RESOURCE_BYTES * i;
+        let start = at + RESOURCE_BYTES * i;
         let r = resource_row(resources, order[i]);
-        put_resource(buffer, at, r);
+        put_resource(buffer, start, r);
         i += 1;
     }
 }

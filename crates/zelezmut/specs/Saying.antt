@@ -6,8 +6,10 @@ use Prim.Native.Nat.{ℕ, _<_}
 use borrow.Author.Needs.{needs}
 use Rattle.rules.specs.Calls.{RecordRead as RecordReadBy, Ran, call-run, call-answer}
 use Rattle.run_state.specs.Views.{setIn, deskIn, lent, Refused}
-use Rattle.rules.specs.Saved.{Saved, Loaded}
-use Rattle.saved_save.specs.Views.{Saves}
+use Rattle.rules.specs.Saved.{Saved}
+use Rattle.rules.specs.Loaded.{Loaded, call-move}
+use Rattle.rules.specs.declared.Form.{Form}
+use Rattle.saved_save.specs.Views.{savedOf, Saves}
 use Rattle.saved_save.specs.declared.FileSaved.{FileSaved}
 use Rattle.saved_load.specs.Views.{Loads}
 use Rattle.saved_load.specs.declared.FileLoaded.{FileLoaded}
@@ -17,7 +19,7 @@ use Rattle.device_calls.specs.declared.RecordRead.{RecordRead}
 use Rattle.device_memory_calls.specs.Views.{ranOf, Runs, Answers}
 use Rattle.device_memory_calls.specs.declared.Spent.{Spent}
 use Rattle.export_numbers.specs.Numbers.{saidBeside, saidValue, saidRun, saidSpent, recordWords}
-use Rattle.zelezmut.specs.Said.{SaysValue, SaysSpent, SaysRun, SaysAnswer, SaysRecord, SaysSaved, SaysLoaded}
+use Rattle.zelezmut.specs.Said.{SaysValue, SaysSpent, SaysRun, SaysAnswer, SaysRecord, SaysSaved, SaysLoaded, SaysMoved}
 use Rattle.rules.specs.Table.{table-finding, table-error, table-place}
 use Rattle.rules.specs.declared.Fault.{Fault}
 use Rattle.table_whole.specs.Whole.{shown}
@@ -29,24 +31,33 @@ says-value s offset n x k p = record { value = λ e f g ft st c. p ∙ ap saidVa
 
 pub ruleset saying-value = (says-value, needs)
 
--- ---- zelezmut_save, zelezmut_load
+-- ---- zelezmut_save, zelezmut_save_form_2, zelezmut_load
 
-pub says-saved : (s a b buffer buffer′ : List ℕ) (n : ℕ) (x : FileSaved) → Saves s a b buffer x buffer′ → n ≡ saidBeside (x .length) (x .answer) → SaysSaved s a b buffer n buffer′
-says-saved s a b buffer buffer′ n x k p =
+pub says-saved : (f : Form) (s a b ft st buffer buffer′ : List ℕ) (n : ℕ) (x : FileSaved) → Saves f s a b ft st buffer x buffer′
+    → n ≡ saidBeside (x .length) (x .answer) → SaysSaved f s a b ft st buffer n buffer′
+says-saved f s a b ft st buffer buffer′ n x k p =
     record {
-      length = λ e ft st c. p ∙ ap (λ (y : Saved). saidBeside (y .length) (y .answer)) (k .saves e ft st c);
-      bytes = λ e ft st c. ap (λ (y : Saved). y .buffer) (k .saves e ft st c);
+      length = λ e c. p ∙ ap (λ (y : Saved). saidBeside (y .length) (y .answer)) (k .saves e c);
+      bytes = λ e c. ap (λ (y : Saved). y .buffer) (k .saves e c);
     }
 
-pub says-loaded : (s a file s′ a′ : List ℕ) (n : ℕ) (x : FileLoaded) → Loads file s a s′ a′ x → n ≡ saidBeside (x .place) (x .answer) → SaysLoaded s a file n s′ a′
-says-loaded s a file s′ a′ n x k p =
+pub says-loaded : (s a ft file s′ a′ ft′ : List ℕ) (n : ℕ) (x : FileLoaded) → Loads file s a ft s′ a′ ft′ x → n ≡ saidBeside (x .place) (x .answer)
+    → SaysLoaded s a ft file n s′ a′ ft′
+says-loaded s a ft file s′ a′ ft′ n x k p =
     record {
-      place = λ e b ft st c. p ∙ ap (λ (y : Loaded). saidBeside (y .place) (y .answer)) (k .loads e b ft st c);
-      state = λ e b ft st c. ap (λ (y : Loaded). y .state) (k .loads e b ft st c);
-      still = λ e b ft st c z. k .refused (λ d. z (sym (ap (λ (y : Loaded). y .answer) (k .loads e b ft st c)) ∙ d));
+      place = λ e b st c. p ∙ ap (λ (y : Loaded). saidBeside (y .place) (y .answer)) (k .loads e b st c);
+      state = λ e b st c. ap (λ (y : Loaded). y .state) (k .loads e b st c);
+      still = λ e b st c z. k .refused (λ d. z (sym (ap (λ (y : Loaded). y .answer) (k .loads e b st c)) ∙ d));
     }
 
-pub ruleset saying-saved = (says-saved, says-loaded, needs)
+pub says-moved : (file buffer buffer′ : List ℕ) (n : ℕ) (x : FileSaved) → savedOf x buffer′ ≡ call-move file buffer → n ≡ saidBeside (x .length) (x .answer) → SaysMoved file buffer n buffer′
+says-moved file buffer buffer′ n x k p =
+    record {
+      length = p ∙ ap (λ (y : Saved). saidBeside (y .length) (y .answer)) k;
+      bytes = ap (λ (y : Saved). y .buffer) k;
+    }
+
+pub ruleset saying-saved = (says-saved, says-loaded, says-moved, needs)
 
 -- ---- zelezmut_run, zelezmut_answer
 

@@ -2,11 +2,12 @@
 
 use crate::bench::Bench;
 use crate::cases::{texture, Case, Mode, COPY, LONGEST_CHAIN};
+use crate::files::shares::full_file;
 use crate::host::Host;
 use crate::numbers::MOST_RECORDS;
 use crate::player::{saved, Seat};
 use zelezmut::registers::{READABLE, WRITABLE};
-use zelezmut::LONGEST_SAVED_DESK;
+use zelezmut::{Form, LONGEST_SAVED_DESK};
 
 #[derive(Clone, Copy, Debug, PartialEq, Eq)]
 pub enum Call {
@@ -25,6 +26,11 @@ pub enum Call {
     /// A full desk is saved into a buffer that any desk fits, or loaded from what it was saved as.
     Save,
     Load,
+    /// The same in form 2, with as many names and tokens as there may be.
+    SaveForm2,
+    LoadForm2,
+    /// What the full desk is saved as moves to form 2.
+    Move,
     /// The packed size of a texture of 15 mips with so many layers.
     PackedSize {
         layers: u32,
@@ -44,7 +50,13 @@ pub const CALLS: [Call; 6] = [
     Call::AnswerAndRun,
 ];
 
-pub const SAVING: [Call; 2] = [Call::Save, Call::Load];
+pub const SAVING: [Call; 5] = [
+    Call::Save,
+    Call::Load,
+    Call::SaveForm2,
+    Call::LoadForm2,
+    Call::Move,
+];
 
 impl Call {
     pub fn key(self) -> String {
@@ -57,6 +69,9 @@ impl Call {
             Call::AnswerAndRun => "answer-and-run",
             Call::Save => "save",
             Call::Load => "load",
+            Call::SaveForm2 => "save-form-2",
+            Call::LoadForm2 => "load-form-2",
+            Call::Move => "move",
             Call::PackedSize { layers } => return format!("packed-{}-layers", layers),
             Call::EveryMip { layers } => return format!("every-mip-{}-layers", layers),
         };
@@ -74,6 +89,9 @@ impl Call {
             Call::AnswerAndRun => "as answer, with allowance 65,535 and another such submission behind it, which waits after its two units",
             Call::Save => "a desk with 64 resources is saved: buffers and textures in turn, half of them backed, created in no order of their handles",
             Call::Load => "the same desk is loaded with what it is saved as",
+            Call::SaveForm2 => "a desk with 64 names and 256 tokens is saved in form 2: 24 textures and 8 buffers, each texture under two names, 8 of them under a third, every other token bound",
+            Call::LoadForm2 => "the same desk is loaded with what it is saved as",
+            Call::Move => "what the desk of save is saved as, with 64 resources, is moved from form 1 to form 2",
             Call::PackedSize { layers } => {
                 return format!("the packed size of a texture of format 1, 16,384 by 1, with 15 mips; layers: {}", layers)
             }
@@ -89,8 +107,23 @@ impl Call {
             Call::Write => WRITABLE.to_vec(),
             Call::Read => READABLE.to_vec(),
             Call::Record => (0..MOST_RECORDS as u32).collect(),
-            Call::Run | Call::Answer | Call::AnswerAndRun | Call::Save | Call::Load => vec![0],
+            Call::Run
+            | Call::Answer
+            | Call::AnswerAndRun
+            | Call::Save
+            | Call::Load
+            | Call::SaveForm2
+            | Call::LoadForm2
+            | Call::Move => vec![0],
             Call::PackedSize { layers } | Call::EveryMip { layers } => vec![layers],
+        }
+    }
+
+    /// The form that its file is of.
+    fn form(self) -> Form {
+        match self {
+            Call::SaveForm2 | Call::LoadForm2 => Form::Two,
+            _ => Form::One,
         }
     }
 
@@ -119,7 +152,8 @@ impl<F: Host> Calls<F> {
                     Bench::new(Case::Unknown)
                 }
                 Call::Record => waiting(COPY),
-                Call::Save | Call::Load => Bench::new(Case::Mixed),
+                Call::Save | Call::Load | Call::Move => Bench::new(Case::Mixed),
+                Call::SaveForm2 | Call::LoadForm2 => full(),
                 Call::Run => idle(Case::Unknown),
                 Call::Answer => waiting(Case::OneUnknown { live: 0 }),
                 Call::AnswerAndRun => {
@@ -131,7 +165,8 @@ impl<F: Host> Calls<F> {
         };
         let benches = if call.is_answer() { rounds } else { 1 };
         let benches: Vec<Bench<F>> = (0..benches).map(|_| bench()).collect();
-        let (_, length, buffer) = saved(&benches[0].seat.front, LONGEST_SAVED_DESK);
+        let form = call.form();
+        let (_, length, buffer) = saved(&benches[0].seat.front, form, LONGEST_SAVED_DESK);
         Calls {
             call,
             arguments: call.arguments(),
@@ -171,7 +206,9 @@ impl<F: Host> Calls<F> {
                 front.carried_on(memory).into()
             }),
             Call::Save => sum(&steps, |_| front.saved(buffer) as u64),
-            Call::Load => sum(&steps, |_| front.loaded(file).into()),
+            Call::Load | Call::LoadForm2 => sum(&steps, |_| front.loaded(file).into()),
+            Call::SaveForm2 => sum(&steps, |_| front.saved_form_2(buffer) as u64),
+            Call::Move => sum(&steps, |_| F::moved(file, buffer) as u64),
             Call::PackedSize { .. } => sum(&steps, |layers| {
                 F::packed_size(texture(LONGEST_CHAIN, layers))
             }),
@@ -186,6 +223,14 @@ fn waiting<F: Host>(case: Case) -> Bench<F> {
     let mut bench = Bench::new(case);
     bench.arm();
     bench.run_until_waiting(Mode::Whole);
+    bench
+}
+
+/// As many names and tokens as there may be.
+fn full<F: Host>() -> Bench<F> {
+    let mut bench: Bench<F> = Bench::new(Case::Unknown);
+    let front = &mut bench.seat.front;
+    assert!(front.loaded(&full_file().bytes()), "a good file");
     bench
 }
 

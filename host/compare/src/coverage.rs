@@ -19,6 +19,7 @@ use std::collections::{BTreeMap, BTreeSet};
 use std::fmt;
 use zelezmut::registers::IRQ_STATUS;
 use zelezmut::script::Operation;
+use zelezmut::Form;
 
 /// Something that every run of many desks meets.
 #[derive(Clone, Copy, Debug, PartialEq, Eq, PartialOrd, Ord)]
@@ -75,7 +76,7 @@ const CLIPS: [Clip; 3] = [Clip::Empty, Clip::FromTheCorner, Clip::FromWithin];
 const CLIPPED: u32 = 4;
 
 /// The call answers that there are.
-const ANSWERS: [(&str, u32); 17] = [
+const ANSWERS: [(&str, u32); 24] = [
     ("write", 0),
     ("write", 2),
     ("read", 0),
@@ -91,9 +92,18 @@ const ANSWERS: [(&str, u32); 17] = [
     ("save", 5),
     ("save", 6),
     ("save", 8),
+    (SAVE_FORM_2, 0),
+    (SAVE_FORM_2, 5),
+    (SAVE_FORM_2, 6),
     ("load", 0),
     ("load", 7),
+    ("move", 0),
+    ("move", 6),
+    ("move", 7),
+    ("move", 8),
 ];
+
+const SAVE_FORM_2: &str = "save in form 2";
 
 const IDLE: &str = "idle";
 const WAITING: &str = "waiting";
@@ -272,8 +282,10 @@ impl Coverage {
                 }
                 self.ran(watch, *ran, seat);
             }
-            Said::Saved(answer, _, _) => self.count(Met::Answer("save", *answer)),
+            Said::Saved(Form::One, answer, ..) => self.count(Met::Answer("save", *answer)),
+            Said::Saved(Form::Two, answer, ..) => self.count(Met::Answer(SAVE_FORM_2, *answer)),
             Said::Loaded(answer, _) => self.count(Met::Answer("load", *answer)),
+            Said::Moved(answer, ..) => self.count(Met::Answer("move", *answer)),
         }
     }
 

@@ -36,6 +36,8 @@ pub enum Event {
     SavedAndLoaded,
     LoadedEarlier,
     LoadedMadeUp,
+    /// A file is moved to the other form, and what it became back.
+    MovedThereAndBack,
     /// A good file is loaded while a submission is in work, as believed; or a bad one.
     LoadedInTheMiddle,
     RefusedInTheMiddle,
@@ -46,7 +48,7 @@ pub enum Event {
     Raving,
 }
 
-pub const EVENTS: [Event; 34] = [
+pub const EVENTS: [Event; 35] = [
     Event::NoFencePage,
     Event::FencePageAtTheEnd,
     Event::FencePageOutside,
@@ -76,6 +78,7 @@ pub const EVENTS: [Event; 34] = [
     Event::SavedAndLoaded,
     Event::LoadedEarlier,
     Event::LoadedMadeUp,
+    Event::MovedThereAndBack,
     Event::LoadedInTheMiddle,
     Event::RefusedInTheMiddle,
     Event::TwoFaultsInAFile,

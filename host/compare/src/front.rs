@@ -2,7 +2,7 @@
 
 use crate::shape::Shape;
 pub use plain::{Ended, Ran, Record};
-use zelezmut::{HostAnswer, Refused, Ticket};
+use zelezmut::{saved, Form, HostAnswer, Refused, Ticket};
 
 pub trait Front {
     /// What messages call it.
@@ -17,7 +17,7 @@ pub trait Front {
     fn record(&self, i: u32) -> (u32, Record);
     fn answer(&mut self, memory: &mut [u8], good: bool, allowance: u16) -> Ran;
     /// The call's answer and the file's length.
-    fn save(&self, buffer: &mut [u8]) -> (u32, usize);
+    fn save(&self, form: Form, buffer: &mut [u8]) -> (u32, usize);
     /// The call's answer and the place in the file that is bad.
     fn load(&mut self, file: &[u8]) -> (u32, usize);
     /// Every name of a resource beside the resource's lowest, in rising order.
@@ -31,6 +31,8 @@ pub trait Front {
     fn table_error(table: &[u8], memory: u64) -> u32;
     /// The index of the entry that has the error, 0 if none has.
     fn table_place(table: &[u8], memory: u64) -> u32;
+    /// A file in the other form: the call's answer and the moved file's length.
+    fn move_form(file: &[u8], buffer: &mut [u8]) -> (u32, usize);
 }
 
 impl Front for plain::Desk {
@@ -60,8 +62,11 @@ impl Front for plain::Desk {
         plain::Desk::answer(self, memory, good, allowance)
     }
 
-    fn save(&self, buffer: &mut [u8]) -> (u32, usize) {
-        plain::Desk::save(self, buffer)
+    fn save(&self, form: Form, buffer: &mut [u8]) -> (u32, usize) {
+        match form {
+            Form::One => plain::Desk::save(self, buffer),
+            Form::Two => self.save_form_2(buffer),
+        }
     }
 
     fn load(&mut self, file: &[u8]) -> (u32, usize) {
@@ -94,6 +99,10 @@ impl Front for plain::Desk {
 
     fn table_place(table: &[u8], memory: u64) -> u32 {
         plain::table_place(table, memory)
+    }
+
+    fn move_form(file: &[u8], buffer: &mut [u8]) -> (u32, usize) {
+        plain::move_form(file, buffer)
     }
 }
 
@@ -137,8 +146,8 @@ impl Front for zelezmut::Desk {
         ))
     }
 
-    fn save(&self, buffer: &mut [u8]) -> (u32, usize) {
-        match self.save_into(buffer) {
+    fn save(&self, form: Form, buffer: &mut [u8]) -> (u32, usize) {
+        match self.save_as_into(form, buffer) {
             Ok(length) => (0, length),
             Err(refused) => (number(refused), 0),
         }
@@ -183,6 +192,13 @@ impl Front for zelezmut::Desk {
         zelezmut::table_error(table, memory)
             .and_then(|found| found.entry)
             .unwrap_or(0)
+    }
+
+    fn move_form(file: &[u8], buffer: &mut [u8]) -> (u32, usize) {
+        match saved::move_form_into(file, buffer) {
+            Ok(length) => (0, length),
+            Err(not_moved) => (not_moved.number(), 0),
+        }
     }
 }
 

@@ -53,10 +53,22 @@ impl Held {
     /// What a device holds that was loaded with this good file.
     pub fn of(file: &File) -> Held {
         let rows = file.rows.iter().zip(1..);
-        Held {
-            live: rows.map(|(row, surface)| resource(row, surface)).collect(),
-            tokens: Vec::new(),
+        let mut live: Vec<Resource> = rows.map(|(row, surface)| resource(row, surface)).collect();
+        let surface_of = |name| {
+            let row = live.iter().find(|row| row.handle == name);
+            row.map_or(NO_SURFACE, |row| row.surface)
+        };
+        let tokens = file.tokens.iter().map(|&[low, high, name]| Token {
+            number: u64::from(low) | u64::from(high) << 32,
+            surface: surface_of(name),
+            released: name == 0,
+        });
+        let tokens = tokens.collect();
+        for &[handle, lowest] in &file.names {
+            let shared = live.iter().find(|row| row.handle == lowest);
+            live.extend(shared.map(|&row| Resource { handle, ..row }));
         }
+        Held { live, tokens }
     }
 
     /// Whether a submission between the two used a token or spent one.
@@ -74,6 +86,9 @@ impl Held {
         state(self) != state(before)
     }
 }
+
+/// What a spent token of a file stands for.
+const NO_SURFACE: u64 = 0;
 
 /// A file's resource.
 fn resource(row: &Row, surface: u64) -> Resource {

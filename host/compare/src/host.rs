@@ -5,7 +5,7 @@ use crate::every_mip;
 use crate::front::{current_ticket, Front};
 use crate::shape::Shape;
 use zelezmut::registers::DOORBELL;
-use zelezmut::HostAnswer;
+use zelezmut::{saved, Form, HostAnswer};
 
 /// Each call gives just one number or truth of its answer, so that no call can be left out.
 pub trait Host: Front {
@@ -23,8 +23,12 @@ pub trait Host: Front {
     fn carried_on(&mut self, memory: &mut [u8]) -> u16;
     /// The length of the file that the desk is saved as.
     fn saved(&self, buffer: &mut [u8]) -> usize;
+    /// The same in form 2.
+    fn saved_form_2(&self, buffer: &mut [u8]) -> usize;
     /// Whether the file was good.
     fn loaded(&mut self, file: &[u8]) -> bool;
+    /// The length of what the file becomes in its other form.
+    fn moved(file: &[u8], buffer: &mut [u8]) -> usize;
     /// A texture's packed size; the plain program leaves it to a sum over every mip of every layer.
     fn packed_or_summed(shape: Shape) -> u64;
 
@@ -102,6 +106,16 @@ impl Host for zelezmut::Desk {
     }
 
     #[inline]
+    fn saved_form_2(&self, buffer: &mut [u8]) -> usize {
+        self.save_as_into(Form::Two, buffer).unwrap_or(0)
+    }
+
+    #[inline]
+    fn moved(file: &[u8], buffer: &mut [u8]) -> usize {
+        saved::move_form_into(file, buffer).unwrap_or(0)
+    }
+
+    #[inline]
     fn loaded(&mut self, file: &[u8]) -> bool {
         self.load(file).is_ok()
     }
@@ -145,7 +159,17 @@ impl Host for plain::Desk {
 
     #[inline]
     fn saved(&self, buffer: &mut [u8]) -> usize {
-        self.save(buffer).1
+        plain::Desk::save(self, buffer).1
+    }
+
+    #[inline]
+    fn saved_form_2(&self, buffer: &mut [u8]) -> usize {
+        self.save_form_2(buffer).1
+    }
+
+    #[inline]
+    fn moved(file: &[u8], buffer: &mut [u8]) -> usize {
+        plain::move_form(file, buffer).1
     }
 
     #[inline]

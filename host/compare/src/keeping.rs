@@ -4,16 +4,17 @@ use crate::author::{Author, PLENTY};
 use crate::event::Event;
 use crate::expected::ExpectedLoad;
 use crate::files::drawn::{some_loading, Loading};
-use crate::files::good::{some_numbers, some_rows};
-use crate::files::night::some_length;
-use crate::files::{field_at, number, File};
+use crate::files::good::{of_some_kind, some_numbers, some_rows};
+use crate::files::night::{moved_length, some_length, there_and_back, SHORTEST};
+use crate::files::shares::{some_names, some_shareable};
+use crate::files::{number, File, Kind};
 use crate::held::Held;
 use crate::numbers::MOST_NAMES;
 use crate::player::{saved, Said, Seat};
 use crate::random::Random;
 use zelezmut::registers::CONTROL_ENABLE;
 use zelezmut::script::{Operation, LONGEST_MEMORY};
-use zelezmut::LONGEST_SAVED_DESK;
+use zelezmut::Form;
 
 /// What a host needs for that, with a random source of its own: a desk in which nothing is saved is what it was before.
 pub(crate) struct Keeper {
@@ -57,12 +58,15 @@ impl Author {
             return;
         }
         for _ in 0..self.keeper.random.within(1..=3) {
-            match self.keeper.random.within(0..=13) {
+            match self.keeper.random.within(0..=17) {
                 0..=2 => self.save(),
                 3..=4 => self.save_and_load(),
                 5 => self.load_earlier(),
                 6 => self.load_made_up(),
                 7 => self.load_for_other_memory(),
+                8 => self.move_there_and_back(),
+                9..=10 => self.move_something(),
+                11 => self.keep_names_alone(),
                 _ => self.load_something(),
             }
         }
@@ -89,15 +93,16 @@ impl Author {
 
     /// Into a buffer that is long enough or not.
     fn save(&mut self) {
-        let length = self.saved().map_or(field_at(0, 0), |file| file.len());
+        let form = self.keeper.random.pick(&Form::ALL);
+        let length = self.saved(form).map_or(SHORTEST, |file| file.len());
         let length = some_length(&mut self.keeper.random, length);
-        self.say(Operation::Save { length });
+        self.say(Operation::Save { form, length });
     }
 
     /// What the desk is saved as, if it can be.
-    fn saved(&mut self) -> Option<Vec<u8>> {
+    fn saved(&mut self, form: Form) -> Option<Vec<u8>> {
         self.keeper.catch_up(&self.operations);
-        let (answer, length, mut file) = saved(&self.keeper.played.front, LONGEST_SAVED_DESK);
+        let (answer, length, mut file) = saved(&self.keeper.played.front, form, form.longest());
         if answer != 0 {
             return None;
         }
@@ -108,12 +113,53 @@ impl Author {
 
     /// Nothing changes: what is believed of the desk stays so.
     fn save_and_load(&mut self) {
-        if let Some(file) = self.saved() {
+        let form = self.keeper.random.pick(&Form::ALL);
+        if let Some(file) = self.saved(form) {
             self.events.push(Event::SavedAndLoaded);
             let length = file.len() as u32;
-            self.say(Operation::Save { length });
+            self.say(Operation::Save { form, length });
             self.say(Operation::Load { file });
         }
+    }
+
+    /// A good file in its other form, and what it became back, if it goes.
+    fn move_there_and_back(&mut self) {
+        let file = self.some_file().bytes();
+        let moves = there_and_back(&mut self.keeper.random, &file);
+        if moves.len() > 1 {
+            self.events.push(Event::MovedThereAndBack);
+        }
+        moves.into_iter().for_each(|operation| self.say(operation));
+    }
+
+    /// A device that form 1 has no fields for because of other names alone: no run leads there, but a file does.
+    fn keep_names_alone(&mut self) {
+        let mut file = self.made_up();
+        file.set_kind(Kind::Two);
+        file.set_tokens(Vec::new());
+        file.detail = 0;
+        some_shareable(&mut self.keeper.random, &mut file);
+        if file.names.is_empty() && file.rows.len() < MOST_NAMES {
+            let names = some_names(&mut self.keeper.random, &file, 1);
+            file.set_names(names);
+        }
+        let bytes = file.bytes();
+        self.load_at_rest(Loading::good(&file));
+        self.save();
+        let length = some_length(&mut self.keeper.random, moved_length(&bytes));
+        self.say(Operation::Move {
+            length,
+            file: bytes,
+        });
+    }
+
+    /// Anything, into a buffer that is long enough or not.
+    fn move_something(&mut self) {
+        let file = self.some_file();
+        let random = &mut self.keeper.random;
+        let file = some_loading(random, file).bytes;
+        let length = some_length(random, moved_length(&file));
+        self.say(Operation::Move { length, file });
     }
 
     fn load_earlier(&mut self) {
@@ -142,7 +188,8 @@ impl Author {
         let few = random.within(0..=6) as usize;
         let count = random.pick(&[0, few, few, few, few, MOST_NAMES - 1, MOST_NAMES]);
         let rows = some_rows(random, count, &ids);
-        let mut file = File::new(some_numbers(random), rows);
+        let file = File::new(some_numbers(random), rows);
+        let mut file = of_some_kind(random, file);
         if random.percent(70) {
             let (ring, fence) = (self.world.ring.gpa, self.world.fence);
             file.set_long(number::RING_GPA_LO, ring);

@@ -2,7 +2,8 @@
 //!
 //! - Random desks ([`generator`]) are played through both ([`player`]): every answer, value, register, record,
 //!   name, token, saved desk and byte is equal.
-//! - Random files ([`files`]), good and bad ones, are loaded into both: the answer, the place, and all that is seen of a desk are equal.
+//! - Random files ([`files`]) of both forms and old ones, good and bad, are loaded into both, and moved by both: the answer, the place, what is
+//!   written, and all that is seen of a desk are equal.
 //! - One desk's runs, those behind answers too, cut into random slices come to the same ([`slicing`]).
 //! - The small exports, about a shape or a table alone, give the same on random and boundary ones ([`exports`]).
 //! - What the desks reach is counted ([`coverage`]), so that the generator cannot become empty.

@@ -5,7 +5,7 @@ use crate::front::{Front, Ran, Record};
 use std::fmt;
 use zelezmut::registers::READABLE;
 use zelezmut::script::Operation;
-use zelezmut::{HostAnswer, LONGEST_SAVED_DESK};
+use zelezmut::{Form, HostAnswer};
 
 /// What every byte of a buffer is before a desk is saved into it, as in a desk script.
 const UNWRITTEN: u8 = 0xaa;
@@ -22,8 +22,10 @@ pub enum Said {
     /// Beside what was said, what became of the other memory.
     RanElsewhere(Ran, Vec<u8>),
     AnsweredElsewhere(Ran, Vec<u8>),
-    /// The length, and what became of the whole buffer.
-    Saved(u32, usize, Vec<u8>),
+    /// In which form, the answer, the length, and what became of the whole buffer.
+    Saved(Form, u32, usize, Vec<u8>),
+    /// Likewise, of a file that was moved.
+    Moved(u32, usize, Vec<u8>),
     /// The place.
     Loaded(u32, usize),
 }
@@ -103,8 +105,9 @@ impl<F: Front> Seat<F> {
                 let ran = self.front.answer(&mut other, good, *allowance);
                 Said::AnsweredElsewhere(ran, other)
             }
-            Operation::Save { length } => self.save(*length),
+            Operation::Save { form, length } => self.save(*form, *length),
             Operation::Load { file } => self.load(file),
+            Operation::Move { length, file } => moved::<F>(file, *length as usize),
         }
     }
 
@@ -115,9 +118,9 @@ impl<F: Front> Seat<F> {
         Said::Nothing
     }
 
-    fn save(&self, length: u32) -> Said {
-        let (answer, length, buffer) = saved(&self.front, length as usize);
-        Said::Saved(answer, length, buffer)
+    fn save(&self, form: Form, length: u32) -> Said {
+        let (answer, length, buffer) = saved(&self.front, form, length as usize);
+        Said::Saved(form, answer, length, buffer)
     }
 
     fn load(&mut self, file: &[u8]) -> Said {
@@ -127,10 +130,17 @@ impl<F: Front> Seat<F> {
 }
 
 /// Saves into a buffer of so many bytes: what the call says, and the buffer.
-pub fn saved<F: Front>(front: &F, length: usize) -> (u32, usize, Vec<u8>) {
+pub fn saved<F: Front>(front: &F, form: Form, length: usize) -> (u32, usize, Vec<u8>) {
     let mut buffer = vec![UNWRITTEN; length];
-    let (answer, length) = front.save(&mut buffer);
+    let (answer, length) = front.save(form, &mut buffer);
     (answer, length, buffer)
+}
+
+/// Moves a file into a buffer of so many bytes.
+fn moved<F: Front>(file: &[u8], length: usize) -> Said {
+    let mut buffer = vec![UNWRITTEN; length];
+    let (answer, length) = F::move_form(file, &mut buffer);
+    Said::Moved(answer, length, buffer)
 }
 
 /// Plays one operation on both and compares all that can be seen.
@@ -147,12 +157,27 @@ pub fn step<L: Front, R: Front>(
             other,
         ));
     }
-    equal(left, right)?;
+    match said {
+        // The fronts were not asked.
+        Said::Nothing | Said::Moved(..) => equal_memory(&left.memory, &right.memory)?,
+        Said::Saved(..) | Said::Loaded(..) | Said::Answered(_) => equal(left, right)?,
+        // Form 2 has all that there is of a desk at rest.
+        _ => equal_in(&[Form::Two], left, right)?,
+    }
     Ok(said)
 }
 
-/// Registers, records, names, tokens, the desk as a saved file, and memory.
+/// Registers, records, names, tokens, the desk as a saved file of each form, and memory.
 pub fn equal<L: Front, R: Front>(left: &Seat<L>, right: &Seat<R>) -> Result<(), Difference> {
+    equal_in(&Form::ALL, left, right)
+}
+
+/// The same, saved in these forms alone.
+fn equal_in<L: Front, R: Front>(
+    forms: &[Form],
+    left: &Seat<L>,
+    right: &Seat<R>,
+) -> Result<(), Difference> {
     let (one, other) = (&left.front, &right.front);
     for offset in READABLE {
         let of = || format!("register {:03x}", offset);
@@ -165,15 +190,22 @@ pub fn equal<L: Front, R: Front>(left: &Seat<L>, right: &Seat<R>) -> Result<(), 
             break;
         }
     }
-    same(|| "the names".to_string(), one.names(), other.names())?;
-    same(|| "the tokens".to_string(), one.tokens(), other.tokens())?;
-    same(
-        || "the saved desk".to_string(),
-        saved(one, LONGEST_SAVED_DESK + 1),
-        saved(other, LONGEST_SAVED_DESK + 1),
-    )?;
+    let (names, tokens) = (one.names(), one.tokens());
+    let longer = FEWEST + MOST_OF_A_NAME * names.len() + OF_A_TOKEN * tokens.len() + 1;
+    same(|| "the names".to_string(), names, other.names())?;
+    same(|| "the tokens".to_string(), tokens, other.tokens())?;
+    for &form in forms {
+        let of = || format!("the desk saved in {}", form);
+        let files = (saved(one, form, longer), saved(other, form, longer));
+        same(of, files.0, files.1)?;
+    }
     equal_memory(&left.memory, &right.memory)
 }
+
+/// The bytes of a file of form 2 without names and tokens, of a name at most, and of a token: a file has no more in either form.
+const FEWEST: usize = 108;
+const MOST_OF_A_NAME: usize = 48;
+const OF_A_TOKEN: usize = 12;
 
 fn same<T: PartialEq + fmt::Debug>(
     of: impl FnOnce() -> String,

@@ -6,7 +6,7 @@ use std::panic::{catch_unwind, AssertUnwindSafe};
 use std::path::{Path, PathBuf};
 use std::{env, fmt, fs, io};
 use zelezmut::script::{encode, Operation, LONGEST_MEMORY};
-use zelezmut::LONGEST_SAVED_DESK;
+use zelezmut::{Form, LONGEST_SAVED_DESK};
 
 /// How desks are played.
 #[derive(Clone, Copy, Debug)]
@@ -111,10 +111,11 @@ fn shortened(
 
 /// The state after each operation and the desk saved, so that a transcript shows where it goes wrong.
 fn with_states(operations: Vec<Operation>) -> Vec<Operation> {
-    let length = LONGEST_SAVED_DESK as u32;
+    let (form, length) = (Form::Two, LONGEST_SAVED_DESK as u32);
+    let save = Operation::Save { form, length };
     operations
         .into_iter()
-        .flat_map(|operation| [operation, Operation::State, Operation::Save { length }])
+        .flat_map(|operation| [operation, Operation::State, save.clone()])
         .collect()
 }
 

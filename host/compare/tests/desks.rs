@@ -17,7 +17,7 @@ fn random_desks_play_alike() {
     assert_eq!(coverage.rarely_met(100), Vec::<String>::new());
     assert_eq!(coverage.rarely_hit(15), Vec::<String>::new());
     assert!(
-        coverage.aims.len() >= 320,
+        coverage.aims.len() >= 440,
         "only {} sides of rules",
         coverage.aims.len()
     );

@@ -10,7 +10,7 @@ use compare::shape::Shape;
 use told_apart::told_of;
 use zelezmut::registers::{CONTROL, CONTROL_RESET, ERROR_CODE, ERROR_COUNT, ERROR_DETAIL};
 use zelezmut::script::Operation;
-use zelezmut::{DeviceError, Place};
+use zelezmut::{DeviceError, Form, Place};
 
 const DOES_NOTHING: u8 = 0;
 const INVENTS_UNITS: u8 = 1;
@@ -52,15 +52,20 @@ struct Wrong<const FAULT: u8> {
 impl<const FAULT: u8> Wrong<FAULT> {
     /// A call that may end with an error, whose place is then taken.
     fn call<T>(&mut self, call: impl FnOnce(&mut Self) -> T) -> T {
-        let before = self.desk.read(ERROR_COUNT);
+        let before = self.error();
         let said = call(self);
-        if self.desk.read(ERROR_COUNT) != before {
+        if self.error() != before {
             match self.desk.read(ERROR_DETAIL) {
                 (_, 0) if FAULT == KEEPS_OLD_PLACES => {}
                 (_, detail) => self.detail = self.counted(detail),
             }
         }
         said
+    }
+
+    /// By the count alone an error could go unnoticed: a loaded one may stand at its end.
+    fn error(&self) -> [(u32, u32); 3] {
+        [ERROR_COUNT, ERROR_CODE, ERROR_DETAIL].map(|offset| self.desk.read(offset))
     }
 
     fn counted(&self, detail: u32) -> u32 {
@@ -317,14 +322,14 @@ impl<const FAULT: u8> Front for Wrong<FAULT> {
         self.call(|wrong| wrong.answer_in_its_way(memory, good, allowance))
     }
 
-    fn save(&self, buffer: &mut [u8]) -> (u32, usize) {
-        self.desk.save(buffer)
+    fn save(&self, form: Form, buffer: &mut [u8]) -> (u32, usize) {
+        Front::save(&self.desk, form, buffer)
     }
 
     fn load(&mut self, file: &[u8]) -> (u32, usize) {
         let said = self.desk.load(file);
         if said.0 == 0 {
-            (self.found, self.detail) = (None, 0);
+            (self.found, self.detail) = (None, self.desk.read(ERROR_DETAIL).1);
         }
         said
     }
@@ -347,6 +352,10 @@ impl<const FAULT: u8> Front for Wrong<FAULT> {
 
     fn table_place(table: &[u8], memory: u64) -> u32 {
         plain::Desk::table_place(table, memory)
+    }
+
+    fn move_form(file: &[u8], buffer: &mut [u8]) -> (u32, usize) {
+        plain::move_form(file, buffer)
     }
 }
 

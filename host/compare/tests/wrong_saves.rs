@@ -6,7 +6,7 @@ use compare::front::{Front, Ran, Record};
 use compare::shape::Shape;
 use told_apart::told_of;
 use zelezmut::registers::{ERROR_CODE, ERROR_COUNT, ERROR_DETAIL, RING_SIZE};
-use zelezmut::{FileField, ResourceField};
+use zelezmut::{FileField, FileLayout, Form, ResourceField};
 
 const TELLS_ERRORS_AT_THE_CODE: u8 = 0;
 const TELLS_PITCHES_AT_THE_PITCH: u8 = 1;
@@ -32,17 +32,18 @@ const NOT_IN_FORM: u32 = 8;
 
 const LAST_ERROR: u32 = 30;
 
-/// The bytes of a file without resources, and of a resource.
-const NO_RESOURCES: usize = 92;
+/// The bytes of a file of form 1 without resources, and of a resource.
+const NO_RESOURCES: usize = 96;
 const RESOURCE: usize = 48;
 
-fn place_of(register: u32) -> usize {
-    FileField::Register(register).place()
+/// Where a file has a register.
+fn place_of(file: &[u8], register: u32) -> usize {
+    place(file, FileField::Register(register))
 }
 
-/// A field of the first resource.
-fn field(field: ResourceField) -> usize {
-    FileField::Resource { index: 0, field }.place()
+fn place(file: &[u8], field: FileField) -> usize {
+    let place = FileLayout::of(file).place(field);
+    place.expect("a field that every file has")
 }
 
 /// The plain program with one fault.
@@ -54,27 +55,30 @@ struct Wrong<const FAULT: u8> {
 impl<const FAULT: u8> Wrong<FAULT> {
     /// The place that a front with this fault tells of a bad file.
     fn place(&self, file: &[u8], place: usize) -> usize {
-        let within = match place.checked_sub(NO_RESOURCES) {
-            Some(behind) => NO_RESOURCES + behind % RESOURCE,
-            None => place,
-        };
+        let layout = FileLayout::of(file);
         let broken = place + 4 <= file.len();
-        let is_at = |at| broken && within == at;
-        let tells_at = |at| place - within + at;
-        match FAULT {
-            TELLS_ERRORS_AT_THE_CODE if is_at(place_of(ERROR_COUNT)) => place_of(ERROR_CODE),
-            TELLS_PITCHES_AT_THE_PITCH if is_at(field(ResourceField::BackingId)) => {
-                tells_at(field(ResourceField::Pitch))
+        let (index, field) = match layout.field(place) {
+            Some(FileField::Resource { index, field }) if broken => (index, Some(field)),
+            _ => (0, None),
+        };
+        let tells_at = |index: usize, field| {
+            let told = layout.place(FileField::Resource { index, field });
+            told.unwrap_or(place)
+        };
+        match (FAULT, field) {
+            (TELLS_ERRORS_AT_THE_CODE, _) if broken && place == place_of(file, ERROR_COUNT) => {
+                place_of(file, ERROR_CODE)
             }
-            TELLS_SIZES_AT_THE_LOW_HALF if is_at(field(ResourceField::SizeHi)) => {
-                tells_at(field(ResourceField::SizeLo))
+            (TELLS_PITCHES_AT_THE_PITCH, Some(ResourceField::BackingId)) => {
+                tells_at(index, ResourceField::Pitch)
             }
-            TELLS_HANDLES_AT_THE_EARLIER
-                if is_at(field(ResourceField::Handle)) && place > within =>
-            {
-                place - RESOURCE
+            (TELLS_SIZES_AT_THE_LOW_HALF, Some(ResourceField::SizeHi)) => {
+                tells_at(index, ResourceField::SizeLo)
             }
-            TELLS_CUT_FIELDS_AT_THE_CUT if !broken => file.len(),
+            (TELLS_HANDLES_AT_THE_EARLIER, Some(ResourceField::Handle)) if index > 0 => {
+                tells_at(index - 1, ResourceField::Handle)
+            }
+            (TELLS_CUT_FIELDS_AT_THE_CUT, _) if !broken => file.len(),
             _ => place,
         }
     }
@@ -84,10 +88,10 @@ impl<const FAULT: u8> Wrong<FAULT> {
         let mut taken = file.to_vec();
         match FAULT {
             TAKES_A_BYTE_MORE if place + 1 == file.len() => taken.truncate(place),
-            TAKES_UNKNOWN_CODES if place == place_of(ERROR_CODE) => {
+            TAKES_UNKNOWN_CODES if place + 4 <= file.len() && is_at(file, place, ERROR_CODE) => {
                 put(&mut taken, place, LAST_ERROR);
             }
-            TAKES_A_FENCE_WITHOUT_A_CODE if place == place_of(ERROR_COUNT) => {
+            TAKES_A_FENCE_WITHOUT_A_CODE if is_at(file, place, ERROR_COUNT) => {
                 put(&mut taken, place - 4, 0);
                 put(&mut taken, place - 8, 0);
             }
@@ -97,18 +101,15 @@ impl<const FAULT: u8> Wrong<FAULT> {
     }
 
     fn load_in_its_way(&mut self, file: &[u8]) -> (u32, usize) {
-        let in_work = self.desk.save(&mut []).0 == IN_WORK;
+        let in_work = plain::Desk::save(&self.desk, &mut []).0 == IN_WORK;
         if FAULT == REFUSES_WHILE_IN_WORK && in_work {
             return (BAD_FILE, 0);
         }
         if FAULT == KEEPS_ITS_MEMORY && self.desk.clone().load(file).0 == DONE {
             let mut own = file.to_vec();
-            put(&mut own, FileField::MemoryLo.place(), self.memory as u32);
-            put(
-                &mut own,
-                FileField::MemoryHi.place(),
-                (self.memory >> 32) as u32,
-            );
+            let [low, high] = [FileField::MemoryLo, FileField::MemoryHi].map(|at| place(file, at));
+            put(&mut own, low, self.memory as u32);
+            put(&mut own, high, (self.memory >> 32) as u32);
             return self.desk.load(&own);
         }
         match self.desk.load(file) {
@@ -119,7 +120,7 @@ impl<const FAULT: u8> Wrong<FAULT> {
                         return (DONE, 0);
                     }
                 }
-                let at = place_of(RING_SIZE);
+                let at = place_of(file, RING_SIZE);
                 if FAULT == CHANGES_THE_DEVICE_BEFORE_IT_REFUSES && place > at {
                     let size = u32::from_le_bytes(file[at..at + 4].try_into().unwrap());
                     self.desk.write(RING_SIZE, size);
@@ -129,17 +130,18 @@ impl<const FAULT: u8> Wrong<FAULT> {
         }
     }
 
+    /// In form 1.
     fn save_in_its_way(&self, buffer: &mut [u8]) -> (u32, usize) {
         let size = NO_RESOURCES + RESOURCE * self.desk.names().len();
         let beyond = self.desk.read(ERROR_DETAIL).1 != 0 || !self.desk.tokens().is_empty();
-        match (self.desk.save(buffer), FAULT) {
+        match (plain::Desk::save(&self.desk, buffer), FAULT) {
             ((DONE, length), WRITES_BEHIND_THE_FILE) if length < buffer.len() => {
                 buffer[length] = 0;
                 (DONE, length)
             }
             ((TOO_SHORT, _), WRITES_WHAT_FITS) => {
                 let mut whole = vec![0; size];
-                self.desk.save(&mut whole);
+                plain::Desk::save(&self.desk, &mut whole);
                 buffer.copy_from_slice(&whole[..buffer.len()]);
                 (TOO_SHORT, 0)
             }
@@ -148,6 +150,11 @@ impl<const FAULT: u8> Wrong<FAULT> {
             (said, _) => said,
         }
     }
+}
+
+/// Whether the register stands there.
+fn is_at(file: &[u8], at: usize, register: u32) -> bool {
+    at == place_of(file, register)
 }
 
 fn put(file: &mut [u8], at: usize, value: u32) {
@@ -184,8 +191,11 @@ impl<const FAULT: u8> Front for Wrong<FAULT> {
         self.desk.answer(memory, good, allowance)
     }
 
-    fn save(&self, buffer: &mut [u8]) -> (u32, usize) {
-        self.save_in_its_way(buffer)
+    fn save(&self, form: Form, buffer: &mut [u8]) -> (u32, usize) {
+        match form {
+            Form::One => self.save_in_its_way(buffer),
+            Form::Two => self.desk.save_form_2(buffer),
+        }
     }
 
     fn load(&mut self, file: &[u8]) -> (u32, usize) {
@@ -210,6 +220,10 @@ impl<const FAULT: u8> Front for Wrong<FAULT> {
 
     fn table_place(table: &[u8], memory: u64) -> u32 {
         plain::Desk::table_place(table, memory)
+    }
+
+    fn move_form(file: &[u8], buffer: &mut [u8]) -> (u32, usize) {
+        plain::move_form(file, buffer)
     }
 }
 

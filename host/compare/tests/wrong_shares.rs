@@ -8,6 +8,7 @@ use std::collections::BTreeSet;
 use std::mem;
 use told_apart::told_of;
 use zelezmut::registers::{CONTROL, CONTROL_RESET, ERROR_CODE, ERROR_COUNT};
+use zelezmut::Form;
 
 const ENDS_ALL_NAMES_WITH_ONE: u8 = 0;
 const LEAVES_TOKENS_BOUND_TO_NOTHING: u8 = 1;
@@ -413,14 +414,19 @@ impl<const FAULT: u8> Front for Wrong<FAULT> {
         self.answer_in_its_way(memory, good, allowance)
     }
 
-    fn save(&self, buffer: &mut [u8]) -> (u32, usize) {
-        self.desk.save(buffer)
+    fn save(&self, form: Form, buffer: &mut [u8]) -> (u32, usize) {
+        Front::save(&self.desk, form, buffer)
     }
 
     fn load(&mut self, file: &[u8]) -> (u32, usize) {
         let said = self.desk.load(file);
         if said.0 == 0 {
-            (self.settled, self.now) = (Seen::default(), Seen::default());
+            let listed = Listed::of(&self.desk);
+            let seen = Seen {
+                listed,
+                ..Seen::default()
+            };
+            (self.settled, self.now) = (seen.clone(), seen);
         }
         said
     }
@@ -443,6 +449,10 @@ impl<const FAULT: u8> Front for Wrong<FAULT> {
 
     fn table_place(table: &[u8], memory: u64) -> u32 {
         plain::Desk::table_place(table, memory)
+    }
+
+    fn move_form(file: &[u8], buffer: &mut [u8]) -> (u32, usize) {
+        plain::move_form(file, buffer)
     }
 }
 

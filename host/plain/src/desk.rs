@@ -1,25 +1,19 @@
 //! The desk: the device's state and its calls.
 
+use crate::answers::{
+    BAD_FILE, DONE, IN_WORK, NOTHING_WAITING, NO_RECORD, NO_REGISTER, OTHER_LENGTH,
+};
 use crate::bytes::length;
 use crate::errors::{Error, Fault};
 use crate::fence;
+use crate::loaded::Loaded;
 use crate::packets::{Kept, Record};
 use crate::registers::{Registers, Written};
 use crate::resources::Resources;
 use crate::ring::{self, Ring};
-use crate::saved::{self, Saved};
+use crate::saved::{Form, Rest};
 use crate::submission::{Submission, Ticket};
 use crate::tokens::Tokens;
-
-const DONE: u32 = 0;
-const OTHER_LENGTH: u32 = 1;
-const NO_REGISTER: u32 = 2;
-const NOTHING_WAITING: u32 = 3;
-const NO_RECORD: u32 = 4;
-const IN_WORK: u32 = 5;
-const TOO_SHORT: u32 = 6;
-const BAD_FILE: u32 = 7;
-const BEYOND_FORM: u32 = 8;
 
 /// How a run ended.
 #[derive(Clone, Copy, Debug, PartialEq, Eq)]
@@ -174,51 +168,51 @@ impl Desk {
     /// Saves the device at rest into the buffer, in form 1; gives the call
     /// answer and the length of the file. Refused, in this order, with 5 while
     /// a submission is in work, with 8 if the form cannot hold the device (a
-    /// token used since the last reset or load, another name, an error detail
-    /// that is not 0), with 6 if the buffer is too short. Beside these the
-    /// length is 0 and the buffer is untouched; its bytes after the file
-    /// always are.
+    /// token used since the last reset or load or come with that load, another
+    /// name, an error detail that is not 0), with 6 if the buffer is too short.
+    /// Beside these the length is 0 and the buffer is untouched; its bytes
+    /// after the file always are.
     pub fn save(&self, buffer: &mut [u8]) -> (u32, usize) {
+        self.save_in(Form::One, buffer)
+    }
+
+    /// As [`Desk::save`], in form 2, which can hold every device: refused with
+    /// 5, then with 6, never with 8.
+    pub fn save_form_2(&self, buffer: &mut [u8]) -> (u32, usize) {
+        self.save_in(Form::Two, buffer)
+    }
+
+    fn save_in(&self, form: Form, buffer: &mut [u8]) -> (u32, usize) {
         if self.work.is_some() {
             return (IN_WORK, 0);
         }
-        if !self.is_within_form_1() {
-            return (BEYOND_FORM, 0);
-        }
-        let size = saved::size(&self.resources);
-        match buffer.get_mut(..size) {
-            Some(file) => {
-                saved::write(file, &self.registers, self.memory, &self.resources);
-                (DONE, size)
-            }
-            None => (TOO_SHORT, 0),
-        }
+        let rest = Rest {
+            registers: &self.registers,
+            memory: self.memory,
+            resources: &self.resources,
+            tokens: &self.tokens,
+        };
+        rest.write(form, buffer)
     }
 
-    /// Becomes the device that a file in form 1 tells of, whatever it was
-    /// before: with nothing in work, detail 0, no tokens, no other names, and
-    /// the file's memory length. Gives the call answer and 0; or 7 and the
-    /// offset of the file's first bad field, or of a byte after its last, and
-    /// then nothing changes.
+    /// Becomes the device that a file tells of, whatever it was before: with
+    /// nothing in work and the file's memory length. The file is of form 2, of
+    /// form 1, or an old one of form 1 without its number; one of form 1 gives
+    /// detail 0, no tokens and no other names. Gives the call answer and 0; or
+    /// 7 and the offset, from the file's first byte, of its first bad field or
+    /// of a byte after its last, and then nothing changes.
     pub fn load(&mut self, file: &[u8]) -> (u32, usize) {
-        match Saved::read(file) {
-            Ok(saved) => {
-                self.memory = saved.memory;
-                self.registers = saved.registers;
-                self.resources = saved.resources;
-                self.tokens.clear();
+        match Loaded::read(file) {
+            Ok(loaded) => {
+                self.memory = loaded.memory;
+                self.registers = loaded.registers;
+                self.resources = loaded.resources;
+                self.tokens = loaded.tokens;
                 self.drop_work();
                 (DONE, 0)
             }
             Err(bad) => (BAD_FILE, bad.place),
         }
-    }
-
-    /// Whether form 1 can hold all there is of the device at rest.
-    fn is_within_form_1(&self) -> bool {
-        !self.tokens.are_used()
-            && !self.resources.has_other_names()
-            && self.registers.error_detail == 0
     }
 
     fn is_waiting(&self) -> bool {
@@ -324,14 +318,15 @@ impl PartialEq for Desk {
 #[cfg(test)]
 mod tests {
     use super::*;
+    use crate::answers::BEYOND_FORM;
     use crate::resources::Resource;
     use crate::shapes::Shape;
 
     #[test]
     fn form_1_has_no_other_names_whatever_the_tokens() {
         let mut desk = Desk::new(0);
-        let mut buffer = [0; 188];
-        for (handle, surface, saved) in [(2, 1, (DONE, 140)), (5, 1, (BEYOND_FORM, 0))] {
+        let mut buffer = [0; 192];
+        for (handle, surface, saved) in [(2, 1, (DONE, 144)), (5, 1, (BEYOND_FORM, 0))] {
             desk.resources.add(Resource {
                 handle,
                 shape: Shape::Buffer { size: 16 },

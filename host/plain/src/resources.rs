@@ -2,14 +2,15 @@
 //!
 //! A resource with several names stands here once for each of them, alike but
 //! for the handle. None of it changes once it is made, but for the number it
-//! gets at its first export, before which it has one name only.
+//! gets at its first export if it has none yet, before which it has one name
+//! only.
 
 use crate::shapes::Shape;
 
 /// The most names that may live at once.
 pub(crate) const MAX_NAMES: usize = 64;
 
-/// The surface number of a resource that was never exported.
+/// The surface number of a resource that was never exported, nor loaded.
 pub(crate) const NO_SURFACE: u32 = 0;
 
 /// A live resource under one of its names. Backing id 0 means host-backed.
@@ -21,8 +22,8 @@ pub(crate) struct Resource {
     pub(crate) bytes: u64,
     pub(crate) backing_id: u32,
     pub(crate) backing_offset: u32,
-    /// The number it has from its first export on, which no other resource
-    /// has; see [`crate::tokens`].
+    /// The number it has from its first export on, or from loading, which no
+    /// other resource has; see [`crate::tokens`].
     pub(crate) surface: u32,
 }
 
@@ -114,18 +115,24 @@ impl Resources {
         self.rows.len()
     }
 
-    /// A row for each name, by rising handle.
-    pub(crate) fn by_handle(&self) -> Vec<Resource> {
+    /// Each resource once, under its lowest name, by rising name.
+    pub(crate) fn under_lowest_names(&self) -> Vec<Resource> {
         let mut rows = self.rows.clone();
+        rows.retain(|row| self.lowest_name_of(row) == row.handle);
         rows.sort_unstable_by_key(|row| row.handle);
         rows
     }
 
+    /// Every other name with the lowest name of its resource, by rising name.
+    pub(crate) fn other_names(&self) -> Vec<(u32, u32)> {
+        let mut names = self.names();
+        names.retain(|(name, lowest)| name != lowest);
+        names
+    }
+
     /// Whether any resource has another name beside its lowest.
     pub(crate) fn has_other_names(&self) -> bool {
-        self.rows
-            .iter()
-            .any(|row| self.lowest_name_of(row) != row.handle)
+        !self.other_names().is_empty()
     }
 
     /// The lowest name of the resource with this surface number.
@@ -229,6 +236,18 @@ mod tests {
         assert!(!shared(&[]).has_other_names());
         assert!(!shared(&[(9, 1), (3, 0), (2, 7), (1, 0)]).has_other_names());
         assert!(shared(&[(9, 1), (3, 0), (2, 7), (5, 1)]).has_other_names());
+    }
+
+    #[test]
+    fn each_resource_stands_once_under_its_lowest_name() {
+        let resources = shared(&[(9, 1), (3, 0), (8, 7), (5, 1), (6, 1), (4, 7), (1, 0)]);
+        let handles: Vec<_> = resources
+            .under_lowest_names()
+            .iter()
+            .map(|row| row.handle)
+            .collect();
+        assert_eq!(handles, [1, 3, 4, 5]);
+        assert_eq!(resources.other_names(), [(6, 5), (8, 4), (9, 5)]);
     }
 
     #[test]

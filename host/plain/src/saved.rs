@@ -1,77 +1,161 @@
-//! The saved desk, form 1: the registers with memory length and doorbell
-//! flag, then the live resources by rising handle, each section after its
-//! count. All fields are u32 words; a u64 is two of them, low half first.
+//! The saved desk, as written. Form 1: its number, the registers with memory
+//! length and doorbell flag, then the live resources by rising handle, each
+//! section after its count. "Form 2 is form 1 with one more register and two
+//! sections after the resources, each of which stands under its lowest name:
+//! other names with that one, and tokens". All fields are u32 words; a u64 is
+//! two of them, low half first.
 
-use crate::bytes::{high, low, whole};
-use crate::errors::Error;
-use crate::fields::{Bad, Fields, FIELD};
-use crate::registers::{Registers, CONTROL_ENABLE, FEATURES, MAGIC, STATUS_BITS, VERSION};
-use crate::resources::{Resource, Resources, MAX_NAMES, NO_SURFACE};
-use crate::shapes::{is_format, is_layer_count, is_mip_count, is_side, Shape, Texture};
+use crate::answers::{BAD_FILE, BEYOND_FORM, DONE, TOO_SHORT};
+use crate::bytes::{high, low};
+use crate::fields::FIELD;
+use crate::loaded::Loaded;
+use crate::registers::{Registers, FEATURES, MAGIC, VERSION};
+use crate::resources::{Resource, Resources};
+use crate::shapes::Shape;
+use crate::tokens::Tokens;
 
-/// The fields of the first section, which are its count.
-const DEVICE_FIELDS: usize = 21;
 /// The fields of each resource.
 const RESOURCE_FIELDS: usize = 12;
-/// Those of them that a buffer has no use for, from format to pitch.
-const TEXTURE_FIELDS: usize = 6;
-/// Those of them that a texture has no use for, the halves of the size.
-const BUFFER_FIELDS: usize = 2;
 
-const KIND_BUFFER: u32 = 1;
-const KIND_TEXTURE: u32 = 2;
+pub(crate) const KIND_BUFFER: u32 = 1;
+pub(crate) const KIND_TEXTURE: u32 = 2;
 
-/// The size of the file for a device with these resources.
-pub(crate) fn size(resources: &Resources) -> usize {
-    FIELD * (1 + DEVICE_FIELDS + 1 + RESOURCE_FIELDS * resources.count())
+/// "A first u32, 1 or 2, tells the forms apart".
+#[derive(Clone, Copy, Debug, PartialEq, Eq)]
+pub(crate) enum Form {
+    One = 1,
+    Two = 2,
 }
 
-/// Writes the file, which has its [`size`]. Every resource has one name.
-pub(crate) fn write(file: &mut [u8], registers: &Registers, memory: u64, resources: &Resources) {
-    let (device, rest) = file.split_at_mut(FIELD * (1 + DEVICE_FIELDS));
-    let (count, rows) = rest.split_at_mut(FIELD);
-    put(device, &[DEVICE_FIELDS as u32]);
-    put(&mut device[FIELD..], &device_fields(registers, memory));
-    put(count, &[resources.count() as u32]);
-    let rows = rows.chunks_exact_mut(FIELD * RESOURCE_FIELDS);
-    for (row, resource) in rows.zip(&resources.by_handle()) {
-        put(row, &resource_fields(resource));
+impl Form {
+    /// The number in front of its files.
+    pub(crate) fn number(self) -> u32 {
+        self as u32
+    }
+
+    /// The count of the first section.
+    pub(crate) fn device_fields(self) -> u32 {
+        match self {
+            Form::One => 21,
+            Form::Two => 22,
+        }
+    }
+
+    /// The form that a move leads to.
+    fn other(self) -> Form {
+        match self {
+            Form::One => Form::Two,
+            Form::Two => Form::One,
+        }
     }
 }
 
-/// Writes fields from the start of these bytes.
-fn put(bytes: &mut [u8], fields: &[u32]) {
-    for (place, field) in bytes.chunks_exact_mut(FIELD).zip(fields) {
+/// What a file tells of a device at rest.
+#[derive(Clone, Copy, Debug)]
+pub(crate) struct Rest<'d> {
+    pub(crate) registers: &'d Registers,
+    pub(crate) memory: u64,
+    pub(crate) resources: &'d Resources,
+    pub(crate) tokens: &'d Tokens,
+}
+
+impl Rest<'_> {
+    /// Writes the file in this form to the start of the buffer; gives the call
+    /// answer and the file's length. First 8 if the form cannot hold all, then
+    /// 6 if the buffer is too short, both with length 0 and nothing written.
+    pub(crate) fn write(&self, form: Form, buffer: &mut [u8]) -> (u32, usize) {
+        if form == Form::One && !self.is_within_form_1() {
+            return (BEYOND_FORM, 0);
+        }
+        let fields = self.fields(form);
+        match buffer.get_mut(..FIELD * fields.len()) {
+            Some(file) => {
+                put(file, &fields);
+                (DONE, file.len())
+            }
+            None => (TOO_SHORT, 0),
+        }
+    }
+
+    /// "exactly when both sections are empty and detail is 0": whether form 1
+    /// has a field for all there is.
+    fn is_within_form_1(&self) -> bool {
+        !self.tokens.are_used()
+            && !self.resources.has_other_names()
+            && self.registers.error_detail == 0
+    }
+
+    /// All fields of the file in this form, its number first.
+    fn fields(&self, form: Form) -> Vec<u32> {
+        let mut fields = vec![form.number(), form.device_fields()];
+        fields.extend(self.register_fields());
+        if form == Form::Two {
+            fields.push(self.registers.error_detail);
+        }
+        fields.extend([low(self.memory), high(self.memory)]);
+        fields.push(u32::from(self.registers.doorbell));
+        self.add_resources(&mut fields);
+        if form == Form::Two {
+            self.add_other_names(&mut fields);
+            self.add_tokens(&mut fields);
+        }
+        fields
+    }
+
+    /// The readable registers of 01 by rising offset.
+    fn register_fields(&self) -> [u32; 18] {
+        let registers = self.registers;
+        [
+            MAGIC,
+            VERSION,
+            low(FEATURES),
+            high(FEATURES),
+            low(registers.ring_gpa),
+            high(registers.ring_gpa),
+            registers.ring_size,
+            u32::from(registers.enabled),
+            low(registers.fence_gpa),
+            high(registers.fence_gpa),
+            low(registers.completed),
+            high(registers.completed),
+            registers.irq_status,
+            registers.irq_enable,
+            registers.error_code,
+            low(registers.error_fence),
+            high(registers.error_fence),
+            registers.error_count,
+        ]
+    }
+
+    /// Section 2: "each resource under its lowest name", by rising name.
+    fn add_resources(&self, fields: &mut Vec<u32>) {
+        let rows = self.resources.under_lowest_names();
+        fields.push(rows.len() as u32);
+        fields.extend(rows.iter().flat_map(resource_fields));
+    }
+
+    /// Section 3: "count, (other name, lowest name) by rising other name".
+    fn add_other_names(&self, fields: &mut Vec<u32>) {
+        let pairs = self.resources.other_names();
+        fields.push(pairs.len() as u32);
+        fields.extend(pairs.iter().flat_map(|(other, lowest)| [*other, *lowest]));
+    }
+
+    /// Section 4: "count, (token LO, token HI, lowest name or 0 if spent) by
+    /// rising token".
+    fn add_tokens(&self, fields: &mut Vec<u32>) {
+        let rows = self.tokens.own(self.resources);
+        fields.push(rows.len() as u32);
+        let row_fields = |(token, name): &(u64, u32)| [low(*token), high(*token), *name];
+        fields.extend(rows.iter().flat_map(row_fields));
+    }
+}
+
+/// Writes the fields to the file, which has room for just them.
+fn put(file: &mut [u8], fields: &[u32]) {
+    for (place, field) in file.chunks_exact_mut(FIELD).zip(fields) {
         place.copy_from_slice(&field.to_le_bytes());
     }
-}
-
-/// The readable registers of 01 by rising offset, the memory length, the
-/// doorbell flag.
-fn device_fields(registers: &Registers, memory: u64) -> [u32; DEVICE_FIELDS] {
-    [
-        MAGIC,
-        VERSION,
-        low(FEATURES),
-        high(FEATURES),
-        low(registers.ring_gpa),
-        high(registers.ring_gpa),
-        registers.ring_size,
-        u32::from(registers.enabled),
-        low(registers.fence_gpa),
-        high(registers.fence_gpa),
-        low(registers.completed),
-        high(registers.completed),
-        registers.irq_status,
-        registers.irq_enable,
-        registers.error_code,
-        low(registers.error_fence),
-        high(registers.error_fence),
-        registers.error_count,
-        low(memory),
-        high(memory),
-        u32::from(registers.doorbell),
-    ]
 }
 
 /// Handle, kind, size, the shape and pitch of a texture, backing id, backing
@@ -104,133 +188,16 @@ fn resource_fields(resource: &Resource) -> [u32; RESOURCE_FIELDS] {
     }
 }
 
-/// What a file tells of a device.
-#[derive(Clone, Debug)]
-pub(crate) struct Saved {
-    pub(crate) registers: Registers,
-    pub(crate) memory: u64,
-    pub(crate) resources: Resources,
-}
-
-impl Saved {
-    /// Reads and checks a file. A rule that ties several fields is judged at
-    /// the last of them, so the first that breaks one ends the reading.
-    pub(crate) fn read(file: &[u8]) -> Result<Saved, Bad> {
-        let mut fields = Fields::new(file);
-        fields.exactly(DEVICE_FIELDS as u32)?;
-        let mut registers = read_registers(&mut fields)?;
-        let memory = fields.any_u64()?;
-        registers.doorbell = fields.at_most(1)? != 0;
-        let resources = read_resources(&mut fields)?;
-        fields.end()?;
-        Ok(Saved {
-            registers,
-            memory,
-            resources,
-        })
-    }
-}
-
-/// The registers, without the doorbell flag, which comes later in the file.
-fn read_registers(fields: &mut Fields) -> Result<Registers, Bad> {
-    for fixed in [MAGIC, VERSION, low(FEATURES), high(FEATURES)] {
-        fields.exactly(fixed)?;
-    }
-    let ring_gpa = fields.any_u64()?;
-    let ring_size = fields.any()?;
-    let control = fields.at_most(CONTROL_ENABLE)?;
-    let fence_gpa = fields.any_u64()?;
-    let completed = fields.any_u64()?;
-    let irq_status = fields.at_most(STATUS_BITS)?;
-    let irq_enable = fields.any()?;
-    let error_code = fields.good(|code| code == 0 || Error::is_code(code))?;
-    let error_fence = fields.any_u64()?;
-    let error_count = fields.good(|count| match error_code {
-        0 => count == 0 && error_fence == 0,
-        _ => count != 0,
-    })?;
-    Ok(Registers {
-        ring_gpa,
-        ring_size,
-        enabled: control != 0,
-        fence_gpa,
-        completed,
-        doorbell: false,
-        irq_enable,
-        irq_status,
-        error_code,
-        error_fence,
-        error_count,
-        error_detail: 0,
-    })
-}
-
-fn read_resources(fields: &mut Fields) -> Result<Resources, Bad> {
-    let count = fields.at_most(MAX_NAMES as u32)?;
-    let mut resources = Resources::new();
-    let mut last = 0;
-    for _ in 0..count {
-        // Rising from 0, so none is 0.
-        last = fields.good(|handle| handle > last)?;
-        resources.add(read_resource(fields, last)?);
-    }
-    Ok(resources)
-}
-
-/// The rest of the resource with this handle.
-fn read_resource(fields: &mut Fields, handle: u32) -> Result<Resource, Bad> {
-    let shape = match fields.good(|kind| kind == KIND_BUFFER || kind == KIND_TEXTURE)? {
-        KIND_BUFFER => read_buffer(fields)?,
-        _ => read_texture(fields)?,
-    };
-    let (backing_id, bytes) = fields.next(|id| Some((id, bytes_behind(id, &shape)?)))?;
-    let backing_offset = fields.good(|offset| backing_id != 0 || offset == 0)?;
-    Ok(Resource {
-        handle,
-        shape,
-        bytes,
-        backing_id,
-        backing_offset,
-        surface: NO_SURFACE,
-    })
-}
-
-fn read_buffer(fields: &mut Fields) -> Result<Shape, Bad> {
-    let low = fields.any()?;
-    let high = fields.good(|high| whole(low, high) != 0)?;
-    fields.zeros(TEXTURE_FIELDS)?;
-    Ok(Shape::Buffer {
-        size: whole(low, high),
-    })
-}
-
-/// A texture, whose pitch is judged with its backing.
-fn read_texture(fields: &mut Fields) -> Result<Shape, Bad> {
-    fields.zeros(BUFFER_FIELDS)?;
-    let format = fields.good(is_format)?;
-    let width = fields.good(is_side)?;
-    let height = fields.good(is_side)?;
-    let mips = fields.good(|mips| is_mip_count(mips, width, height))?;
-    let layers = fields.good(is_layer_count)?;
-    let pitch = fields.any()?;
-    Ok(Shape::Texture(Texture {
-        format,
-        width,
-        height,
-        mips,
-        layers,
-        pitch,
-    }))
-}
-
-/// The bytes of a shape that is good but for its pitch, behind this backing
-/// id; nothing if the pitch does not go with it. Host-backed textures keep 0.
-fn bytes_behind(backing_id: u32, shape: &Shape) -> Option<u64> {
-    if backing_id != 0 {
-        shape.backed_bytes()
-    } else if shape.without_pitch() == *shape {
-        shape.host_bytes()
-    } else {
-        None
+/// Moves a file to the other form: form 1, and an old file without its number,
+/// to form 2; form 2 back to form 1. The moved file is written to the start of
+/// the buffer. Gives the call answer and its length. Refused, in this order,
+/// with 7 if the file breaks a rule, with 8 if it is of form 2 and holds what
+/// form 1 cannot (another name, a token, an error detail that is not 0), with 6
+/// if the buffer is too short. Beside these the length is 0 and nothing is
+/// written; the buffer's bytes after the file never are.
+pub fn move_form(file: &[u8], buffer: &mut [u8]) -> (u32, usize) {
+    match Loaded::read(file) {
+        Ok(loaded) => loaded.rest().write(loaded.form.other(), buffer),
+        Err(_) => (BAD_FILE, 0),
     }
 }

@@ -4,12 +4,21 @@
 //! has a number, which all names of the resource carry, and no number is given
 //! twice between resets. So a token whose surface has no name left is spent
 //! for good, and destroying a name changes nothing here.
+//!
+//! Resources that come from a file have their numbers from the start, above
+//! all that exports give.
 
 use crate::errors::Error;
 use crate::resources::{Resources, NO_SURFACE};
 
 /// The most tokens that may be used between two resets.
-const MAX_TOKENS: usize = 256;
+pub(crate) const MAX_TOKENS: usize = 256;
+
+/// The surface number of the resource with this index in a file. No export
+/// gives it: the numbers of those end with the count of tokens.
+pub(crate) fn loaded_surface(index: u32) -> u32 {
+    MAX_TOKENS as u32 + 1 + index
+}
 
 /// A used token.
 #[derive(Clone, Copy, Debug)]
@@ -46,6 +55,16 @@ impl Tokens {
         self.drop_changes();
     }
 
+    /// Adds a token of a file, after all lower ones, with its resource's
+    /// surface number; with [`NO_SURFACE`] it is spent, however that came.
+    pub(crate) fn add_loaded(&mut self, token: u64, surface: u32) {
+        self.own.push(Used {
+            token,
+            surface,
+            released: surface == NO_SURFACE,
+        });
+    }
+
     /// Whether the device has used any token, spent or not.
     pub(crate) fn are_used(&self) -> bool {
         !self.own.is_empty()
@@ -77,7 +96,8 @@ impl Tokens {
     }
 
     /// Adds a new token at its place among the others. A new surface number
-    /// is the count of tokens with this one, which rises with every token.
+    /// is the count of tokens with this one, which rises with every token and
+    /// stays below the numbers of [`loaded_surface`].
     fn add(&mut self, at: usize, token: u64, surface: u32) -> u32 {
         let rows = self.rows_to_change();
         let surface = if surface == NO_SURFACE {
@@ -181,6 +201,26 @@ mod tests {
         // No resource has 4 any more, so it may come again.
         assert_eq!(tokens.bind(2, NO_SURFACE), Ok(4));
         assert_eq!(tokens.surface(1), None);
+    }
+
+    #[test]
+    fn no_export_gives_the_number_of_a_loaded_resource() {
+        let mut tokens = Tokens::new();
+        tokens.add_loaded(5, NO_SURFACE);
+        tokens.add_loaded(9, loaded_surface(0));
+        assert_eq!(tokens.surface(5), None);
+        assert_eq!(tokens.surface(9), Some(loaded_surface(0)));
+        assert_eq!(tokens.bind(9, loaded_surface(0)), Ok(loaded_surface(0)));
+        assert_eq!(tokens.bind(7, loaded_surface(1)), Ok(loaded_surface(1)));
+        for surface in [NO_SURFACE, loaded_surface(0), loaded_surface(1)] {
+            assert_eq!(tokens.bind(5, surface), Err(Error::TokenTaken));
+        }
+        for number in 4..=MAX_TOKENS as u32 {
+            let token = u64::from(number) << 32;
+            assert_eq!(tokens.bind(token, NO_SURFACE), Ok(number));
+            assert!(number < loaded_surface(0));
+        }
+        assert_eq!(tokens.bind(1, NO_SURFACE), Err(Error::Full));
     }
 
     #[test]

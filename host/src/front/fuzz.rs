@@ -45,8 +45,8 @@ pub(super) struct Lent {
     entries: Fenced<{ MOST * ENTRY_WORDS }>,
     pub(super) first: Fenced<{ MOST * RESOURCE_WORDS }>,
     pub(super) second: Fenced<{ MOST * RESOURCE_WORDS }>,
-    first_tokens: Fenced<{ MOST_TOKENS * TOKEN_WORDS }>,
-    second_tokens: Fenced<{ MOST_TOKENS * TOKEN_WORDS }>,
+    pub(super) first_tokens: Fenced<{ MOST_TOKENS * TOKEN_WORDS }>,
+    pub(super) second_tokens: Fenced<{ MOST_TOKENS * TOKEN_WORDS }>,
     records: Fenced<{ MOST * RECORD_WORDS }>,
     /// With bytes beside it at both ends.
     memory: Vec<u8>,

@@ -99,14 +99,16 @@ fn a_reset_leaves_nothing_of_the_work() {
 #[test]
 fn a_load_leaves_nothing_of_the_work() {
     let mut numbers = Numbers(14);
-    let mut file = vec![0; LONGEST_SAVED_DESK];
-    let (answer, length) = save(&make(7), &mut file);
-    assert_eq!(answer, 0);
-    for units in 0..100 {
-        let (mut state, mut memory) = begun(&mut numbers);
-        run(&mut state, &mut memory, units % 24);
-        assert_eq!(load(&mut state, &file[..length as usize]), (0, 0));
-        nothing_is_left_over(&state);
-        assert!(*state == *make(7));
+    for form in Form::ALL {
+        let mut file = vec![0; LONGEST_SAVED_DESK];
+        let (answer, length) = save(&make(7), form, &mut file);
+        assert_eq!(answer, 0);
+        for units in 0..100 {
+            let (mut state, mut memory) = begun(&mut numbers);
+            run(&mut state, &mut memory, units % 24);
+            assert_eq!(load(&mut state, &file[..length as usize]), (0, 0));
+            nothing_is_left_over(&state);
+            assert!(*state == *make(7));
+        }
     }
 }

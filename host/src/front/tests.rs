@@ -74,7 +74,8 @@ fn calls_return_whatever_the_state_is() {
         let [offset, value, i] = [(); 3].map(|()| numbers.next() as u32);
         assert!([0, 2].contains(&read(&state, offset).0));
         assert!([0, 4].contains(&record(&state, i).0));
-        assert!([0, 5, 6, 8].contains(&save(&state, memory).0));
+        let form = Form::ALL[value as usize % 2];
+        assert!([0, 5, 6, 8].contains(&save(&state, form, memory).0));
         let allowance = numbers.next() as u16;
         let (done, ended, units) = run(&mut state, memory, allowance);
         assert!(done == 0 && ended <= 2 && units <= allowance);

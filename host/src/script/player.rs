@@ -1,6 +1,6 @@
 //! Plays the operations of a script on a desk, and gives the transcript's lines.
 use super::{Operation, Script};
-use crate::{registers, BadFile, Desk, HostAnswer, Ran, Refused, Ticket};
+use crate::{registers, saved, BadFile, Desk, Form, HostAnswer, Ran, Refused, Ticket};
 
 /// A desk and its memory, on which operations are played one by one.
 #[derive(Clone, Debug)]
@@ -56,8 +56,9 @@ impl Player {
                 let mut elsewhere = vec![0; length as usize];
                 answered(&mut self.desk, &mut elsewhere, answer, allowance)
             }
-            Operation::Save { length } => save(&self.desk, length),
+            Operation::Save { form, length } => save(&self.desk, form, length),
             Operation::Load { ref file } => loaded(self.desk.load(file)),
+            Operation::Move { length, ref file } => moved(file, length),
         }
     }
 
@@ -131,14 +132,24 @@ fn record(desk: &Desk, index: u32) -> String {
     }
 }
 
-/// What every byte of a buffer is before a save.
+/// What every byte of a buffer is before a save or a move.
 const UNWRITTEN: u8 = 0xAA;
 
-fn save(desk: &Desk, length: u32) -> String {
+fn save(desk: &Desk, form: Form, length: u32) -> String {
     let mut buffer = vec![UNWRITTEN; length as usize];
-    let saved = desk.save_into(&mut buffer);
+    let saved = desk.save_as_into(form, &mut buffer);
     let (answer, written) = (number(saved), saved.unwrap_or(0));
     format!("save {} {} {}", answer, written, hash(&buffer))
+}
+
+fn moved(file: &[u8], length: u32) -> String {
+    let mut buffer = vec![UNWRITTEN; length as usize];
+    let moved = saved::move_form_into(file, &mut buffer);
+    let (answer, written) = match moved {
+        Ok(written) => (0, written),
+        Err(refused) => (refused.number(), 0),
+    };
+    format!("move {} {} {}", answer, written, hash(&buffer))
 }
 
 fn loaded(loaded: Result<(), BadFile>) -> String {
@@ -181,28 +192,60 @@ mod tests {
         assert_eq!(hash(b"foobar"), 0x8594_4171_F739_67E8);
     }
 
+    /// The line of a save or a move that wrote these bytes into a buffer of 100 more.
+    fn written(call: &str, file: &[u8]) -> String {
+        let mut whole = file.to_vec();
+        whole.resize(file.len() + 100, UNWRITTEN);
+        format!("{} 0 {} {}", call, file.len(), hash(&whole))
+    }
+
+    /// The line of one that was refused with this answer, and so many bytes for it.
+    fn refused(call: &str, answer: u32, length: usize) -> String {
+        format!("{} {} 0 {}", call, answer, hash(&vec![UNWRITTEN; length]))
+    }
+
     #[test]
-    fn a_desk_is_saved_loaded_and_refused() {
+    fn a_desk_is_saved_in_both_forms_and_a_file_is_moved() {
+        let mut player = Player::new(64);
+        for (form, short) in [(Form::One, 95), (Form::Two, 107)] {
+            let file = player.desk().save_as(form).unwrap();
+            assert_eq!(file.len(), short + 1);
+            let other = player.desk().save_as(form.other()).unwrap();
+            let mut save = |length: usize| {
+                let length = length as u32;
+                player.play(&Operation::Save { form, length })
+            };
+            assert_eq!(save(file.len() + 100), written("save", &file));
+            assert_eq!(save(short), refused("save", 6, short));
+            let mut moved = |file: &[u8], length: usize| {
+                let (length, file) = (length as u32, file.to_vec());
+                player.play(&Operation::Move { length, file })
+            };
+            assert_eq!(moved(&other, file.len() + 100), written("move", &file));
+            assert_eq!(moved(&other, short), refused("move", 6, short));
+            assert_eq!(moved(&other[..90], 0), refused("move", 7, 0));
+        }
+        let mut detailed = player.desk().save_as(Form::Two).unwrap();
+        for (place, value) in [(64, 18), (76, 1), (80, 24)] {
+            detailed[place] = value;
+        }
+        let line = player.play(&Operation::Move {
+            length: 5,
+            file: detailed,
+        });
+        assert_eq!(line, refused("move", 8, 5));
+    }
+
+    #[test]
+    fn a_loaded_desk_has_its_own_memory_length() {
         let mut player = Player::new(64);
         let file = player.desk().save().unwrap();
-        let mut whole = file.clone();
-        whole.resize(100, UNWRITTEN);
         let mut line = |operation| player.play(&operation);
-        assert_eq!(
-            line(Operation::Save { length: 100 }),
-            format!("save 0 92 {}", hash(&whole))
-        );
-        let untouched = hash(&[UNWRITTEN; 91]);
-        assert_eq!(
-            line(Operation::Save { length: 91 }),
-            format!("save 6 0 {}", untouched)
-        );
         let mut other = file.clone();
-        other[76] = 65;
+        other[80] = 65;
         let short = file[..90].to_vec();
         assert_eq!(line(Operation::Load { file: short }), "load 7 88");
         assert_eq!(line(Operation::Run { allowance: 1 }), "run 0 0 idle");
-        // Another memory length than the script's memory has.
         assert_eq!(line(Operation::Load { file: other }), "load 0 0");
         assert_eq!(line(Operation::Run { allowance: 1 }), "run 1 0 idle");
         let (answer, allowance) = (HostAnswer::Good, 1);
@@ -215,6 +258,8 @@ mod tests {
             line(Operation::RunElsewhere { allowance, length }),
             "run 0 0 idle"
         );
+        // An old file, without its number.
+        let file = file[4..].to_vec();
         assert_eq!(line(Operation::Load { file }), "load 0 0");
         assert_eq!(line(Operation::Run { allowance: 1 }), "run 0 0 idle");
     }

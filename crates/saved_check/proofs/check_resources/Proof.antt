@@ -3,18 +3,18 @@
 use mathlib.Core.Path.{_≡_}
 use Prim.Native.Nat.{_≤_, _-_, _+_, _*_}
 use native.Mathlib.Omega.{arith}
-use Rattle.rules.specs.Saved.{resources-rules}
+use Rattle.rules.specs.Loaded.{resources-rules}
 use Rattle.saved_fields.specs.Judging.{judge-rules}
 use Rattle.saved_check.specs.Whole.{judging-resources}
 use Rattle.saved_check.proofs.check_resources.Statement.{statement}
 use Rattle.saved_check.proofs.check_resources.Tie as tie
 
 abbrev Inv-loop : tie.InvT-loop
-Inv-loop file count check₀ before₀ at₀ i₀ check before at i =
-    (i ≤ count) × ((at ≡ 92 + 48 * i) × (judge-rules check₀ (resources-rules count file 92 0) ≡ judge-rules check (resources-rules (count - i) file at before)))
+Inv-loop file first count check₀ before₀ at₀ i₀ check before at i =
+    (i ≤ count) × ((at ≡ first + 48 * i) × (judge-rules check₀ (resources-rules count file first 0) ≡ judge-rules check (resources-rules (count - i) file at before)))
 
 abbrev μ-loop : tie.MeasureT-loop
-μ-loop file count check₀ before₀ at₀ i₀ check before at i = count - i
+μ-loop file first count check₀ before₀ at₀ i₀ check before at i = count - i
 
 loop-holds : tie.Need-loop-holds Inv-loop μ-loop
 loop-holds c = (omega arith, (omega arith, search judging-resources))

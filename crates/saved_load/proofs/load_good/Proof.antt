@@ -4,17 +4,23 @@ use borrow.Author.Needs.{needs}
 use Rattle.saved_load.proofs.load_good.Statement.{statement}
 use Rattle.saved_load.proofs.load_good.Tie as tie
 
-u32-at-requires : tie.Need-u32-at-requires
-u32-at-requires c κs = search needs
+before-sections-requires : tie.Need-before-sections-requires
+before-sections-requires c κs = search needs
 
-u32-to-usize-requires : tie.Need-u32-to-usize-requires
-u32-to-usize-requires c κs = search needs
+form-in-requires : tie.Need-form-in-requires
+form-in-requires c κs = search needs
 
-load-resources-requires : tie.Need-load-resources-requires
-load-resources-requires c κs = search needs
+sub-load-sections : tie.Need-sub-load-sections
+sub-load-sections c = search needs
 
-load-words-requires : tie.Need-load-words-requires
-load-words-requires c κs = search needs
+part-load-sections-start : tie.Need-part-load-sections-start
+part-load-sections-start c = search needs
+
+part-load-sections-end : tie.Need-part-load-sections-end
+part-load-sections-end c = search needs
+
+load-sections-requires : tie.Need-load-sections-requires
+load-sections-requires c κs = search loading-good
 
 returns : tie.Need-returns
 returns c = search loading-good
@@ -23,8 +29,10 @@ pub load-good-spec : {M : Type 1} → statement M
 load-good-spec =
     tie.close
     (tie.spec
-    u32-at-requires
-    u32-to-usize-requires
-    load-resources-requires
-    load-words-requires
+    before-sections-requires
+    form-in-requires
+    sub-load-sections
+    part-load-sections-start
+    part-load-sections-end
+    load-sections-requires
     returns)

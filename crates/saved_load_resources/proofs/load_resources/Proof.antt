@@ -3,18 +3,18 @@
 use mathlib.Core.Path.{_≡_}
 use Prim.Native.Nat.{_≤_, _-_, _+_, _*_}
 use native.Mathlib.Omega.{arith}
-use Rattle.rules.specs.Saved.{loaded-resources}
+use Rattle.rules.specs.Loaded.{loaded-resources}
 use Rattle.kept_resources.specs.Views.{resourcesOf}
 use Rattle.saved_load_resources.specs.Loading.{loading-rows}
 use Rattle.saved_load_resources.proofs.load_resources.Statement.{statement}
 use Rattle.saved_load_resources.proofs.load_resources.Tie as tie
 
 abbrev Inv-loop : tie.InvT-loop
-Inv-loop resources₀ file count at₀ i₀ resources at i =
-    (i ≤ count) × ((at ≡ 92 + 48 * i) × (resourcesOf i resources ≡ loaded-resources i file 92))
+Inv-loop resources₀ file start count at₀ i₀ resources at i =
+    (i ≤ count) × ((at ≡ start + 48 * i) × (resourcesOf i resources ≡ loaded-resources i file start))
 
 abbrev μ-loop : tie.MeasureT-loop
-μ-loop resources₀ file count at₀ i₀ resources at i = count - i
+μ-loop resources₀ file start count at₀ i₀ resources at i = count - i
 
 loop-holds : tie.Need-loop-holds Inv-loop μ-loop
 loop-holds c = (omega arith, (omega arith, search loading-rows))

@@ -7,8 +7,8 @@ use Rattle.saved_save.proofs.save.Tie as tie
 element-copy-out-if1 : tie.Need-element-copy-out-if1
 element-copy-out-if1 c = search needs
 
-save-of-requires : tie.Need-save-of-requires
-save-of-requires c κs = search needs
+save-with-requires : tie.Need-save-with-requires
+save-with-requires c κs = search needs
 
 same-length : tie.Need-same-length
 same-length c = search needs
@@ -16,8 +16,8 @@ same-length c = search needs
 returns : tie.Need-returns
 returns c = search saving
 
-save-of-requires-2 : tie.Need-save-of-requires-2
-save-of-requires-2 c κs = search needs
+save-with-requires-2 : tie.Need-save-with-requires-2
+save-with-requires-2 c κs = search needs
 
 same-length-2 : tie.Need-same-length-2
 same-length-2 c = search needs
@@ -30,9 +30,9 @@ save-spec =
     tie.close
     (tie.spec
     element-copy-out-if1
-    save-of-requires
+    save-with-requires
     same-length
     returns
-    save-of-requires-2
+    save-with-requires-2
     same-length-2
     returns-2)

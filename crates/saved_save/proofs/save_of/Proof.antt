@@ -13,6 +13,9 @@ not-saved-requires c κs = search needs
 returns : tie.Need-returns
 returns c = search saving-of
 
+enum-told : tie.Need-enum-told
+enum-told c = search needs
+
 is-beyond-requires : tie.Need-is-beyond-requires
 is-beyond-requires c κs = search needs
 
@@ -22,14 +25,26 @@ not-saved-requires-2 c κs = search needs
 returns-2 : tie.Need-returns-2
 returns-2 c = search saving-of
 
-save-form-requires : tie.Need-save-form-requires
-save-form-requires c κs = search needs
+save-one-requires : tie.Need-save-one-requires
+save-one-requires c κs = search needs
+
+enum-told-2 : tie.Need-enum-told-2
+enum-told-2 c = search needs
+
+save-two-requires : tie.Need-save-two-requires
+save-two-requires c κs = search needs
 
 same-length : tie.Need-same-length
 same-length c = search needs
 
 returns-3 : tie.Need-returns-3
 returns-3 c = search saving-of
+
+same-length-2 : tie.Need-same-length-2
+same-length-2 c = search needs
+
+returns-4 : tie.Need-returns-4
+returns-4 c = search saving-of
 
 pub save-of-spec : {M : Type 1} → statement M
 save-of-spec =
@@ -38,9 +53,14 @@ save-of-spec =
     element-copy-out-if1
     not-saved-requires
     returns
+    enum-told
     is-beyond-requires
     not-saved-requires-2
     returns-2
-    save-form-requires
+    save-one-requires
+    enum-told-2
+    save-two-requires
     same-length
-    returns-3)
+    returns-3
+    same-length-2
+    returns-4)

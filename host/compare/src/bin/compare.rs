@@ -12,7 +12,7 @@ usage: compare [--desks N] [--seed S] [--sliced | --files]
   --desks N   how many desks (20000)
   --seed S    the first desk's seed, the others follow (0)
   --sliced    each run, behind an answer too, whole on one front and in random slices on the other
-  --files     desks into which files are loaded, ten each, and nothing else is done";
+  --files     desks into which files are loaded, ten each, and little else is done: they are saved and moved";
 
 struct Wish {
     seeds: Range<u64>,

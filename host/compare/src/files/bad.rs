@@ -1,86 +1,128 @@
 //! Where a file was bad, for the count of what was reached.
 
-use super::{field_at, ROWS_AT};
+use super::{field, File, Kind, BUFFER, FIELDS, KINDS, NUMBERS};
 use crate::numbers::MOST_NAMES;
 use std::fmt;
-use zelezmut::FileField;
+use zelezmut::{FileField, FileLayout};
 
-/// A field counts for all resources alike: it stands here by its place in the first.
+/// A field counts for all resources, pairs and tokens alike: it stands here by its place in a file with one of each.
 #[derive(Clone, Copy, Debug, PartialEq, Eq, PartialOrd, Ord)]
 pub enum Bad {
-    Missing(usize),
-    Breaks(usize),
+    Missing(Kind, usize),
+    Breaks(Kind, usize),
     /// A byte follows the last field.
-    GoesOn,
+    GoesOn(Kind),
     /// The resource that has the field is the first, a later one, or the last that there may be.
     FirstRow,
     LaterRow,
     LastRow,
+    /// The pair or token that has it is not the first.
+    LaterPair,
+    LaterToken,
 }
 
-/// The numbers of section 1 that have a rule.
-const RULED: [usize; 11] = [0, 4, 8, 12, 16, 32, 52, 60, 72, 84, ROWS_AT];
+/// What a field may be that has no rule.
+const ANY: &str = "any number";
 
 impl Bad {
     /// What there is to say of a file that is bad at this place.
     pub fn seen(file: &[u8], place: usize) -> Vec<Bad> {
-        if place == end(file) {
-            return vec![Bad::GoesOn];
-        }
-        let first = field_at(0, 0);
-        let row = place.saturating_sub(first) / row_length();
-        let class = place - row * row_length();
+        let (kind, layout) = (Kind::of(file), FileLayout::of(file));
+        let field = match layout.field(place) {
+            Some(field) => field,
+            None => return vec![Bad::GoesOn(kind)],
+        };
+        let (class, of_part) = in_the_first(field);
+        let class = with_one_of_each(kind).place(class).unwrap_or(0);
         let bad = if place + 4 > file.len() {
-            Bad::Missing(class)
+            Bad::Missing(kind, class)
         } else {
-            Bad::Breaks(class)
+            Bad::Breaks(kind, class)
         };
-        let of_row = match row {
-            _ if place < first => None,
-            0 => Some(Bad::FirstRow),
-            last if last + 1 == MOST_NAMES => Some(Bad::LastRow),
-            _ => Some(Bad::LaterRow),
-        };
-        [bad].into_iter().chain(of_row).collect()
+        [bad].into_iter().chain(of_part).collect()
     }
 
     /// All that there is to meet.
     pub fn all() -> impl Iterator<Item = Bad> {
-        let rows = || (field_at(0, 0)..field_at(1, 0)).step_by(4);
-        let missing = (0..field_at(0, 0)).step_by(4).chain(rows());
-        let ruled = RULED.into_iter().chain(rows());
-        missing
-            .map(Bad::Missing)
-            .chain(ruled.map(Bad::Breaks))
-            .chain([Bad::GoesOn, Bad::FirstRow, Bad::LaterRow, Bad::LastRow])
+        let of_rows = [Bad::FirstRow, Bad::LaterRow, Bad::LastRow];
+        let of_others = [Bad::LaterPair, Bad::LaterToken];
+        let parts = of_rows.into_iter().chain(of_others);
+        KINDS.into_iter().flat_map(Bad::all_of).chain(parts)
+    }
+
+    /// All fields of a kind of file, and of those with a rule that it is broken. A number that is missing or wrong makes an old file.
+    fn all_of(kind: Kind) -> impl Iterator<Item = Bad> {
+        let layout = with_one_of_each(kind);
+        let numbered = 4 * usize::from(kind != Kind::Old);
+        let places = (numbered..layout.end()).step_by(4);
+        let ruled = places.clone().filter(move |&place| {
+            let field = layout.field(place);
+            field.map_or(false, |field| field.rule() != ANY)
+        });
+        places
+            .map(move |place| Bad::Missing(kind, place))
+            .chain(ruled.map(move |place| Bad::Breaks(kind, place)))
+            .chain([Bad::GoesOn(kind)])
     }
 }
 
-fn row_length() -> usize {
-    field_at(1, 0) - field_at(0, 0)
+/// The same field of the first resource, pair or token, and which one it was of.
+fn in_the_first(field: FileField) -> (FileField, Option<Bad>) {
+    let first = 0;
+    match field {
+        FileField::Resource { index, field } => {
+            let of_row = match index {
+                0 => Bad::FirstRow,
+                last if last + 1 == MOST_NAMES => Bad::LastRow,
+                _ => Bad::LaterRow,
+            };
+            let index = first;
+            (FileField::Resource { index, field }, Some(of_row))
+        }
+        FileField::Name { index, field } => {
+            let later = Some(Bad::LaterPair).filter(|_| index > first);
+            let index = first;
+            (FileField::Name { index, field }, later)
+        }
+        FileField::Token { index, field } => {
+            let later = Some(Bad::LaterToken).filter(|_| index > first);
+            let index = first;
+            (FileField::Token { index, field }, later)
+        }
+        other => (other, None),
+    }
 }
 
-/// Where the last field ends that the file's count promises.
-fn end(file: &[u8]) -> usize {
-    let count = file.get(ROWS_AT..ROWS_AT + 4);
-    let count = count.map_or(0, |word| u32::from_le_bytes(word.try_into().unwrap()));
-    field_at(count as usize, 0)
+/// Where a file of this kind has its fields that has one resource, one pair and one token.
+fn with_one_of_each(kind: Kind) -> FileLayout {
+    let mut row = [0; FIELDS];
+    row[field::KIND] = BUFFER;
+    let mut file = File::new([0; NUMBERS], vec![row]).into_kind(kind);
+    if kind == Kind::Two {
+        file.set_names(vec![[2, 1]]);
+        file.set_tokens(vec![[1, 0, 0]]);
+    }
+    FileLayout::of(&file.bytes())
 }
 
 impl fmt::Display for Bad {
     fn fmt(&self, f: &mut fmt::Formatter<'_>) -> fmt::Result {
-        let name = |place| match FileField::at(place) {
+        let name = |kind: Kind, place| match with_one_of_each(kind).field(place) {
             Some(FileField::Resource { field, .. }) => field.to_string(),
             Some(field) => field.to_string(),
             None => "no field".to_string(),
         };
         match *self {
-            Bad::Missing(place) => write!(f, "missing: {}", name(place)),
-            Bad::Breaks(place) => write!(f, "breaks its rule: {}", name(place)),
-            Bad::GoesOn => write!(f, "goes on"),
+            Bad::Missing(kind, place) => write!(f, "{:?}, missing: {}", kind, name(kind, place)),
+            Bad::Breaks(kind, place) => {
+                write!(f, "{:?}, breaks its rule: {}", kind, name(kind, place))
+            }
+            Bad::GoesOn(kind) => write!(f, "{:?}, goes on", kind),
             Bad::FirstRow => write!(f, "in the first resource"),
             Bad::LaterRow => write!(f, "in a later resource"),
             Bad::LastRow => write!(f, "in the last of 64 resources"),
+            Bad::LaterPair => write!(f, "in a later pair of names"),
+            Bad::LaterToken => write!(f, "in a later token"),
         }
     }
 }

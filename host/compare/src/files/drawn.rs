@@ -1,8 +1,8 @@
 //! Random files: good ones, and good ones with a twist, with two faults at once, cut, continued, or no files at all.
 
 use super::good::{any_word, some_file};
-use super::twists::{lengths, numbers, rows, told, FileTwist, Told};
-use super::{field_at, File, ROWS_AT};
+use super::twists::{lengths, numbers, rows, shares, told, FileTwist, Told};
+use super::{File, Kind};
 use crate::event::Event;
 use crate::random::Random;
 
@@ -27,8 +27,13 @@ impl Loading {
 
 /// A good file as it is, or what becomes of it.
 pub fn some_loading(random: &mut Random, mut file: File) -> Loading {
-    match random.within(0..=19) {
+    match random.within(0..=24) {
         0..=1 => Loading::good(&file),
+        20..=24 => {
+            file.set_kind(Kind::Two);
+            let told = random.pick(shares::TWISTS)(random, &mut file);
+            Loading::of(file.bytes(), told)
+        }
         2..=5 => {
             let told = random.pick(numbers::TWISTS)(random, &mut file);
             Loading::of(file.bytes(), told)
@@ -43,7 +48,7 @@ pub fn some_loading(random: &mut Random, mut file: File) -> Loading {
         }
         12..=15 => with_other_length(random, file.bytes()),
         16..=17 => two_faults(random, file),
-        _ => noise(random, file.bytes()),
+        _ => noise(random, &file),
     }
 }
 
@@ -59,6 +64,7 @@ fn two_faults(random: &mut Random, mut file: File) -> Loading {
         (numbers::TWISTS, Some(lengths::TWISTS)),
         (numbers::TWISTS, None),
         (rows::TWISTS, None),
+        (shares::TWISTS, None),
     ]);
     let one = random.pick(first)(random, &mut file);
     let of_file = second.map(|second| random.pick(second)(random, &mut file));
@@ -75,12 +81,14 @@ fn two_faults(random: &mut Random, mut file: File) -> Loading {
 }
 
 /// Noise all over, behind a good beginning, or here and there in a good file.
-fn noise(random: &mut Random, mut bytes: Vec<u8>) -> Loading {
+fn noise(random: &mut Random, file: &File) -> Loading {
+    let mut bytes = file.bytes();
     let length = random.within(0..=500) as usize;
     match random.within(0..=4) {
         0 => bytes = noise_of(random, length),
         1 => {
-            bytes.truncate(random.pick(&[4, ROWS_AT, ROWS_AT + 4, field_at(1, 0)]));
+            let places = [4, 8, file.rows_at(), file.names_at(), file.tokens_at()];
+            bytes.truncate(random.pick(&places) + random.pick(&[0, 4]));
             bytes.extend(noise_of(random, length));
         }
         2 => {

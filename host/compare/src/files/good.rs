@@ -1,6 +1,7 @@
 //! Good files of desks that nobody played: every rule is kept, often by as little as can be.
 
-use super::{field, number, File, Row, BUFFER, FIELDS, NUMBERS, TEXTURE};
+use super::shares::put_shares;
+use super::{field, number, File, Kind, Row, BUFFER, FIELDS, NUMBERS, TEXTURE};
 use crate::numbers::error::{RING, STATE};
 use crate::numbers::{FORMATS, LONGEST_SIDE, MOST_LAYERS, MOST_NAMES, VERSION};
 use crate::random::Random;
@@ -19,7 +20,21 @@ pub fn some_file(random: &mut Random) -> File {
         _ => random.within(1..=5) as usize,
     };
     let numbers = some_numbers(random);
-    File::new(numbers, some_rows(random, count, &[]))
+    let file = File::new(numbers, some_rows(random, count, &[]));
+    of_some_kind(random, file)
+}
+
+/// The same, old, of form 1 or of form 2; and then with a detail, names and tokens.
+pub fn of_some_kind(random: &mut Random, file: File) -> File {
+    let kind = random.pick(&[Kind::Old, Kind::One, Kind::Two, Kind::Two]);
+    let mut file = file.into_kind(kind);
+    if kind == Kind::Two {
+        if file.numbers[number::ERROR_CODE] != 0 {
+            file.detail = any_word(random);
+        }
+        put_shares(random, &mut file);
+    }
+    file
 }
 
 /// Registers, the memory's length and the doorbell's flag.

@@ -1,16 +1,20 @@
-//! Nights in which a host does little else than load and save: for files of all kinds, one after the other.
+//! Nights in which a host does little else than load, save and move: for files of all kinds, one after the other.
 
 use super::drawn::{some_loading, Loading};
 use super::good::some_file;
-use super::ROWS_AT;
+use super::{File, Kind};
+use crate::event::Event;
 use crate::expected::ExpectedLoad;
 use crate::generator::Drawn;
 use crate::random::Random;
 use zelezmut::script::Operation;
-use zelezmut::LONGEST_SAVED_DESK;
+use zelezmut::{Form, LONGEST_SAVED_DESK};
 
 /// The files of a night.
 const FILES: usize = 10;
+
+/// The bytes of a file of form 1 that has no resources.
+pub const SHORTEST: usize = 96;
 
 /// A desk without memory, into which files are loaded. What one of them left the next one finds.
 pub fn draw(seed: u64) -> Drawn {
@@ -24,35 +28,87 @@ pub fn draw(seed: u64) -> Drawn {
         head_at: 0,
         events: Vec::new(),
     };
-    // The file that was loaded last has so many bytes, if it was good.
-    let mut length = ROWS_AT + 4;
+    // The file that was loaded last, if it was good.
+    let mut last = Vec::new();
     for _ in 0..FILES {
         let file = some_file(&mut random);
         let Loading { bytes, told, event } = some_loading(&mut random, file);
         if told.map_or(false, |told| told.place.is_none()) {
-            length = bytes.len();
+            last = bytes.clone();
         }
         let at = drawn.operations.len();
         drawn
             .loads
             .extend(told.map(|told| ExpectedLoad { at, told }));
         drawn.events.extend(event);
-        drawn.operations.push(Operation::Load { file: bytes });
-        drawn.operations.extend(behind(&mut random, length));
+        drawn.operations.push(Operation::Load {
+            file: bytes.clone(),
+        });
+        behind(&mut random, &mut drawn, (bytes, &last));
     }
     drawn
 }
 
-/// What may follow a load: a save, or a run that finds another memory.
-fn behind(random: &mut Random, length: usize) -> Option<Operation> {
+/// What may follow a load of a file, after another that was good: a save, a move of either, there and back, or a run that finds another
+/// memory.
+fn behind(random: &mut Random, drawn: &mut Drawn, (file, last): (Vec<u8>, &[u8])) {
     match random.within(0..=9) {
         0..=2 => {
-            let length = some_length(random, length);
-            Some(Operation::Save { length })
+            let form = random.pick(&Form::ALL);
+            let length = some_length(random, saved_length(last, form));
+            drawn.operations.push(Operation::Save { form, length });
         }
-        3 => Some(Operation::Run { allowance: 1 }),
-        _ => None,
+        3 => drawn.operations.push(Operation::Run { allowance: 1 }),
+        4 => {
+            let moves = there_and_back(random, last);
+            drawn
+                .events
+                .extend(Some(Event::MovedThereAndBack).filter(|_| moves.len() > 1));
+            drawn.operations.extend(moves);
+        }
+        5..=6 => {
+            let length = some_length(random, moved_length(&file));
+            drawn.operations.push(Operation::Move { length, file });
+        }
+        _ => (),
     }
+}
+
+/// The bytes of a good file's desk in this form, if that has fields for it.
+fn saved_length(file: &[u8], form: Form) -> usize {
+    let mut file = File::read(file);
+    file.set_kind(match form {
+        Form::One => Kind::One,
+        Form::Two => Kind::Two,
+    });
+    file.bytes().len()
+}
+
+/// What a file has in its other form, be it that it has any.
+pub fn moved_length(file: &[u8]) -> usize {
+    saved_length(file, File::read(file).kind.form().other())
+}
+
+/// A good file, moved to the other form and back.
+pub fn there_and_back(random: &mut Random, file: &[u8]) -> Vec<Operation> {
+    let mut moves = Vec::new();
+    let mut file = file.to_vec();
+    for _ in 0..2 {
+        let mut buffer = vec![0; LONGEST_SAVED_DESK];
+        let (answer, length) = plain::move_form(&file, &mut buffer);
+        let exact = moved_length(&file) as u32;
+        let length_of_buffer = random.pick(&[exact, exact, LONGEST_SAVED_DESK as u32]);
+        moves.push(Operation::Move {
+            length: length_of_buffer,
+            file,
+        });
+        if answer != 0 {
+            break;
+        }
+        buffer.truncate(length);
+        file = buffer;
+    }
+    moves
 }
 
 /// Of a buffer for a file of so many bytes: as long, a little shorter or longer, or anything.

@@ -1,9 +1,10 @@
-//! Twists of files: each takes a rule of form 1 and puts a good file on either side of it, in fields that break no other rule.
+//! Twists of files: each takes a rule of the forms and puts a good file on either side of it, in fields that break no other rule.
 //! It says where the file is bad then, so that the fronts are held to the place as well as to one another.
 
 pub mod lengths;
 pub mod numbers;
 pub mod rows;
+pub mod shares;
 
 use super::File;
 use crate::random::Random;

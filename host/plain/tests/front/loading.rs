@@ -1,4 +1,6 @@
-//! Loading: every rule of a file, one either side, with its place.
+//! Loading: every rule of form 1, one either side, with its place. The files
+//! and offsets are those of old files, without the number; each is also tried
+//! with its number, and in form 2 with nothing in its further fields.
 
 use crate::saved::{busy, full, FULL, REGISTERS};
 use crate::scene::*;
@@ -9,6 +11,8 @@ const CODE: usize = 60;
 const FENCE_LO: usize = 64;
 const FENCE_HI: usize = 68;
 const ERRORS: usize = 72;
+/// Where form 2 has one field more.
+const DETAIL: usize = 76;
 const COUNT: usize = 88;
 const HOST_BUFFER: usize = 92;
 const HOST_TEXTURE: usize = 140;
@@ -33,8 +37,8 @@ const MAX: u32 = u32::MAX;
 
 /// Loads a file into a new device and into one that is in work, has tokens, a
 /// second name and a detail. Gives the place of 7, once it has changed
-/// neither, or nothing if both are what the file says.
-fn place(bytes: &[u8]) -> Option<usize> {
+/// neither, or the device, once both are the same.
+pub fn loaded(bytes: &[u8]) -> Result<Desk, usize> {
     let mut new = Desk::new(MEMORY);
     let mut scene = busy();
     let (answer, place) = scene.desk.load(bytes);
@@ -42,18 +46,76 @@ fn place(bytes: &[u8]) -> Option<usize> {
     if answer == 0 {
         assert_eq!(place, 0);
         assert_eq!(scene.desk, new);
-        assert_eq!(saved(&new), bytes);
-        for (i, offset) in REGISTERS.iter().enumerate() {
-            assert_eq!(new.read(*offset), (0, get32(bytes, 4 + 4 * i)));
-        }
-        assert_eq!(new.read(0x320), (0, 0));
-        assert_eq!(new.tokens(), []);
-        return None;
+        return Ok(new);
     }
     assert_eq!(answer, 7);
     assert_eq!(new, Desk::new(MEMORY));
     assert_eq!(scene, busy());
-    Some(place)
+    // A move judges as loading does, before the room.
+    assert_eq!(not_moved(bytes, 0), 7);
+    assert_eq!(not_moved(bytes, LONGEST), 7);
+    Err(place)
+}
+
+/// Loads an old file; gives the place of 7, or nothing if it is good.
+fn place(old: &[u8]) -> Option<usize> {
+    let place = match loaded(old) {
+        Ok(desk) => {
+            assert_is(&desk, old);
+            None
+        }
+        Err(place) => Some(place),
+    };
+    // "Offsets count from the file's first byte, its number included".
+    let in_form_1 = loaded(&numbered(old)).err();
+    assert_eq!(in_form_1, place.map(|place| place + 4));
+    if let Some(form_2) = in_form_2(old) {
+        let in_form_2 = loaded(&form_2).err();
+        let behind = |place| if place < DETAIL { 4 } else { 8 };
+        assert_eq!(in_form_2, place.map(|place| place + behind(place)));
+    }
+    place
+}
+
+/// The device is what the old file says, and the same from other forms of it.
+fn assert_is(desk: &Desk, old: &[u8]) {
+    for (i, offset) in REGISTERS.iter().enumerate() {
+        assert_eq!(desk.read(*offset), (0, get32(old, 4 + 4 * i)));
+    }
+    assert_eq!(desk.read(0x320), (0, 0));
+    assert_eq!(desk.tokens(), []);
+    let form_1 = numbered(old);
+    assert_eq!(saved(desk), form_1);
+    let form_2 = in_form_2(old).unwrap();
+    assert_eq!(saved_2(desk), form_2);
+    // "Loading either gives the same device."
+    for bytes in [&form_1, &form_2] {
+        assert_eq!(loaded(bytes).as_ref(), Ok(desk));
+    }
+    assert_eq!(moved(old), form_2);
+    assert_eq!(moved(&form_1), form_2);
+    assert_eq!(moved(&form_2), form_1);
+}
+
+/// The old file's fields in form 2, without other names, tokens and detail; if
+/// it has the fields that its count promises and no more.
+fn in_form_2(old: &[u8]) -> Option<Vec<u8>> {
+    let count = get32(old.get(COUNT..COUNT + 4)?, 0) as usize;
+    if old.len() != COUNT + 4 + 48 * count {
+        return None;
+    }
+    let first = get32(old, 0).wrapping_add(1);
+    let (registers, rest) = old[4..].split_at(DETAIL - 4);
+    Some(
+        [
+            &file(&[2, first]),
+            registers,
+            &file(&[0]),
+            rest,
+            &file(&[0, 0]),
+        ]
+        .concat(),
+    )
 }
 
 /// The full file with these fields changed, each at its offset.
@@ -96,7 +158,7 @@ fn the_full_file_is_good() {
 
 #[test]
 fn every_cut_is_at_the_start_of_the_field() {
-    for bytes in [file(&FULL), saved(&Desk::new(MEMORY))] {
+    for bytes in [file(&FULL), saved(&Desk::new(MEMORY))[4..].to_vec()] {
         for length in 0..bytes.len() {
             assert_eq!(place(&bytes[..length]), Some(length / 4 * 4));
         }
@@ -105,7 +167,7 @@ fn every_cut_is_at_the_start_of_the_field() {
 
 #[test]
 fn a_byte_after_the_last_field() {
-    for bytes in [file(&FULL), saved(&Desk::new(MEMORY))] {
+    for bytes in [file(&FULL), saved(&Desk::new(MEMORY))[4..].to_vec()] {
         for more in [1, 2, 3, 4, 5, 48, 49, 1000] {
             for junk in [0, 1, 0xFF] {
                 let mut longer = bytes.clone();
@@ -118,13 +180,54 @@ fn a_byte_after_the_last_field() {
 
 #[test]
 fn the_first_sections_count() {
-    assert_field(0, &[21], &[0, 1, 2, 19, 20, 22, 23, 0x1500_0000, MAX]);
+    assert_field(0, &[21], &[0, 3, 19, 20, 22, 23, 0x1500_0000, MAX]);
     // Nothing after it is looked at.
     assert_bad(&[(0, 20), (4, 0), (32, 2), (COUNT, 65)], 0);
-    for fields in [&[22][..], &[1, 21], &[2, 22], &[0]] {
+    for fields in [&[22][..], &[3, 21], &[0, 21], &[0]] {
         assert_eq!(place(&file(fields)), Some(0));
     }
     assert_eq!(place(&file(&[21])), Some(4));
+}
+
+/// The full file's fields behind these.
+fn behind(front: &[u32]) -> Vec<u8> {
+    file(&[front, &FULL].concat())
+}
+
+#[test]
+fn numbers_in_front() {
+    assert_eq!(loaded(&behind(&[])), Ok(full().desk));
+    assert_eq!(loaded(&behind(&[1])), Ok(full().desk));
+    // "a first word that is neither 1 nor 2 is read as an old file's".
+    for number in [0, 3, 4, 20, 22, 0x0100_0000, 0x8000_0001, MAX] {
+        assert_eq!(loaded(&behind(&[number])), Err(0));
+    }
+    assert_eq!(loaded(&behind(&[21])), Err(4));
+    // Form 2's first section has another count.
+    assert_eq!(loaded(&behind(&[2])), Err(4));
+    // One number is enough.
+    for number in [0, 1, 2, 3, 22] {
+        assert_eq!(loaded(&behind(&[1, number])), Err(4));
+        assert_eq!(
+            loaded(&behind(&[2, number])),
+            Err(if number == 22 { 8 } else { 4 })
+        );
+    }
+    let old = file(&FULL);
+    for number in [1, 2] {
+        // The first count of an old file was no number, so 1 and 2 there are
+        // numbers now, and the next field is the count.
+        assert_eq!(loaded(&changed(&[(0, number)])), Err(4));
+        assert_eq!(loaded(&file(&[number])), Err(4));
+        // A number cut short is a missing first field.
+        for length in 0..4 {
+            assert_eq!(loaded(&file(&[number])[..length]), Err(0));
+        }
+        for length in 4..8 {
+            let bytes = [&file(&[number]), &old[..]].concat();
+            assert_eq!(loaded(&bytes[..length]), Err(4));
+        }
+    }
 }
 
 #[test]
@@ -520,7 +623,7 @@ fn the_memory_length_is_the_files() {
     for length in [0, 1 << 32, 0x1_0000_4000, u64::MAX] {
         put64(&mut bytes, 76, length);
         assert_eq!(scene.desk.load(&bytes), (0, 0));
-        assert_eq!(get64(&saved(&scene.desk), 76), length);
+        assert_eq!(get64(&saved(&scene.desk), 80), length);
         assert_eq!(scene.run(1).answer, 1);
         assert_eq!(scene.desk.run(&mut other, 1).answer, 1);
         let empty = if length == 0 { 0 } else { 1 };

@@ -3,9 +3,12 @@
 mod answering;
 mod detail;
 mod entries;
+mod form_2;
+mod form_2_loading;
 mod grown;
 mod hostile;
 mod loading;
+mod moving;
 mod night_log;
 mod opening;
 mod packets;

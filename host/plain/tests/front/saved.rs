@@ -1,4 +1,5 @@
-//! Saving: what a file holds, when there is none, and what comes back of it.
+//! Saving in form 1: what a file holds, when there is none, and what comes back
+//! of it.
 
 use crate::scene::*;
 use plain::{Desk, Ended};
@@ -11,7 +12,7 @@ pub const REGISTERS: [u32; 18] = [
     0x304, 0x310, 0x314, 0x318, 0x31C,
 ];
 
-/// The file of [`full`], field by field.
+/// The old file of [`full`], field by field: form 1 without its number.
 #[rustfmt::skip]
 pub const FULL: [u32; 71] = [
     // Section 1: the registers, the memory length, the doorbell flag.
@@ -78,7 +79,8 @@ fn refused(desk: &Desk, length: usize) -> u32 {
 
 #[test]
 fn a_full_file_field_by_field() {
-    assert_eq!(saved(&full().desk), file(&FULL));
+    // "Saving in form 1 writes the number 1 first".
+    assert_eq!(saved(&full().desk), numbered(&file(&FULL)));
 }
 
 #[test]
@@ -87,7 +89,7 @@ fn a_new_devices_file() {
     fields[..5].copy_from_slice(&[21, u32::from_le_bytes(*b"AGPU"), 65_539, 7, 0]);
     for length in [0, 1, 4096] {
         fields[19] = length as u32;
-        assert_eq!(saved(&Desk::new(length)), file(&fields));
+        assert_eq!(saved(&Desk::new(length)), numbered(&file(&fields)));
     }
 }
 
@@ -101,7 +103,7 @@ fn registers_stand_by_rising_offset() {
         scene.write(offset, 0xABCD_EF00 + i as u32);
         let bytes = saved(&scene.desk);
         for (i, offset) in REGISTERS.iter().enumerate() {
-            assert_eq!(get32(&bytes, 4 + 4 * i), scene.read(*offset));
+            assert_eq!(get32(&bytes, 8 + 4 * i), scene.read(*offset));
         }
     }
 }
@@ -109,19 +111,19 @@ fn registers_stand_by_rising_offset() {
 #[test]
 fn the_flag_and_the_control_bit() {
     let mut scene = full();
-    assert_eq!(get32(&saved(&scene.desk), 84), 1);
+    assert_eq!(get32(&saved(&scene.desk), 88), 1);
     let ran = scene.run(9);
     assert_eq!((ran.units, ran.ended), (1, Ended::Idle));
-    assert_eq!(get32(&saved(&scene.desk), 84), 0);
+    assert_eq!(get32(&saved(&scene.desk), 88), 0);
     scene.write(0x10C, 0);
-    assert_eq!(get32(&saved(&scene.desk), 32), 0);
+    assert_eq!(get32(&saved(&scene.desk), 36), 0);
     scene.write(0x200, 0);
     let bytes = saved(&scene.desk);
-    assert_eq!((get32(&bytes, 32), get32(&bytes, 84)), (0, 1));
+    assert_eq!((get32(&bytes, 36), get32(&bytes, 88)), (0, 1));
     scene.write(0x10C, 3);
     let bytes = saved(&scene.desk);
-    assert_eq!((get32(&bytes, 32), get32(&bytes, 84)), (1, 0));
-    assert_eq!(bytes.len(), 92);
+    assert_eq!((get32(&bytes, 36), get32(&bytes, 88)), (1, 0));
+    assert_eq!(bytes.len(), 96);
 }
 
 #[test]
@@ -194,45 +196,45 @@ fn five_from_opening_to_settling() {
         let head = scene.head();
         scene.put_ring(RING, head);
         scene.submit(&ENTRIES, &[dirty(9, 16, 32)], 1);
-        assert_eq!(saved(&scene.desk).len(), 284);
+        assert_eq!(saved(&scene.desk).len(), 288);
         for _ in 0..4 {
             assert_eq!(scene.run(1).units, 1);
             scene.write(0x10C, control);
-            assert_eq!(refused(&scene.desk, 284), 5);
+            assert_eq!(refused(&scene.desk, 288), 5);
             assert_eq!(refused(&scene.desk, 4096), 5);
             scene.write(0x10C, 1);
         }
         scene.write(0x10C, control);
         assert_eq!(scene.run(0).ended, Ended::Waiting);
-        assert_eq!(refused(&scene.desk, 284), 5);
+        assert_eq!(refused(&scene.desk, 288), 5);
         assert_eq!(scene.answer(true), 0);
-        assert_eq!(saved(&scene.desk).len(), 284);
+        assert_eq!(saved(&scene.desk).len(), 288);
     }
 }
 
 #[test]
 fn six_for_every_buffer_too_short() {
     let desk = full().desk;
-    for length in 0..284 {
+    for length in 0..288 {
         assert_eq!(refused(&desk, length), 6);
     }
     let new = Desk::new(0);
-    for length in 0..92 {
+    for length in 0..96 {
         assert_eq!(refused(&new, length), 6);
     }
-    assert_eq!(new.save(&mut [0; 92]), (0, 92));
+    assert_eq!(new.save(&mut [0; 96]), (0, 96));
 }
 
 #[test]
 fn later_bytes_stay() {
     let desk = full().desk;
-    let bytes = file(&FULL);
+    let bytes = numbered(&file(&FULL));
     for more in [0, 1, 2, 3, 4, 48, 1000] {
-        let mut buffer: Vec<u8> = (0..284 + more).map(|at| at as u8).collect();
+        let mut buffer: Vec<u8> = (0..288 + more).map(|at| at as u8).collect();
         let before = buffer.clone();
-        assert_eq!(desk.save(&mut buffer), (0, 284));
-        assert_eq!(buffer[..284], bytes);
-        assert_eq!(buffer[284..], before[284..]);
+        assert_eq!(desk.save(&mut buffer), (0, 288));
+        assert_eq!(buffer[..288], bytes);
+        assert_eq!(buffer[288..], before[288..]);
     }
 }
 
@@ -251,17 +253,17 @@ fn five_then_eight_then_six() {
     scene.write(0x108, 0);
     scene.write(0x200, 0);
     assert_eq!(scene.verdict(), (10, 1));
-    assert_eq!(refused(&scene.desk, 91), 6);
-    assert_eq!(saved(&scene.desk).len(), 92);
+    assert_eq!(refused(&scene.desk, 95), 6);
+    assert_eq!(saved(&scene.desk).len(), 96);
 }
 
 #[test]
 fn five_comes_before_six() {
     let mut scene = Scene::with(&[], &[]);
-    assert_eq!(refused(&scene.desk, 91), 6);
+    assert_eq!(refused(&scene.desk, 95), 6);
     assert_eq!(scene.run(1).units, 1);
     assert_eq!(refused(&scene.desk, 0), 5);
-    assert_eq!(refused(&scene.desk, 91), 5);
+    assert_eq!(refused(&scene.desk, 95), 5);
 }
 
 #[test]
@@ -289,7 +291,7 @@ fn eight_once_any_token_was_used() {
         scene.write(0x10C, 0);
         assert_eq!(refused(&scene.desk, 4096), 8);
         scene.write(0x10C, 2);
-        assert_eq!(saved(&scene.desk).len(), 92);
+        assert_eq!(saved(&scene.desk).len(), 96);
     }
 }
 
@@ -298,7 +300,7 @@ fn eight_for_tokens_lasts_until_a_load() {
     let mut scene = Scene::new();
     let bytes = saved(&scene.desk);
     assert_eq!(scene.settle(&[], &[surface(1), export(1, 5)]), 0);
-    assert_eq!(scene.desk.load(&bytes[..88]), (7, 88));
+    assert_eq!(scene.desk.load(&bytes[..92]), (7, 92));
     assert_eq!(refused(&scene.desk, 4096), 8);
     assert_eq!(scene.desk.load(&bytes), (0, 0));
     assert_eq!(saved(&scene.desk), bytes);
@@ -314,12 +316,12 @@ fn a_token_of_a_failed_submission_was_not_used() {
     assert_eq!(scene.verdict().0, 0);
     assert_eq!(refused(&scene.desk, 4096), 5);
     assert_eq!(scene.answer(false), 0);
-    assert_eq!(saved(&scene.desk).len(), 92);
+    assert_eq!(saved(&scene.desk).len(), 96);
     // Nor is one that a reset takes out of work.
     scene.submit(&[], &[surface(1), export(1, 5)], 1);
     assert_eq!(scene.verdict().0, 0);
     scene.write(0x10C, 3);
-    assert_eq!(saved(&scene.desk).len(), 92);
+    assert_eq!(saved(&scene.desk).len(), 96);
     let head = scene.head();
     scene.put_ring(RING, head);
     // A refused one leaves only its detail.
@@ -331,7 +333,7 @@ fn a_token_of_a_failed_submission_was_not_used() {
     scene.submit(&[], &[], 1);
     assert_eq!(scene.verdict().0, 0);
     assert_eq!(scene.answer(false), 0);
-    assert_eq!(saved(&scene.desk).len(), 92);
+    assert_eq!(saved(&scene.desk).len(), 96);
 }
 
 #[test]
@@ -339,7 +341,7 @@ fn eight_as_long_as_the_detail_is_not_0() {
     let mut scene = Scene::new();
     // An entry at index 0 has detail 0, one at index 1 has not.
     assert_eq!(scene.settle(&[(0, 0, 0, 1)], &[]), 14);
-    assert_eq!(get32(&saved(&scene.desk), 60), 14);
+    assert_eq!(get32(&saved(&scene.desk), 64), 14);
     assert_eq!(scene.settle(&[(1, 0, 0, 1), (1, 0, 0, 1)], &[]), 15);
     assert_eq!(scene.detail(), 1);
     assert_eq!(refused(&scene.desk, 4096), 8);
@@ -354,12 +356,12 @@ fn eight_as_long_as_the_detail_is_not_0() {
     let mut loaded = scene.clone();
     assert_eq!(loaded.desk.load(&file(&FULL)), (0, 0));
     assert_eq!(loaded.detail(), 0);
-    assert_eq!(saved(&loaded.desk), file(&FULL));
+    assert_eq!(saved(&loaded.desk), numbered(&file(&FULL)));
     scene.submit(&[], &[], 1);
     assert_eq!(scene.verdict().0, 0);
     assert_eq!(scene.answer(false), 0);
     assert_eq!(scene.detail(), 0);
-    assert_eq!(saved(&scene.desk).len(), 92);
+    assert_eq!(saved(&scene.desk).len(), 96);
 }
 
 #[test]
@@ -373,9 +375,9 @@ fn every_error_without_a_place_is_saved() {
         let mut desk = Desk::new(1);
         assert_eq!(desk.load(&bytes), (0, 0));
         assert_eq!(desk, scene.desk);
-        assert_eq!(get32(&bytes, 60), error);
+        assert_eq!(get32(&bytes, 64), error);
         let fence = if error == 10 { 0 } else { 0x1_0000_0002 };
-        assert_eq!(get64(&bytes, 64), fence);
+        assert_eq!(get64(&bytes, 68), fence);
     }
     assert_eq!((scene.error(), scene.errors()), (10, 3));
 }

@@ -1,6 +1,6 @@
 //! Memory images and a device set up over them.
 
-use plain::{Desk, Ended, Ran, Record};
+use plain::{move_form, Desk, Ended, Ran, Record};
 
 pub const MEMORY: usize = 16_384;
 pub const FENCE: usize = 512;
@@ -218,13 +218,48 @@ pub fn file(fields: &[u32]) -> Vec<u8> {
         .collect()
 }
 
-/// The device's file, which is not longer than that of 64 resources.
-pub fn saved(desk: &Desk) -> Vec<u8> {
-    let mut buffer = vec![0xAA; 92 + 64 * 48];
-    let (answer, length) = desk.save(&mut buffer);
+/// No file is longer: form 2, 64 resources and 256 tokens.
+pub const LONGEST: usize = 4 * (25 + 64 * 12 + 1 + 1 + 256 * 3);
+
+/// The file that a call has written to the start of a buffer.
+fn written(write: impl FnOnce(&mut [u8]) -> (u32, usize)) -> Vec<u8> {
+    let mut buffer = vec![0xAA; LONGEST];
+    let (answer, length) = write(&mut buffer);
     assert_eq!(answer, 0);
     buffer.truncate(length);
     buffer
+}
+
+/// The device's file in form 1.
+pub fn saved(desk: &Desk) -> Vec<u8> {
+    written(|buffer| desk.save(buffer))
+}
+
+/// The device's file in form 2.
+pub fn saved_2(desk: &Desk) -> Vec<u8> {
+    written(|buffer| desk.save_form_2(buffer))
+}
+
+/// The file in the other form.
+pub fn moved(bytes: &[u8]) -> Vec<u8> {
+    written(|buffer| move_form(bytes, buffer))
+}
+
+/// An old file with the number of form 1 in front.
+pub fn numbered(old: &[u8]) -> Vec<u8> {
+    [&file(&[1]), old].concat()
+}
+
+/// Tries to move a file into a buffer of this length; gives the answer, once
+/// nothing else has come of it.
+pub fn not_moved(bytes: &[u8], length: usize) -> u32 {
+    let mut buffer: Vec<u8> = (0..length).map(|at| at as u8).collect();
+    let before = buffer.clone();
+    let (answer, length) = move_form(bytes, &mut buffer);
+    assert_ne!(answer, 0);
+    assert_eq!(length, 0);
+    assert_eq!(buffer, before);
+    answer
 }
 
 /// A device and its memory.

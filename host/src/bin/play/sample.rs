@@ -1,10 +1,10 @@
-//! The sample night: thirteen submissions of one guest, and a host that is swapped between two of them, written as a desk script and played
+//! The sample night: thirteen submissions of one guest, and a host that is swapped twice between them, written as a desk script and played
 //! like one, each line of the transcript with what it means. It is in two halves, since an example plays them in two programs.
 use std::io::{self, Write};
 use zelezmut::guest::{self, Backing, Clear, Descriptor, Entry, Packet, Part};
 use zelezmut::guest::{Scissor, Shape, Viewport};
 use zelezmut::script::{self, Operation, Player};
-use zelezmut::{registers, FileField, HostAnswer, Refused};
+use zelezmut::{registers, FileField, FileLayout, Form, HostAnswer, NameField, Refused};
 
 /// The bytes of the guest's memory.
 pub const MEMORY: u32 = 16_384;
@@ -94,6 +94,10 @@ fn write(offset: u32, value: u32, meaning: &'static str) -> Step {
     (Operation::Write { offset, value }, meaning)
 }
 
+fn reset(meaning: &'static str) -> Step {
+    write(registers::CONTROL, registers::CONTROL_RESET, meaning)
+}
+
 fn read(offset: u32, meaning: &'static str) -> Step {
     (Operation::Read { offset }, meaning)
 }
@@ -110,13 +114,18 @@ fn answer(answer: HostAnswer, allowance: u16, meaning: &'static str) -> Step {
     (Operation::Answer { answer, allowance }, meaning)
 }
 
-fn save(length: u32, meaning: &'static str) -> Step {
-    (Operation::Save { length }, meaning)
+fn save(form: Form, length: u32, meaning: &'static str) -> Step {
+    (Operation::Save { form, length }, meaning)
 }
 
 fn load(file: &[u8], meaning: &'static str) -> Step {
     let file = file.to_vec();
     (Operation::Load { file }, meaning)
+}
+
+fn move_form(length: u32, file: &[u8], meaning: &'static str) -> Step {
+    let file = file.to_vec();
+    (Operation::Move { length, file }, meaning)
 }
 
 /// The guest writes submission `fence` into its slot, moves the tail and rings. Fences count from 1, and slots from 0.
@@ -329,7 +338,11 @@ fn refused_at_a_packet() -> Scene {
             registers::IRQ_FENCE | registers::IRQ_ERROR,
             "the guest takes note of both",
         ),
-        save(256, "a saved desk has no field for the detail: answer 8"),
+        save(
+            Form::One,
+            256,
+            "a desk saved in form 1 has no field for the detail: answer 8",
+        ),
     ]);
     Scene {
         heading: "Submission 3 is refused: a packet names a resource that is not there.",
@@ -346,7 +359,11 @@ fn failed() -> Scene {
     steps.extend([
         run(100, "four units: opening, two entries, one packet"),
         record(0, "nothing to read or write: no record, answer 4"),
-        save(256, "and no saving while a submission is in work: answer 5"),
+        save(
+            Form::One,
+            256,
+            "and no saving while a submission is in work: answer 5",
+        ),
         answer(
             HostAnswer::Failed,
             100,
@@ -366,33 +383,42 @@ fn failed() -> Scene {
     }
 }
 
+/// A file in which a field has another number.
+fn spoilt(file: &[u8], field: FileField, value: u8) -> Vec<u8> {
+    let mut spoilt = file.to_vec();
+    if let Some(place) = FileLayout::of(file).place(field) {
+        spoilt[place] = value;
+    }
+    spoilt
+}
+
 /// Between two submissions another host takes over. It gets the file that the desk was saved as.
 fn moved(file: &[u8]) -> Scene {
-    let mut spoilt = file.to_vec();
     let control = FileField::Register(registers::CONTROL);
-    spoilt[control.place()] = 2;
+    let spoilt = spoilt(file, control, 2);
     Scene {
         heading: "The host is swapped: the desk is saved, and loaded where another host takes over.",
         steps: vec![
             save(
+                Form::One,
                 100,
                 "the detail is 0 by now, but a buffer of 100 bytes is too short: answer 6",
             ),
             save(
+                Form::One,
                 256,
-                "236 bytes: 92, and 48 for each of texture 1 and buffers 2 and 3. Later bytes are kept",
+                "240 bytes: 96, and 48 for each of texture 1 and buffers 2 and 3. Later bytes are kept",
             ),
-            write(
-                registers::CONTROL,
-                registers::CONTROL_RESET,
-                "the other host's device: it is reset, and has no resources",
-            ),
+            reset("the other host's device: it is reset, and has no resources"),
             read(registers::COMPLETED_FENCE_LO, "no fence is finished there"),
             load(
                 &spoilt,
-                "a file in which control is 2: answer 7; control stands at byte 32",
+                "a file in which control is 2: answer 7; control stands at byte 36",
             ),
-            load(&file[..100], "the first 100 bytes alone: the field at 100 is missing, a size"),
+            load(
+                &file[..100],
+                "the first 100 bytes alone: the field at 100 is missing, a kind",
+            ),
             load(file, "the file as it was saved"),
             read(registers::COMPLETED_FENCE_LO, "fence 4 is finished"),
             read(registers::CONTROL, "and the device is enabled"),
@@ -588,6 +614,45 @@ fn imported() -> Scene {
     }
 }
 
+/// The same once more, with what form 1 has no field for; `earlier` is the file of the first time.
+fn moved_with_names(earlier: &[u8], file: &[u8]) -> Scene {
+    let (index, field) = (0, NameField::Lowest);
+    let spoilt = spoilt(file, FileField::Name { index, field }, NEVER_MADE as u8);
+    let steps = vec![
+        save(Form::One, 512, "form 1 has no field for a second name, a token or a detail: answer 8"),
+        save(
+            Form::Two,
+            512,
+            "form 2 does: 100 bytes, 48 for each of three resources, 12 for the names, 16 for the tokens",
+        ),
+        move_form(
+            512,
+            file,
+            "nor can that file be moved back to form 1: answer 8",
+        ),
+        move_form(
+            512,
+            earlier,
+            "the file of the first swap can be moved to form 2: one more register, two more counts",
+        ),
+        reset("the other host's device: it is reset, and knows no names and no tokens"),
+        load(
+            &spoilt,
+            "a file in which 20 is another name of 9: answer 7; there is no 9. It stands at byte 252",
+        ),
+        load(file, "the file as it was saved, of which the first number says its form"),
+        read(
+            registers::ERROR_DETAIL,
+            "detail: 56, as it was. Form 2 has that register, too",
+        ),
+    ];
+    Scene {
+        heading:
+            "The host is swapped again, over night: name 20 and the token are saved, in form 2.",
+        steps,
+    }
+}
+
 fn one_name_left() -> Scene {
     let dirty = |handle| Packet::DirtyRange {
         handle,
@@ -652,15 +717,15 @@ fn released() -> Scene {
 }
 
 /// What the desk is saved as after these scenes.
-fn saved_after(scenes: &[Scene]) -> Result<Vec<u8>, Refused> {
+fn saved_after(scenes: &[Scene], form: Form) -> Result<Vec<u8>, Refused> {
     let mut player = Player::new(MEMORY);
     for operation in operations(scenes) {
         player.play(&operation);
     }
-    player.desk().save()
+    player.desk().save_as(form)
 }
 
-/// The night, up to where another host has taken over, and from there on.
+/// The night, up to where another host has taken over for the second time, and from there on.
 pub fn halves() -> Result<[Vec<Scene>; 2], Refused> {
     let mut first = vec![
         set_up(),
@@ -669,19 +734,19 @@ pub fn halves() -> Result<[Vec<Scene>; 2], Refused> {
         refused_at_a_packet(),
         failed(),
     ];
-    let file = saved_after(&first)?;
-    first.push(moved(&file));
-    let second = vec![
+    let earlier = saved_after(&first, Form::One)?;
+    first.extend([
+        moved(&earlier),
         refused_at_an_entry(),
         kept_alive(),
         drawing(),
         without_a_target(),
         exported(),
         imported(),
-        one_name_left(),
-        released(),
-    ];
-    Ok([first, second])
+    ]);
+    let file = saved_after(&first, Form::Two)?;
+    first.push(moved_with_names(&earlier, &file));
+    Ok([first, vec![one_name_left(), released()]])
 }
 
 /// The operations of some scenes, as the file of a desk script has them.

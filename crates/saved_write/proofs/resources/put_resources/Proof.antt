@@ -1,29 +1,28 @@
 -- `put_resources` meets its contract. The invariant: the first i resources are written. The measure is those that are left. Assumes nothing.
-use mathlib.Core.Path.{_≡_}
 use Prim.Native.Nat.{_≤_, _-_}
 use native.Mathlib.Omega.{arith}
-use Rattle.rules.specs.Lists.{over}
-use Rattle.rules.specs.Saved.{head-bytes, resources-fields, file-of}
-use Rattle.saved_order.specs.Orders.{listed}
+use Rattle.rules.specs.Saved.{resource-bytes, resource-fields}
+use Rattle.kept_resources.specs.Views.{resourceOf}
+use Rattle.saved_write.specs.Items.{WritesTo}
 use Rattle.saved_write.specs.Resources.{writing-resources}
 use Rattle.saved_write.proofs.resources.put_resources.Statement.{statement}
 use Rattle.saved_write.proofs.resources.put_resources.Tie as tie
 
 abbrev Inv-loop : tie.InvT-loop
-Inv-loop buffer₀ resources order count i₀ buffer i =
-    (i ≤ count) × (buffer ≡ over head-bytes (file-of (resources-fields (listed i resources order))) buffer₀)
+Inv-loop buffer₀ at resources order count i₀ buffer i =
+    (i ≤ count) × WritesTo resource-fields resourceOf 12 resource-bytes at resources order buffer₀ i buffer
 
 abbrev μ-loop : tie.MeasureT-loop
-μ-loop buffer₀ resources order count i₀ buffer i = count - i
+μ-loop buffer₀ at resources order count i₀ buffer i = count - i
 
 loop-holds : tie.Need-loop-holds Inv-loop μ-loop
 loop-holds c = (omega arith, search writing-resources)
 
-mul-at : tie.Need-mul-at Inv-loop μ-loop
-mul-at c = search writing-resources
+mul-start : tie.Need-mul-start Inv-loop μ-loop
+mul-start c = search writing-resources
 
-add-at : tie.Need-add-at Inv-loop μ-loop
-add-at c = search writing-resources
+add-start : tie.Need-add-start Inv-loop μ-loop
+add-start c = search writing-resources
 
 mul-resource-row : tie.Need-mul-resource-row Inv-loop μ-loop
 mul-resource-row c = search writing-resources
@@ -59,8 +58,8 @@ put-resources-spec =
     Inv-loop
     μ-loop
     loop-holds
-    mul-at
-    add-at
+    mul-start
+    add-start
     mul-resource-row
     element-copy-out-resource-row
     resource-row-requires

@@ -2,7 +2,7 @@
 
 use super::{told, FileTwist, Told};
 use crate::files::good::{any_word, FEATURES, MAGIC};
-use crate::files::{number, number_at, File, NUMBERS};
+use crate::files::{number, File, Kind};
 use crate::numbers::error::{RING, STATE};
 use crate::numbers::VERSION;
 use crate::random::Random;
@@ -22,15 +22,33 @@ pub const TWISTS: &[FileTwist] = &[
     no_error,
     an_error,
     an_error,
+    detail,
+    detail,
     any_number,
     memory,
 ];
 
 fn count(random: &mut Random, file: &mut File) -> Option<Told> {
-    let own = NUMBERS as u32;
-    let other = random.pick(&[0, 1, 2, own - 1, own - 1, own + 1, own + 1, u32::MAX]);
+    let own = file.kind.numbers();
+    // In an old file 1 and 2 would be numbers of a form.
+    let small = if file.kind == Kind::Old { 3 } else { 1 };
+    let near = [own - 1, own + 1];
+    let other = random.pick(&[
+        0,
+        small,
+        small + 1,
+        near[0],
+        near[0],
+        near[1],
+        near[1],
+        u32::MAX,
+    ]);
     file.numbers_said = random.pick(&[own, other]);
-    told("section 1: 21 numbers", file.numbers_said == own, 0)
+    told(
+        "section 1: 21 or 22 numbers",
+        file.numbers_said == own,
+        file.sections_at(),
+    )
 }
 
 /// A register that has one value only gets that, one beside it, one that a bit tells apart, or any.
@@ -43,7 +61,8 @@ fn fixed(
     let any = any_word(random);
     let near = [value.wrapping_sub(1), value.wrapping_add(1)];
     file.numbers[number] = random.pick(&[value, value, near[0], near[1], bit, any]);
-    told(rule, file.numbers[number] == value, number_at(number))
+    let at = file.number_at(number);
+    told(rule, file.numbers[number] == value, at)
 }
 
 fn magic(random: &mut Random, file: &mut File) -> Option<Told> {
@@ -71,7 +90,8 @@ fn at_most(
 ) -> Option<Told> {
     let any = any_word(random);
     file.numbers[number] = random.pick(&[0, most, most, most + 1, most + 1, any]);
-    told(rule, file.numbers[number] <= most, number_at(number))
+    let at = file.number_at(number);
+    told(rule, file.numbers[number] <= most, at)
 }
 
 fn control(random: &mut Random, file: &mut File) -> Option<Told> {
@@ -94,15 +114,32 @@ fn code(random: &mut Random, file: &mut File) -> Option<Told> {
     let code = random.pick(&edges);
     put_error(file, [code, 0, 0, u32::from(code != 0)]);
     let good = code == 0 || (RING..=STATE).contains(&code);
-    told(
-        "error code 0 or 10 to 30",
-        good,
-        number_at(number::ERROR_CODE),
-    )
+    let at = file.number_at(number::ERROR_CODE);
+    told("error code 0 or 10 to 30", good, at)
 }
 
+/// Without a code there is no detail either.
 fn put_error(file: &mut File, error: [u32; 4]) {
     file.numbers[number::ERROR_CODE..=number::ERROR_COUNT].copy_from_slice(&error);
+    if error[0] == 0 {
+        file.detail = 0;
+    }
+}
+
+/// The detail of form 2: any number beside a code, 0 without one.
+fn detail(random: &mut Random, file: &mut File) -> Option<Told> {
+    if file.kind != Kind::Two {
+        return None;
+    }
+    let code = random.pick(&[0, 0, RING, 14, STATE]);
+    put_error(file, [code, 0, 0, u32::from(code != 0)]);
+    let some = any_word(random);
+    file.detail = random.pick(&[0, 0, 1, some, u32::MAX]);
+    let rule = match code {
+        0 => "no error and its detail",
+        _ => "an error and its detail",
+    };
+    told(rule, code != 0 || file.detail == 0, file.detail_at())
 }
 
 /// Code 0, beside which fence and count are 0. Whichever is not, it is told at the count.
@@ -115,7 +152,7 @@ fn no_error(random: &mut Random, file: &mut File) -> Option<Told> {
         ("no error and a fence HI", [0, 0, some, 0]),
     ]);
     put_error(file, error);
-    told(rule, error == [0; 4], number_at(number::ERROR_COUNT))
+    told(rule, error == [0; 4], file.number_at(number::ERROR_COUNT))
 }
 
 /// A code, beside which the count is not 0 and the fence is any.
@@ -124,7 +161,7 @@ fn an_error(random: &mut Random, file: &mut File) -> Option<Told> {
     let fence = [any_word(random), any_word(random)];
     let count = random.pick(&[0, 0, 1, u32::MAX]);
     put_error(file, [code, fence[0], fence[1], count]);
-    let at = number_at(number::ERROR_COUNT);
+    let at = file.number_at(number::ERROR_COUNT);
     told("an error and its count", count != 0, at)
 }
 

@@ -2,7 +2,8 @@
 
 use super::{told, FileTwist, Told};
 use crate::files::good::{any_word, put_shape, row_of, shape_of, some_rows};
-use crate::files::{field, field_at, File, BUFFER, TEXTURE};
+use crate::files::shares::unshare;
+use crate::files::{field, File, BUFFER, TEXTURE};
 use crate::numbers::{FORMATS, LONGEST_SIDE, MOST_LAYERS, MOST_NAMES};
 use crate::random::Random;
 use crate::shape::Shape;
@@ -41,12 +42,16 @@ fn row(random: &mut Random, file: &mut File, kind: u32, backed: bool) -> usize {
         _ => random.index(file.rows.len()),
     };
     let handle = file.rows[row][field::HANDLE];
+    unshare(file, handle);
     file.rows[row] = row_of(random, handle, kind, backed);
     row
 }
 
-/// So many resources that are good.
+/// So many resources that are good, none of which is shared.
 pub fn set_rows(random: &mut Random, file: &mut File, count: usize) {
+    for row in std::mem::take(&mut file.rows) {
+        unshare(file, row[field::HANDLE]);
+    }
     file.rows = some_rows(random, count, &[]);
     file.rows_said = count as u32;
 }
@@ -60,7 +65,7 @@ fn first_handle(random: &mut Random, file: &mut File) -> Option<Told> {
     told(
         "first handle not 0",
         handle != 0,
-        field_at(0, field::HANDLE),
+        file.field_at(0, field::HANDLE),
     )
 }
 
@@ -77,7 +82,7 @@ fn later_handle(random: &mut Random, file: &mut File) -> Option<Told> {
         ("handles: 0 behind another", 0),
     ]);
     file.rows[row][field::HANDLE] = handle;
-    told(rule, handle > before, field_at(row, field::HANDLE))
+    told(rule, handle > before, file.field_at(row, field::HANDLE))
 }
 
 fn kind(random: &mut Random, file: &mut File) -> Option<Told> {
@@ -86,7 +91,7 @@ fn kind(random: &mut Random, file: &mut File) -> Option<Told> {
     let any = any_word(random).max(TEXTURE + 1);
     let kind = random.pick(&[0, TEXTURE + 1, any, own, own]);
     file.rows[row][field::KIND] = kind;
-    told("kind 1 or 2", kind == own, field_at(row, field::KIND))
+    told("kind 1 or 2", kind == own, file.field_at(row, field::KIND))
 }
 
 /// One half of a buffer's size is enough; both 0 are told at the high one.
@@ -96,7 +101,7 @@ fn buffer_size(random: &mut Random, file: &mut File) -> Option<Told> {
     let half = any_word(random).max(1);
     let halves = random.pick(&[[0, 0], [0, 0], [1, 0], [0, 1], [half, half]]);
     file.rows[row][field::SIZE_LO..=field::SIZE_HI].copy_from_slice(&halves);
-    let at = field_at(row, field::SIZE_HI);
+    let at = file.field_at(row, field::SIZE_HI);
     told("buffer: size not 0", halves != [0, 0], at)
 }
 
@@ -112,7 +117,7 @@ fn texture_size(random: &mut Random, file: &mut File) -> Option<Told> {
         ("texture: size LO and HI", [half, half], field::SIZE_LO),
     ]);
     file.rows[row][field::SIZE_LO..=field::SIZE_HI].copy_from_slice(&halves);
-    told(rule, halves == [0, 0], field_at(row, at))
+    told(rule, halves == [0, 0], file.field_at(row, at))
 }
 
 /// What a texture may have there is as bad as anything else.
@@ -126,7 +131,7 @@ fn buffer_field(random: &mut Random, file: &mut File) -> Option<Told> {
     told(
         "buffer: no shape and no pitch",
         value == 0,
-        field_at(row, at),
+        file.field_at(row, at),
     )
 }
 
@@ -151,7 +156,7 @@ fn format(random: &mut Random, file: &mut File) -> Option<Told> {
         shape.format = random.pick(&[0, 4, 63, 67, any, good, good, good]);
     });
     let good = FORMATS.contains(&shape.format);
-    told("texture: format", good, field_at(row, field::FORMAT))
+    told("texture: format", good, file.field_at(row, field::FORMAT))
 }
 
 /// A side at or beside one of its ends.
@@ -166,7 +171,7 @@ fn width(random: &mut Random, file: &mut File) -> Option<Told> {
         (shape.width, shape.mips) = (side(random), 1);
     });
     let good = (1..=LONGEST_SIDE).contains(&shape.width);
-    told("texture: width", good, field_at(row, field::WIDTH))
+    told("texture: width", good, file.field_at(row, field::WIDTH))
 }
 
 fn height(random: &mut Random, file: &mut File) -> Option<Told> {
@@ -174,7 +179,7 @@ fn height(random: &mut Random, file: &mut File) -> Option<Told> {
         (shape.height, shape.mips) = (side(random), 1);
     });
     let good = (1..=LONGEST_SIDE).contains(&shape.height);
-    told("texture: height", good, field_at(row, field::HEIGHT))
+    told("texture: height", good, file.field_at(row, field::HEIGHT))
 }
 
 /// Mips up to the chain of the larger side, whichever that is, and one more.
@@ -193,7 +198,7 @@ fn mips(random: &mut Random, file: &mut File) -> Option<Told> {
     } else {
         "texture: mips within the chain"
     };
-    told(rule, good, field_at(row, field::MIPS))
+    told(rule, good, file.field_at(row, field::MIPS))
 }
 
 fn layers(random: &mut Random, file: &mut File) -> Option<Told> {
@@ -203,7 +208,7 @@ fn layers(random: &mut Random, file: &mut File) -> Option<Told> {
         shape.layers = random.pick(&[0, 0, 1, most - 1, most, most, most + 1, any]);
     });
     let good = (1..=MOST_LAYERS).contains(&shape.layers);
-    told("texture: layers", good, field_at(row, field::LAYERS))
+    told("texture: layers", good, file.field_at(row, field::LAYERS))
 }
 
 /// The pitch of a texture in guest memory: the least, or below. It is told at the id.
@@ -212,7 +217,7 @@ fn backed_pitch(random: &mut Random, file: &mut File) -> Option<Told> {
     let least = shape_of(&file.rows[row]).least_pitch();
     let pitch = random.pick(&[0, 1, least - 1, least - 1, least, least, u32::MAX]);
     file.rows[row][field::PITCH] = pitch;
-    let at = field_at(row, field::BACKING_ID);
+    let at = file.field_at(row, field::BACKING_ID);
     told("backed texture: pitch", pitch >= least, at)
 }
 
@@ -222,7 +227,7 @@ fn host_pitch(random: &mut Random, file: &mut File) -> Option<Told> {
     let least = shape_of(&file.rows[row]).least_pitch();
     let pitch = random.pick(&[0, 0, 1, least - 1, least, u32::MAX]);
     file.rows[row][field::PITCH] = pitch;
-    let at = field_at(row, field::BACKING_ID);
+    let at = file.field_at(row, field::BACKING_ID);
     told("host-backed texture: pitch 0", pitch == 0, at)
 }
 
@@ -231,7 +236,7 @@ fn backing_id(random: &mut Random, file: &mut File) -> Option<Told> {
     let row = row(random, file, TEXTURE, true);
     let id = random.pick(&[0, 0, 1, u32::MAX]);
     file.rows[row][field::BACKING_ID] = id;
-    let at = field_at(row, field::BACKING_ID);
+    let at = file.field_at(row, field::BACKING_ID);
     told("texture with a pitch: id not 0", id != 0, at)
 }
 
@@ -246,6 +251,6 @@ fn offset(random: &mut Random, file: &mut File) -> Option<Told> {
     } else {
         "host-backed: offset 0"
     };
-    let at = field_at(row, field::BACKING_OFFSET);
+    let at = file.field_at(row, field::BACKING_OFFSET);
     told(rule, backed || offset == 0, at)
 }
