@@ -2,18 +2,18 @@
 use mathlib.Core.Path.{_≡_, refl, sym, ap, _∙_}
 use mathlib.Core.Bool.{Bool, true, false, not, _||_}
 use mathlib.Core.List.{List}
-use Prim.Native.Nat.{ℕ, _+_, _%_, _≤_}
+use Prim.Native.Nat.{ℕ, _+_, _-_, _%_, _≤_, _<_}
 use native.Mathlib.Omega.{arith}
 use borrow.Author.Needs.{needs}
-use borrow.Author.Tests.{le-ltb, lt-leb}
-use lib.Dec.{ltb}
+use borrow.Author.Tests.{ltb-true, ltb-false, leb-true, leb-false, lt-ltb, le-ltb, le-leb, lt-leb}
+use lib.Dec.{ltb, leb}
 use Rattle.rules.specs.Numbers.{bad-state, most, most-flags}
 use Rattle.rules.specs.Floats.{bits-of, not-finite, sign-bit, infinity, key, below, float-zero, float-one, outside}
 use Rattle.rules.specs.StatePackets.{bad-bounds, bad-viewport, bad-values, bad-clear}
 use Rattle.rules.specs.Packets.{on-viewport-packet, on-clear-packet}
 use Rattle.rules.specs.declared.SetViewport.{SetViewport}
 use Rattle.rules.specs.declared.ClearValues.{ClearValues}
-use Rattle.floats.specs.Bits.{key-up}
+use Rattle.floats.specs.Bits.{key-up, key-down}
 use Rattle.kept_resources.specs.Views.{holdingsOf}
 use Rattle.packet_ranges.specs.Views.{Applies, refusedWith}
 use Rattle.packet_ranges.specs.Handout.{acceptedWith}
@@ -28,14 +28,7 @@ module _ (p q a : Bool) (is : a ≡ p) where
   pub second-decides : (b : Bool) → a ≡ false → b ≡ q → b ≡ (p || q)
   second-decides b t e = rw (← is, t) e
 
-module _ (p q a : Bool) (is : a ≡ p) where
-  pub first-fails : a ≡ false → true ≡ (not p || q)
-  first-fails t = rw (← is, t)
-
-  pub second-fails : (b r : Bool) → a ≡ true → b ≡ r → q ≡ not r → not b ≡ (not p || q)
-  second-fails b r t e g = rw (← is, t, g, e)
-
-pub ruleset deciding = (first-holds, second-decides, first-fails, second-fails, needs)
+pub ruleset deciding = (first-holds, second-decides, needs)
 
 -- ---- bad_depths, bad_depth
 
@@ -61,14 +54,59 @@ depth-good depth h = rw (low-finite depth h, in-order depth float-zero h (omega 
 
 pub ruleset deciding-depths = (depths-good, depth-good, deciding)
 
+-- ---- bad_side
+
+or-true : (a : Bool) → true ≡ (a || true)
+or-true true = refl
+or-true false = refl
+
+module _ (side : ℕ) where
+  abbrev side-tests : Bool
+  side-tests = not-finite side || not (below float-zero side)
+
+  -- between the bits of 0 and those of infinity are the finite floats above 0
+  between : 0 < side → side < infinity → false ≡ side-tests
+  unfolding not-finite below
+  between z h =
+      rw (lt-leb infinity (side % sign-bit) (omega arith), ← key-up float-zero (omega arith), ← key-up side (omega arith), lt-ltb sign-bit (sign-bit + side) (omega arith))
+
+  -- from those of infinity on they are infinity's or a NaN's
+  past-numbers : infinity ≤ side → side < sign-bit → true ≡ side-tests
+  unfolding not-finite
+  past-numbers h g = rw (le-leb infinity (side % sign-bit) (omega arith))
+
+  -- and with a sign the float is not above 0
+  with-sign : sign-bit ≤ side → true ≡ side-tests
+  unfolding below
+  with-sign h =
+      rw (← key-up float-zero (omega arith), ← key-down side h, le-ltb sign-bit (sign-bit - (side - sign-bit)) (omega arith)) (or-true (not-finite side))
+
+  pub side-zero : side ≡ float-zero → true ≡ side-tests
+  side-zero e = rw (in-order float-zero side (omega arith) (omega arith)) (or-true (not-finite side))
+
+  pub side-told : (side ≡ float-zero → ⊥) → leb infinity side ≡ side-tests
+  side-told z = by-test (leb infinity side) (ltb side sign-bit) refl refl
+    where
+      by-test : (t u : Bool) → leb infinity side ≡ t → ltb side sign-bit ≡ u → t ≡ side-tests
+      by-test false u e f = between (omega arith) (leb-false _ _ e)
+      by-test true true e f = past-numbers (leb-true _ _ e) (ltb-true _ _ f)
+      by-test true false e f = with-sign (ltb-false _ _ f)
+
+pub ruleset deciding-sides = (side-zero, side-told, deciding)
+
 or-assoc : (a b c : Bool) → ((a || b) || c) ≡ (a || (b || c))
 or-assoc true b c = refl
 or-assoc false b c = refl
 
-or-swap : (a b c : Bool) → (a || (b || c)) ≡ (b || (a || c))
-or-swap true true c = refl
-or-swap true false c = refl
-or-swap false b c = refl
+or-cross : (a b c d : Bool) → ((a || b) || (c || d)) ≡ ((a || c) || (b || d))
+or-cross true b c d = refl
+or-cross false true true d = refl
+or-cross false true false d = refl
+or-cross false false c d = refl
+
+-- two sides, each by two tests: the first of each before the second of each
+sides-apart : (w u h v d t : Bool) → (((w || u) || (h || v)) || (d || t)) ≡ (((w || h) || d) || ((u || v) || t))
+sides-apart w u h v d t = ap (λ (s : Bool). s || (d || t)) (or-cross w u h v) ∙ or-cross (w || h) (u || v) d t
 
 -- ---- bad_bounds, bad_viewport
 
@@ -77,17 +115,12 @@ module _ (x y width height near far : ℕ) where
   abbrev bounds-tests : Bool
   bounds-tests =
       (not-finite x || not-finite y)
-      || ((not-finite width || not-finite height)
-      || ((not (below float-zero width) || not (below float-zero height))
-      || ((not-finite near || not-finite far) || (below far near || (outside near || outside far)))))
+      || ((side-tests width || side-tests height)
+      || ((not-finite near || not-finite far) || (below far near || (outside near || outside far))))
 
   pub bounds-told : (r : Bool) → r ≡ bounds-tests → r ≡ bad-bounds x y width height near far
   unfolding bad-bounds
-  bounds-told r e =
-      e
-      ∙ (ap (λ (t : Bool). (not-finite x || not-finite y) || ((not-finite width || not-finite height) || t))
-      (or-swap (not (below float-zero width) || not (below float-zero height)) (not-finite near || not-finite far) (below far near || (outside near || outside far)))
-      ∙ simp or-assoc)
+  bounds-told r e = e ∙ rw sides-apart (simp or-assoc)
 
   pub viewport-told : (v : SetViewport) (r : Bool) → x ≡ bits-of (v .x) → y ≡ bits-of (v .y) → width ≡ bits-of (v .width) → height ≡ bits-of (v .height)
       → near ≡ bits-of (v .near) → far ≡ bits-of (v .far) → r ≡ bad-bounds x y width height near far → r ≡ bad-viewport v

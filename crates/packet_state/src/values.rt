@@ -25,6 +25,9 @@ const FLOAT_ZERO: u32 = 0;
 // The bits of 1.
 const FLOAT_ONE: u32 = 1065353216;
 
+// The bits of infinity. Those of NaNs and of all floats with a sign are above them.
+const FLOAT_INFINITY: u32 = 2139095040;
+
 // Whether one of two floats is infinite or a NaN.
 fn either_not_finite(a: u32, b: u32) -> bool
     ensures { λ r. ⌜ r ≡ (not-finite a || not-finite b) ⌝ }
@@ -35,14 +38,25 @@ fn either_not_finite(a: u32, b: u32) -> bool
     not_finite(b)
 }
 
-// Whether a width or a height is not above 0.
-fn bad_area(width: u32, height: u32) -> bool
-    ensures { λ r. ⌜ r ≡ (not (is-below float-zero width) || not (is-below float-zero height)) ⌝ }
+// Whether a width or a height is no number, infinite or not above 0. One range says it: the bits of all others are between those of 0 and
+// those of infinity.
+fn bad_side(side: u32) -> bool
+    ensures { λ r. ⌜ r ≡ (not-finite side || not (is-below float-zero side)) ⌝ }
 {
-    if below(FLOAT_ZERO, width) {
-        return !below(FLOAT_ZERO, height);
+    if side == FLOAT_ZERO {
+        return true;
     }
-    true
+    side >= FLOAT_INFINITY
+}
+
+// Whether a viewport's width or height is bad.
+fn bad_area(width: u32, height: u32) -> bool
+    ensures { λ r. ⌜ r ≡ ((not-finite width || not (is-below float-zero width)) || (not-finite height || not (is-below float-zero height))) ⌝ }
+{
+    if bad_side(width) {
+        return true;
+    }
+    bad_side(height)
 }
 
 // Whether one of two depths is no number or outside 0 to 1, or the near one is above the far one. Two that have no sign are in order as their
@@ -85,9 +99,6 @@ fn bad_bounds(x: u32, y: u32, width: u32, height: u32, near: u32, far: u32) -> b
     ensures { λ r. ⌜ r ≡ bad-bounds x y width height near far ⌝ }
 {
     if either_not_finite(x, y) {
-        return true;
-    }
-    if either_not_finite(width, height) {
         return true;
     }
     if bad_area(width, height) {

@@ -10,23 +10,17 @@ either-not-finite-requires c κs = search needs
 returns : tie.Need-returns
 returns c = search judging
 
-either-not-finite-requires-2 : tie.Need-either-not-finite-requires-2
-either-not-finite-requires-2 c κs = search needs
+bad-area-requires : tie.Need-bad-area-requires
+bad-area-requires c κs = search needs
 
 returns-2 : tie.Need-returns-2
 returns-2 c = search judging
 
-bad-area-requires : tie.Need-bad-area-requires
-bad-area-requires c κs = search needs
-
-returns-3 : tie.Need-returns-3
-returns-3 c = search judging
-
 bad-depths-requires : tie.Need-bad-depths-requires
 bad-depths-requires c κs = search needs
 
-returns-4 : tie.Need-returns-4
-returns-4 c = search judging
+returns-3 : tie.Need-returns-3
+returns-3 c = search judging
 
 pub bad-bounds-spec : {M : Type 1} → statement M
 bad-bounds-spec =
@@ -34,9 +28,7 @@ bad-bounds-spec =
     (tie.spec
     either-not-finite-requires
     returns
-    either-not-finite-requires-2
-    returns-2
     bad-area-requires
-    returns-3
+    returns-2
     bad-depths-requires
-    returns-4)
+    returns-3)
