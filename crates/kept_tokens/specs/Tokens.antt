@@ -3,19 +3,21 @@ use mathlib.Core.Path.{_≡_, refl, sym, ap, _∙_}
 use mathlib.Core.Bool.{Bool, false}
 use mathlib.Core.List.{List, [], _∷_}
 use mathlib.Core.Logic.{⊎-elim}
-use Prim.Native.Nat.{ℕ, suc, _+_, _*_, _%_, _≤_, _<_}
+use Prim.Native.Nat.{ℕ, suc, _+_, _*_, _-_, _%_, _≤_, _<_}
 use native.Mathlib.Nat.{add-zero}
 use native.Mathlib.Omega.{arith}
 use borrow.Author.Needs.{needs}
 use borrow.Author.Tests.{ne-eqb, ltb-false}
 use lib.Dec.{ltb}
 use lib.ListN.{length, getD}
+use Rattle.rules.specs.Numbers.{most-tokens}
 use Rattle.rules.specs.Lists.{indexOf, lookup}
 use Rattle.rules.specs.Lists.Found.{none, found}
 use Rattle.rules.specs.Names.{token-of, rebind}
 use Rattle.rules.specs.declared.Token.{Token}
-use Rattle.rows.specs.Rows.{rowAt, table, tableFrom, firstWord, row-field, length-table, getD-table, from-first, from-none, from-zero}
-use Rattle.rows.specs.Keys.{same-or-not, index-here, index-later, index-nil, index-key, find-table, lookup-row, lookup-no-row}
+use Rattle.rows.specs.Rows.{rowAt, table, firstWord, row-field, length-table, getD-table}
+use Rattle.rows.specs.Keys.{same-or-not, index-here, index-later, index-key, find-table, lookup-row, lookup-no-row}
+use Rattle.rows_finding.specs.Among.{Among, eight-left, one-here, one-later, joining, scanning-by-eight}
 use Rattle.kept_tokens.specs.Views.{tokenOf, tokensOf}
 
 abbrev pub name-of : Token → ℕ
@@ -30,31 +32,23 @@ token-read l i a p =
 
 pub ruleset reading-token = (token-read, needs)
 
--- ---- find_token
+-- ---- of_one, of_two, of_four, of_eight
 
-module _ (n k : ℕ) (l : List ℕ) where
-  pub token-start : indexOf token-of k (tokensOf n l) ≡ 0 + indexOf token-of k (tableFrom tokenOf 2 0 n l)
-  token-start = rw (from-zero tokenOf) (omega arith)
+module _ (k : ℕ) (l : List ℕ) (i : ℕ) where
+  pub token-here : getD l (2 * i + 1) 0 ≡ k → Among tokenOf token-of k 2 l i 1 0
+  token-here p = one-here tokenOf token-of k 2 l i (rw (row-field 2 l i 1 (omega arith)) p)
 
-  module _ (i : ℕ) (so-far : indexOf token-of k (tokensOf n l) ≡ i + indexOf token-of k (tableFrom tokenOf 2 i n l)) where
-    pub token-end : i ≤ n → n ≤ i → n ≡ indexOf token-of k (tokensOf n l)
-    token-end g h =
-        let e : indexOf token-of k (tableFrom tokenOf 2 i n l) ≡ 0 = rw (from-none tokenOf 2 i n l h) (index-nil token-of k) in
-        omega arith
+  pub token-later : (getD l (2 * i + 1) 0 ≡ k → ⊥) → Among tokenOf token-of k 2 l i 1 1
+  token-later p = one-later tokenOf token-of k 2 l i (λ q. p (rw (row-field 2 l i 1 (omega arith)) at q))
 
-    pub token-here : i < n → getD l (2 * i + 1) 0 ≡ k → i ≡ indexOf token-of k (tokensOf n l)
-    token-here h p =
-        let e : indexOf token-of k (tableFrom tokenOf 2 i n l) ≡ 0 =
-        rw (from-first tokenOf 2 i n l h) (index-here token-of k (tokenOf (rowAt 2 l i)) _ (rw (row-field 2 l i 1 (omega arith)) p)) in
-        omega arith
+pub ruleset finding-token = (token-here, token-later, joining)
 
-    pub token-later : i < n → (getD l (2 * i + 1) 0 ≡ k → ⊥) → indexOf token-of k (tokensOf n l) ≡ i + 1 + indexOf token-of k (tableFrom tokenOf 2 (i + 1) n l)
-    token-later h p =
-        let e : indexOf token-of k (tableFrom tokenOf 2 i n l) ≡ suc (indexOf token-of k (tableFrom tokenOf 2 (i + 1) n l)) =
-        rw (from-first tokenOf 2 i n l h) (index-later token-of k (tokenOf (rowAt 2 l i)) _ (λ q. p (rw (row-field 2 l i 1 (omega arith)) at q))) in
-        omega arith
+-- ---- by_eight, find_token
 
-pub ruleset finding-token = (token-start, token-end, token-here, token-later, needs)
+pub token-room : (i n : ℕ) → n ≤ most-tokens → i ≤ n → (n - i) % 8 ≡ 0 → (i ≡ n → ⊥) → i + 8 ≤ most-tokens
+token-room i n m g e h = omega (arith, eight-left i n (g, e) h)
+
+pub ruleset scanning-tokens = (token-room, scanning-by-eight)
 
 -- what the place of a token says: the token there is the one, and past the last there is none
 module _ (n i k : ℕ) (l : List ℕ) (place : i ≡ indexOf token-of k (tokensOf n l)) where

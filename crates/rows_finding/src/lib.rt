@@ -5,12 +5,12 @@ ghost use Prim.Native.Nat.{_+_, _-_, _*_, _%_, _≤_, _<_};
 ghost use lib.ListN.{length};
 ghost use Rattle.rules.specs.Lists.{indexOf};
 ghost use Rattle.rows.specs.Rows.{table, tableFrom, firstWord};
-ghost use Rattle.rows_finding.specs.Finding.{Among};
+ghost use Rattle.rows_finding.specs.Among.{Among};
 
 // Whether row `i` has the key: 0 if it has, or 1.
 fn of_one(rows: &[u64], width: usize, i: usize, key: u32) -> usize
     requires { ⌜ (0 < width) × (width * (i + 1) ≤ length (now rows)) ⌝ }
-    ensures { λ r. ⌜ Among key width (now (rows .entry)) i 1 r ⌝ }
+    ensures { λ r. ⌜ Among (λ r. r) firstWord key width (now (rows .entry)) i 1 r ⌝ }
 {
     if low32(rows[width * i]) == key {
         return 0;
@@ -21,7 +21,7 @@ fn of_one(rows: &[u64], width: usize, i: usize, key: u32) -> usize
 // Which of two rows from `i` on has the key first, or 2.
 fn of_two(rows: &[u64], width: usize, i: usize, key: u32) -> usize
     requires { ⌜ (0 < width) × (width * (i + 2) ≤ length (now rows)) ⌝ }
-    ensures { λ r. ⌜ Among key width (now (rows .entry)) i 2 r ⌝ }
+    ensures { λ r. ⌜ Among (λ r. r) firstWord key width (now (rows .entry)) i 2 r ⌝ }
 {
     let r = of_one(rows, width, i, key);
     if r < 1 {
@@ -33,7 +33,7 @@ fn of_two(rows: &[u64], width: usize, i: usize, key: u32) -> usize
 // Which of four rows from `i` on has the key first, or 4.
 fn of_four(rows: &[u64], width: usize, i: usize, key: u32) -> usize
     requires { ⌜ (0 < width) × (width * (i + 4) ≤ length (now rows)) ⌝ }
-    ensures { λ r. ⌜ Among key width (now (rows .entry)) i 4 r ⌝ }
+    ensures { λ r. ⌜ Among (λ r. r) firstWord key width (now (rows .entry)) i 4 r ⌝ }
 {
     let r = of_two(rows, width, i, key);
     if r < 2 {
@@ -45,7 +45,7 @@ fn of_four(rows: &[u64], width: usize, i: usize, key: u32) -> usize
 // Which of eight rows from `i` on has the key first, or 8.
 fn of_eight(rows: &[u64], width: usize, i: usize, key: u32) -> usize
     requires { ⌜ (0 < width) × (width * (i + 8) ≤ length (now rows)) ⌝ }
-    ensures { λ r. ⌜ Among key width (now (rows .entry)) i 8 r ⌝ }
+    ensures { λ r. ⌜ Among (λ r. r) firstWord key width (now (rows .entry)) i 8 r ⌝ }
 {
     let r = of_four(rows, width, i, key);
     if r < 4 {

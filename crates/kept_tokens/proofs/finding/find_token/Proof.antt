@@ -1,4 +1,5 @@
--- `find_token` meets its contract. The invariant: the place of the token among all is i further than among those from row i on. The measure is the rows that are left. Assumes nothing.
+-- `find_token` meets its contract. The invariant: the token's place among all rows is i further than among those from row i on.
+-- The measure is what is left of the few rows in front. Assumes nothing.
 use mathlib.Core.Path.{_≡_}
 use Prim.Native.Nat.{_≤_, _-_, _+_}
 use native.Mathlib.Omega.{arith}
@@ -6,30 +7,27 @@ use Rattle.rules.specs.Lists.{indexOf}
 use Rattle.rules.specs.Names.{token-of}
 use Rattle.rows.specs.Rows.{tableFrom}
 use Rattle.kept_tokens.specs.Views.{tokenOf, tokensOf}
-use Rattle.kept_tokens.specs.Tokens.{finding-token}
+use Rattle.kept_tokens.specs.Tokens.{scanning-tokens}
 use Rattle.kept_tokens.proofs.finding.find_token.Statement.{statement}
 use Rattle.kept_tokens.proofs.finding.find_token.Tie as tie
 
 abbrev Inv-loop : tie.InvT-loop
-Inv-loop tokens used token i₀ i = (i ≤ used) × (indexOf token-of token (tokensOf used tokens) ≡ i + indexOf token-of token (tableFrom tokenOf 2 i used tokens))
+Inv-loop tokens used token few i₀ i = (i ≤ few) × (indexOf token-of token (tokensOf used tokens) ≡ i + indexOf token-of token (tableFrom tokenOf 2 i used tokens))
 
 abbrev μ-loop : tie.MeasureT-loop
-μ-loop tokens used token i₀ i = used - i
+μ-loop tokens used token few i₀ i = few - i
 
 loop-holds : tie.Need-loop-holds Inv-loop μ-loop
-loop-holds c = (omega arith, search finding-token)
+loop-holds c = (omega arith, search scanning-tokens)
 
-mul-if2 : tie.Need-mul-if2 Inv-loop μ-loop
-mul-if2 c = search finding-token
+by-eight-requires : tie.Need-by-eight-requires Inv-loop μ-loop
+by-eight-requires c κs = search scanning-tokens
 
-add-if2 : tie.Need-add-if2 Inv-loop μ-loop
-add-if2 c = search finding-token
+of-one-requires : tie.Need-of-one-requires Inv-loop μ-loop
+of-one-requires c κs = search scanning-tokens
 
-mul-if2-2 : tie.Need-mul-if2-2 Inv-loop μ-loop
-mul-if2-2 c = search finding-token
-
-element-copy-out-if2 : tie.Need-element-copy-out-if2 Inv-loop μ-loop
-element-copy-out-if2 c = search finding-token
+add-place : tie.Need-add-place Inv-loop μ-loop
+add-place c = search scanning-tokens
 
 add-i : tie.Need-add-i Inv-loop μ-loop
 add-i c = omega arith
@@ -38,13 +36,13 @@ loop-less : tie.Need-loop-less Inv-loop μ-loop
 loop-less c = omega arith
 
 loop-again : tie.Need-loop-again Inv-loop μ-loop
-loop-again c = (omega arith, search finding-token)
+loop-again c = (omega arith, search scanning-tokens)
 
 returns : tie.Need-returns Inv-loop μ-loop
-returns c = search finding-token
+returns c = search scanning-tokens
 
 returns-2 : tie.Need-returns-2 Inv-loop μ-loop
-returns-2 c = search finding-token
+returns-2 c = search scanning-tokens
 
 pub find-token-spec : {M : Type 1} → statement M
 find-token-spec =
@@ -53,10 +51,9 @@ find-token-spec =
     Inv-loop
     μ-loop
     loop-holds
-    mul-if2
-    add-if2
-    mul-if2-2
-    element-copy-out-if2
+    by-eight-requires
+    of-one-requires
+    add-place
     add-i
     loop-less
     loop-again
