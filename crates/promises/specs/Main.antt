@@ -84,6 +84,8 @@ use Rattle.promises_of_sharing.specs.SharedTokens.{TokensGoOn, TokensStay, toke
 use Rattle.promises_of_sharing.specs.BoundTokens.{BoundUnless, a-bound-token-is-spent-only-by-its-release-or-with-its-last-name}
 use Rattle.promises_of_sharing.specs.SharedPackets.{ExportPacket, ImportPacket, ReleasePacket, when-an-export-is-accepted, when-an-import-is-accepted, when-a-release-is-accepted}
 use Rattle.promises_of_sharing.specs.TokensOverCalls.{CalledOn, tokens-go-on-between-resets, a-reset-forgets-the-tokens, a-failed-submission-leaves-the-tokens, at-most-256-tokens, shared-is-one-mip-one-layer, bound-is-one-mip-one-layer, what-is-held-is-sound}
+use Rattle.promises_of_sharing.specs.NamesKept.{KeepsNamesBut}
+use Rattle.promises_of_sharing.specs.NamesOverCalls.{names-since, a-bound-token-keeps-its-names-between-resets}
 use Rattle.promises_of_submissions.specs.Clipping.{Scissored, accepted-scissor-is-clipped}
 use Rattle.promises_of_submissions.specs.Locality.{lent, SameWhereRead, SameRun, run-of-one-reads-only}
 use Rattle.rules.specs.Saved.{not-saved, call-save, saved, beyond}
@@ -516,6 +518,11 @@ only-its-release-or-its-last-name-spends-a-token = a-bound-token-is-spent-only-b
 -- and so over any calls, between resets: "a token ever bound to another resource or one released" is found so
 pub tokens-between-resets : (s t : State) → Called s → CalledOn s t → TokensGoOn (s .belongings .tokens) (t .belongings .tokens)
 tokens-between-resets = tokens-go-on-between-resets
+
+-- and a token that is bound before and after keeps its resource's names, but for those that submissions answered good have imported or destroyed since: what was refused
+-- or failed does not count
+pub names-between-resets : (s t : State) (k : Called s) (q : CalledOn s t) → KeepsNamesBut (names-since s t k q .by-good) (s .belongings) (t .belongings)
+names-between-resets = a-bound-token-keeps-its-names-between-resets
 
 -- "Only textures with one mip and one layer may be exported": of any device made and called, no other resource has two names or a token. "At most
 -- 256 tokens"

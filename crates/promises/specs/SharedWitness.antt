@@ -1,9 +1,10 @@
 -- Wish 5's theorems are of something: streams that export, import, release and destroy, judged by the rules, each by computation; and a guest that
 -- sends one of them. Assumes nothing.
-use mathlib.Core.Path.{_≡_, refl, ap, subst}
-use mathlib.Core.Bool.{true, false}
+use mathlib.Core.Path.{_≡_, refl, sym, ap, subst}
+use mathlib.Core.Bool.{Bool, true, false}
 use mathlib.Core.List.{List, [], _∷_, _++_}
 use Prim.Native.Nat.{ℕ, _+_}
+use native.Mathlib.Omega.{arith}
 use Rattle.machine.specs.Machine.{runFor}
 use Rattle.rules.specs.Numbers.{create-texture, export-surface, import-surface, release-token}
 use Rattle.rules.specs.Bytes.{le, bytesOf}
@@ -31,8 +32,11 @@ use Rattle.promises_of_units.specs.Called.{Called, after}
 use Rattle.promises_of_units.specs.Called.Call.{writes, runs, answers}
 use Rattle.promises_of_units.specs.Called.Called.{makes, calls}
 use Rattle.promises.specs.Witness.{in-bytes, ring-words}
-use Rattle.promises_of_sharing.specs.Shared.{Used, OneMipOneLayer}
+use Rattle.promises_of_sharing.specs.Shared.{Used, IsBound, NameOf, OneMipOneLayer}
 use Rattle.promises_of_sharing.specs.TokensOverCalls.{CalledOn, tokens-go-on-between-resets, bound-is-one-mip-one-layer}
+use Rattle.promises_of_sharing.specs.TokensOverCalls.CalledOn.{not-yet, calls-on}
+use Rattle.promises_of_sharing.specs.NamesKept.{NotAmong}
+use Rattle.promises_of_sharing.specs.NamesOverCalls.{names-after-units, Names, names-after-call, names-since, a-bound-token-keeps-its-names-between-resets}
 use Rattle.promises.specs.StateWitness.{textured, destroyed, stream-with, judged-words, the-shape, the-job}
 
 -- ---- packets, word by word; every token is 7 + 2^32, or has another low word
@@ -169,14 +173,14 @@ sharing-guest-is = record { accepted = refl; run-accepted = refl; none-yet = ref
 
 -- ---- so the theorems speak of it
 
-asked-is-called : Called (sharing-asked .state)
+pub asked-is-called : Called (sharing-asked .state)
 unfolding sharing-asked after call-write write-of lookup controlled
 asked-is-called = calls (writes 0x200 0) [] (calls (writes 0x10c 1) [] (calls (writes 0x108 128) [] (makes 272)))
 
 waits-is-called : Called (sharing-waits .state)
 waits-is-called = subst (λ (w : World). Called (w .state)) (sharing-guest-is .run-accepted) (calls (runs 65535) (sharing-asked .mem) asked-is-called)
 
-answered-is-called : Called (after (answers true 0) sharing-waits .state)
+pub answered-is-called : Called (after (answers true 0) sharing-waits .state)
 answered-is-called = calls (answers true 0) (sharing-waits .mem) waits-is-called
 
 -- the device's token is of a texture of one mip and one layer
@@ -192,3 +196,27 @@ unfolding lookup
 its-token-stays-used t q =
     tokens-go-on-between-resets (after (answers true 0) sharing-waits .state) t answered-is-called q .used the-token
     (record { name = 3; token = the-token }, ap (λ (b : Belongings). lookup token-of the-token (b .tokens)) (sharing-guest-is .good))
+
+-- and 3 is a name of its resource for as long as it is bound, and no submission answered good imports or destroys 3
+pub its-name-stays : (t : State) (q : CalledOn (after (answers true 0) sharing-waits .state) t)
+    → NotAmong 3 (names-since (after (answers true 0) sharing-waits .state) t answered-is-called q .by-good) → IsBound the-token (t .belongings .tokens)
+    → NameOf the-token 3 (t .belongings .tokens) (t .belongings .resources)
+unfolding lookup
+its-name-stays t q other b =
+    let first : State = after (answers true 0) sharing-waits .state in
+    let n : NameOf the-token 3 (first .belongings .tokens) (first .belongings .resources) =
+    subst (λ (x : Belongings). NameOf the-token 3 (x .tokens) (x .resources)) (sym (sharing-guest-is .good))
+    (record { what = record { name = 3; token = the-token }; used = refl; bound-one = λ z. omega arith; resource = named 3 3; here = refl; same = refl }) in
+    a-bound-token-keeps-its-names-between-resets first t answered-is-called q .keeps the-token 3 other (n .what, n .used, n .bound-one) b .0 n
+
+-- ---- the names that count: of this submission 3, which it imports, and 5, which it destroys, with "good"; none with "failed"
+
+unfoldable pub answered-on : (good : Bool) → CalledOn (sharing-asked .state) (after (answers good 0) (after (runs 65535) sharing-asked) .state)
+answered-on good = calls-on (calls-on not-yet (runs 65535) refl (sharing-asked .mem)) (answers good 0) refl (after (runs 65535) sharing-asked .mem)
+
+abbrev pub counted : Bool → Names
+counted good = names-since (sharing-asked .state) (after (answers good 0) (after (runs 65535) sharing-asked) .state) asked-is-called (answered-on good)
+
+pub names-count-with-good : (counted true .by-good ≡ 5 ∷ 3 ∷ []) × (counted false .by-good ≡ [])
+unfolding answered-on names-since names-after-call names-after-units exported imported shared textured destroyed stream-with sharing sharing-guest sharing-asked zeros ring-words in-bytes le bytesOf over removed lookup indexOf nth rename rebind lowest-left ring-header descriptor stream-header power-of-two good-header good-ring ring-opening opening-of descriptor-rules range-rules submission-rules submission-opening wrong-header stream-rules texture-fields destroy-fields export-fields import-fields known least-size frame-rules frame-of packet-of block-bytes halvings full-chain good-shape create-hosted create on-texture-packet on-destroy-packet on-export-packet bound on-import-packet apply target-after tokens-after pass take-packet open-step packet-step step go runFor call-run answer-alone call-answer answered settled marked page-written ended-by signalled head-written written faulted after
+names-count-with-good = (refl, refl)

@@ -178,7 +178,7 @@ module _ (P : Outcome → Type 0) (h : Holdings) (refuses : (r : Refusal) → P 
   module _ (es : List Entry)
       (stores : (r : Resource) → Fresh h r → P (accepted (stored r h)))
       (backs-up : (r : Resource) (e : Entry) → Fresh h r → InRange es h backs r e 0 (r .bytes) → P (accepted (recorded (range-of backs r e 0 (r .bytes)) (stored r h)))) where
-    create-or : (good : Bool) (r : Resource) → r .lowest ≡ r .handle → (good ≡ true → AsCreated r) → P (create es h good r)
+    pub create-or : (good : Bool) (r : Resource) → r .lowest ≡ r .handle → (good ≡ true → AsCreated r) → P (create es h good r)
     unfolding create create-hosted create-backed
     create-or good r own keep =
         refuse-or bad-handle (eqb (r .handle) 0 || is-live (live (r .handle) h)) _ (λ a.
@@ -208,7 +208,7 @@ module _ (P : Outcome → Type 0) (h : Holdings) (refuses : (r : Refusal) → P 
         refuse-or too-many (full (h .records)) _ (λ f.
         hands kind r e from size (record { entry = m; inside = i; room = leb-false most (length (h .records)) f; low = low; high = high })))
 
-    dirty-or : (c : DirtyRange) → P (on-dirty-packet es h c)
+    pub dirty-or : (c : DirtyRange) → P (on-dirty-packet es h c)
     unfolding on-dirty-packet
     dirty-or c =
         live-or (live (c .handle) h) _ (λ r _.
@@ -218,7 +218,7 @@ module _ (P : Outcome → Type 0) (h : Holdings) (refuses : (r : Refusal) → P 
         refuse-or past-entry (ltb (e .size) (r .offset + (c .offset + c .size))) _ (λ i.
         handed-or reads r e (c .offset) (c .size) (omega arith) (omega arith) m (ltb-false (e .size) (r .offset + (c .offset + c .size)) i))))))
 
-    copy-or : (c : CopyBuffer) → P (on-copy-packet es h c)
+    pub copy-or : (c : CopyBuffer) → P (on-copy-packet es h c)
     unfolding on-copy-packet write-back
     copy-or c =
         buffer-or (live (c .dst) h) _ (λ d _.

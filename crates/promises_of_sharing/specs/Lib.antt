@@ -4,3 +4,5 @@ pub mod SharedTokens
 pub mod BoundTokens
 pub mod SharedPackets
 pub mod TokensOverCalls
+pub mod NamesKept
+pub mod NamesOverCalls

@@ -66,7 +66,7 @@ stay-same h after e f =
 
 -- of a name that means the same resource before and after, and a token that is the same
 module _ (token k : ℕ) (ts us : List Token) (rs xs : List Resource) (e : lookup token-of token us ≡ lookup token-of token ts) (f : lookup handle-of k xs ≡ lookup handle-of k rs) where
-  name-stays : NameOf token k ts rs → NameOf token k us xs
+  pub name-stays : NameOf token k ts rs → NameOf token k us xs
   name-stays n = record { what = n .what; used = e ∙ n .used; bound-one = n .bound-one; resource = n .resource; here = f ∙ n .here; same = n .same }
 
 live-not-fresh : (h : Progress) (r : Resource) → Fresh (h .holdings) r → (k : ℕ) → (live k (h .holdings) ≡ none → ⊥) → lookup handle-of k (pushed (h .holdings .resources) r) ≡ live k (h .holdings)
@@ -301,14 +301,14 @@ module _ (es : List Entry) (h : Progress) (s : SoundProgress es h) where
 -- ---- several packets
 
 -- a token that was used is spent or bound
-spent-or-bound : (token : ℕ) (ts : List Token) → Used token ts → Spent token ts ⊎ IsBound token ts
+pub spent-or-bound : (token : ℕ) (ts : List Token) → Used token ts → Spent token ts ⊎ IsBound token ts
 spent-or-bound token ts u =
     ⊎-elim
     (λ z. inl (u .1 ∙ (ap (λ n. found (record { name = n; token = u .0 .token })) z ∙ ap (λ n. found (record { name = no-name; token = n })) (found-key token-of token ts (u .0) (u .1)))))
     (λ z. inr (u .0, u .1, z))
     (same-or-not (u .0 .name) no-name)
 
-not-both : (token : ℕ) (ts : List Token) → Spent token ts → IsBound token ts → ⊥
+pub not-both : (token : ℕ) (ts : List Token) → Spent token ts → IsBound token ts → ⊥
 not-both token ts s b = b .2 (ap (λ (t : Token). t .name) (found-same (sym (b .1) ∙ s)))
 
 -- a name that is live before the first, and after each

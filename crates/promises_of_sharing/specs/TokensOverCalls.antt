@@ -17,7 +17,7 @@ use Rattle.rules.specs.Table.{take-entry}
 use Rattle.rules.specs.Packets.{Progress, Belongings, at-first, bound, take-packet}
 use Rattle.rules.specs.State.{Work, State, World, nothing-owned}
 use Rattle.rules.specs.State.Work.{resting, entries, packets, waiting}
-use Rattle.rules.specs.Registers.{bit-of, reset}
+use Rattle.rules.specs.Registers.{reset}
 use Rattle.rules.specs.Settle.{settled}
 use Rattle.rules.specs.Steps.{packets-at, entries-at, go, step, run-for, answer-on, answered}
 use Rattle.rules.specs.Calls.{Ran, call-write}
@@ -45,7 +45,7 @@ use Rattle.promises_of_sharing.specs.SharedTokens.{TokensGoOn, go-on-sam
 
 -- ---- the tokens of a submission in work go on from the device's
 
-abbrev WorkGoesOn : List Token → Work → Type 0
+abbrev pub WorkGoesOn : List Token → Work → Type 0
 WorkGoesOn ts resting = 0 ≤ 0
 WorkGoesOn ts (entries o kept) = 0 ≤ 0
 WorkGoesOn ts (packets j t at es h) = TokensGoOn ts (h .tokens)
@@ -94,7 +94,7 @@ module _ (ts : List Token) where
   by-unit w w′ (finds-no-work e h) s k = record { sound = s; tokens = k .tokens; work = k .work }
   by-unit w w′ (settles j f h) s k = record { sound = s; tokens = k .tokens; work = omega arith }
 
-  step-onward : (w : World) → Onward ts (w .state) → Onward ts (step w .state)
+  pub step-onward : (w : World) → Onward ts (w .state) → Onward ts (step w .state)
   step-onward w k = by-unit w (step w) (unit w) (step-keeps-sound w (k .sound)) k
 
   run-onward : (n : ℕ) (w : World) → Onward ts (w .state) → Onward ts (run-for n w .state .state)
@@ -105,7 +105,7 @@ module _ (ts : List Token) where
       by-test true g q = rw (run-go go step n w g) q
       by-test false g q = rw (run-stop go step (suc n) w g) k
 
-  answer-onward : (good : Bool) (w : World) → Onward ts (w .state) → Onward ts (answered good w .state)
+  pub answer-onward : (good : Bool) (w : World) → Onward ts (w .state) → Onward ts (answered good w .state)
   unfolding answered settled
   answer-onward good w k = by-work good (w .state .work) refl (answer-keeps-sound good w (k .sound))
     where
@@ -122,7 +122,7 @@ module _ (ts : List Token) where
   by-written s s′ offset v n (drops h) sound k = absurd (let z : _≡_ {A = ℕ} 0 1 = cc in omega arith)
 
   -- any call but a reset
-  call-onward : (c : Call) (w : World) → is-reset c ≡ false → Onward ts (w .state) → Onward ts (after c w .state)
+  pub call-onward : (c : Call) (w : World) → is-reset c ≡ false → Onward ts (w .state) → Onward ts (after c w .state)
   unfolding after
   call-onward (writes offset v) w n k =
       by-written (w .state) (call-write (w .state) offset v .state) offset v n (write-keeps-or-drops (w .state) offset v)
@@ -136,22 +136,24 @@ module _ (ts : List Token) where
 -- ---- any device made and called
 
 -- after a reset nothing is in work
-forgotten : (c : Call) (w : World) → is-reset c ≡ true → SoundState (w .state) → Onward (after c w .state .belongings .tokens) (after c w .state)
+pub a-reset-drops-the-work : (c : Call) (w : World) → is-reset c ≡ true → after c w .state .work ≡ resting
 unfolding after reset
-forgotten (writes offset v) w y s =
-    let gone : call-write (w .state) offset v .state ≡ reset (bit-of 0 v) (w .state) = reset-drops (w .state) offset v y in
+a-reset-drops-the-work (writes offset v) w y = ap (λ (x : State). x .work) (reset-drops (w .state) offset v y)
+a-reset-drops-the-work (reads offset) w y = absurd (let z : _≡_ {A = ℕ} 0 1 = cc in omega arith)
+a-reset-drops-the-work (runs n) w y = absurd (let z : _≡_ {A = ℕ} 0 1 = cc in omega arith)
+a-reset-drops-the-work (records i) w y = absurd (let z : _≡_ {A = ℕ} 0 1 = cc in omega arith)
+a-reset-drops-the-work (answers good n) w y = absurd (let z : _≡_ {A = ℕ} 0 1 = cc in omega arith)
+
+forgotten : (c : Call) (w : World) → is-reset c ≡ true → SoundState (w .state) → Onward (after c w .state .belongings .tokens) (after c w .state)
+forgotten c w y s =
     record {
-      sound = call-keeps-sound (writes offset v) w s;
-      tokens = go-on-same (call-write (w .state) offset v .state .belongings .tokens);
-      work = subst (λ (x : State). WorkGoesOn (x .belongings .tokens) (x .work)) (sym gone) (omega arith);
+      sound = call-keeps-sound c w s;
+      tokens = go-on-same (after c w .state .belongings .tokens);
+      work = subst (WorkGoesOn (after c w .state .belongings .tokens)) (sym (a-reset-drops-the-work c w y)) (omega arith);
     }
-forgotten (reads offset) w y s = absurd (let z : _≡_ {A = ℕ} 0 1 = cc in omega arith)
-forgotten (runs n) w y s = absurd (let z : _≡_ {A = ℕ} 0 1 = cc in omega arith)
-forgotten (records i) w y s = absurd (let z : _≡_ {A = ℕ} 0 1 = cc in omega arith)
-forgotten (answers good n) w y s = absurd (let z : _≡_ {A = ℕ} 0 1 = cc in omega arith)
 
 -- what is in work has tokens that go on from the device's
-called-work-goes-on : (s : State) → Called s → Onward (s .belongings .tokens) s
+pub called-work-goes-on : (s : State) → Called s → Onward (s .belongings .tokens) s
 unfolding loaded loaded-sections
 called-work-goes-on s (makes memory) = record { sound = called-sound s (makes memory); tokens = go-on-same []; work = omega arith }
 called-work-goes-on s (loads b good) = record { sound = called-sound s (loads b good); tokens = go-on-same (loaded b .belongings .tokens); work = omega arith }
