@@ -48,18 +48,3 @@ holdingsOf live resources made records = record { resources = resourcesOf live r
 abbrev pub progressOf : ℕ → ℕ → List ℕ → ℕ → List ℕ → List Token → Progress
 progressOf target live resources made records tokens =
     record { holdings = holdingsOf live resources made records; target = target; tokens = tokens }
-
--- ---- the tables of a device, each by its name
-
--- those that a unit works on: the entries kept, the device's resources, the submission's own copy of them,
--- the device's tokens, the submission's own copy of them, its records
-pub record Tables : Type 0 where
-  pub entries : List ℕ
-  pub resources : List ℕ
-  pub own : List ℕ
-  pub tokens : List ℕ
-  pub ownTokens : List ℕ
-  pub records : List ℕ
-
-abbrev pub tables : List ℕ → List ℕ → List ℕ → List ℕ → List ℕ → List ℕ → Tables
-tables e r h t u c = record { entries = e; resources = r; own = h; tokens = t; ownTokens = u; records = c }

@@ -19,8 +19,7 @@ ghost use Rattle.kept_tokens.specs.Views.{tokensOf, spentAt};
 ghost use Rattle.kept_tokens.specs.Tokens.{isBound};
 ghost use Rattle.packet_held.specs.Tokens.{ownIn, tokensHeld, Retokened};
 
-// How many tokens a submission has, and whether they are in its own table: 0 if not. Both numbers are four bytes wide, so that what is held has no
-// spare byte, which would be moved from packet to packet too.
+// How many tokens a submission has, and whether they are in its own table: 0 if not.
 pub struct HeldTokens {
     pub used: u32,
     pub copied: u32,

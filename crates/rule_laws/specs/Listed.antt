@@ -237,11 +237,16 @@ apply-listed es target ts h (Release c) = search outcomes depth 20
 apply-listed es target ts h NotANumber = search outcomes
 apply-listed es target ts h Unknown = search outcomes
 
+-- a packet, whatever is held
+pub pass-listed : (es : List Entry) (h : Progress) (p : Packet) → Listed (pass es h p .verdict)
+unfolding pass ListedOutcome
+pass-listed es h p = apply-listed es (h .target) (h .tokens) (h .holdings) p
+
 -- a packet's step
 pub take-packet-listed : (es : List Entry) (h : Progress) (b : List ℕ) → Listed (take-packet es h b .verdict)
-unfolding take-packet pass ListedOutcome
+unfolding take-packet
 take-packet-listed es h b = by-frame (frame-of b) (frame-of-listed b)
   where
     by-frame : (f : Frame) → ListedFrame f → Listed (pass-frame es h b f .verdict)
-    by-frame (Whole op size) l = apply-listed es (h .target) (h .tokens) (h .holdings) (packet-of op (take size b))
+    by-frame (Whole op size) l = pass-listed es h (packet-of op (take size b))
     by-frame (Misframed r) l = l

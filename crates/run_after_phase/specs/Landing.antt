@@ -2,10 +2,9 @@
 use mathlib.Core.Path.{_≡_, sym, ap, _∙_}
 use mathlib.Core.List.{List}
 use Prim.Native.Nat.{ℕ, _≤_, _<_}
-use native.Mathlib.Omega.{arith}
 use borrow.Author.Needs.{needs}
-use lib.ListN.{length, getD, set}
-use Rattle.rules.specs.Numbers.{most, most-tokens}
+use lib.ListN.{length, set}
+use Rattle.rules.specs.Numbers.{most}
 use Rattle.rules.specs.Judging.{refusal, fault-at}
 use Rattle.rules.specs.Judging.Finding.{broken}
 use Rattle.rules.specs.Settle.{settled-keeping}
@@ -16,10 +15,10 @@ use Rattle.run_entries.specs.Ending.{Ending, endingOf, is-going, is-done, is-br
 use Rattle.run_entries.specs.Ending.Ending.{Going, Done, Broken}
 use Rattle.run_entries.specs.Entries.{readingOf}
 use Rattle.run_entries.specs.declared.entries.EntriesPlace.{EntriesPlace}
-use Rattle.run_packets.specs.Playing.{playingOf}
+use Rattle.run_packets.specs.Playing.{packetTables, playing}
 use Rattle.run_packets.specs.declared.PacketsPlace.{PacketsPlace}
-use Rattle.run_state.specs.Views.{smallIn, tagIn, jobIn, streamIn, openedIn, keptIn, worldIn, bareIn, sidesIn}
-use Rattle.run_state.specs.Reading.{small-as, count-as, token-count-as}
+use Rattle.run_state.specs.Views.{smallIn, tagIn, jobIn, streamIn, openedIn, keptIn, heldTokensIn, worldIn, bareIn, sidesIn}
+use Rattle.run_state.specs.Reading.{small-as, count-as}
 use Rattle.run_state.specs.Spelled.{spell}
 use Rattle.run_settle.specs.Views.{Refuses}
 use Rattle.run_begin.specs.Views.{Begins}
@@ -64,11 +63,11 @@ pub ruleset landing-entries = (lands-going, lands-done, lands-broken, needs)
 
 -- ---- land_packets
 
-module _ (s : List ℕ) (p : PacketsPlace) (m : List ℕ) (pre : (tagIn s ≡ 2) × (p .held .live ≤ most) × (p .held .made ≤ most) × (p .held .tokens .used ≤ most-tokens)) where
+module _ (s : List ℕ) (p : PacketsPlace) (m : List ℕ) (pre : (tagIn s ≡ 2) × (p .held .live ≤ most) × (p .held .made ≤ most)) where
   -- a device whose phase has this ending
   played-to : (k : Ending) → endingOf (p .ending) (p .why) ≡ k → (e r h dt ot c : List ℕ)
-      → played-on (bareIn s r dt m) (jobIn s) (streamIn s) (keptIn s e) (playingOf p r h dt ot c) k ≡ played-on (bareIn s r dt m) (jobIn s) (streamIn s) (keptIn s e) (playingOf p r h dt ot c) (playingOf p r h dt ot c .ending)
-  played-to k q e r h dt ot c = ap (played-on (bareIn s r dt m) (jobIn s) (streamIn s) (keptIn s e) (playingOf p r h dt ot c)) (sym q)
+      → played-on (bareIn s r dt m) (jobIn s) (streamIn s) (keptIn s e) (playing p (packetTables e r h c) (heldTokensIn s dt ot)) k ≡ played-on (bareIn s r dt m) (jobIn s) (streamIn s) (keptIn s e) (playing p (packetTables e r h c) (heldTokensIn s dt ot)) (playing p (packetTables e r h c) (heldTokensIn s dt ot) .ending)
+  played-to k q e r h dt ot c = ap (played-on (bareIn s r dt m) (jobIn s) (streamIn s) (keptIn s e) (playing p (packetTables e r h c) (heldTokensIn s dt ot))) (sym q)
 
   pub plays-broken : (s′ m′ : List ℕ) (x : Fault) → (p .ending ≡ 0 → ⊥) → (p .ending ≡ 1 → ⊥) → x ≡ fault-at (p .at) (refusal (p .why)) → Refuses s m x s′ m′ → LandsPackets s p m s′ m′
   plays-broken s′ m′ x a b is f =
@@ -77,31 +76,30 @@ module _ (s : List ℕ) (p : PacketsPlace) (m : List ℕ) (pre : (tagIn s ≡ 2)
         side = f .side;
       }
 
-  module _ (long : length s ≡ 36) (y z o t k i : ℕ) (is-y : (y ≡ p .held .live) × (y < 18446744073709551616)) (is-z : (z ≡ p .held .made) × (z < 18446744073709551616)) (is-o : (o ≡ p .held .copied) × (o < 4294967296)) (is-t : (t ≡ p .held .target) × (t < 4294967296))
-      (is-k : (k ≡ p .held .tokens .used) × (k < 4294967296)) (is-i : (i ≡ p .held .tokens .copied) × (i < 4294967296)) where
+  module _ (long : length s ≡ 36) (y z o t : ℕ) (is-y : (y ≡ p .held .live) × (y < 18446744073709551616)) (is-z : (z ≡ p .held .made) × (z < 18446744073709551616)) (is-o : (o ≡ p .held .copied) × (o < 4294967296)) (is-t : (t ≡ p .held .target) × (t < 4294967296)) where
     abbrev onward-words : ℕ → List ℕ → List ℕ
-    onward-words x w = set (set (set (set (set (set (set w 23 x) 26 y) 27 z) 29 o) 31 t) 33 k) 35 i
+    onward-words x w = set (set (set (set (set w 23 x) 26 y) 27 z) 29 o) 31 t
 
     abbrev waiting-words : List ℕ → List ℕ
-    waiting-words w = set (set (set (set (set (set (set (set (set (set w 13 3) 21 0) 22 0) 23 0) 26 y) 27 z) 29 o) 31 t) 33 k) 35 i
+    waiting-words w = set (set (set (set (set (set (set (set w 13 3) 21 0) 22 0) 23 0) 26 y) 27 z) 29 o) 31 t
 
-    pub plays-going : (x : ℕ) → p .ending ≡ 0 → (x ≡ p .at) × (x < 18446744073709551616) → LandsPackets s p m (set (set (set (set (set (set (set s 23 x) 26 y) 27 z) 29 o) 31 t) 33 k) 35 i) m
+    pub plays-going : (x : ℕ) → p .ending ≡ 0 → (x ≡ p .at) × (x < 18446744073709551616) → LandsPackets s p m (set (set (set (set (set s 23 x) 26 y) 27 z) 29 o) 31 t) m
     unfolding worldIn
     plays-going x q is-x =
         record {
           world = λ e r h dt ot c.
               spell (λ w. worldIn (onward-words x w) e r h dt ot c m) s long
-              ∙ rw (pre .0, is-x .0, count-as y (p .held .live) is-y (pre .1), count-as z (p .held .made) is-z (pre .2), is-o .0, small-as t (p .held .target) is-t, token-count-as k (p .held .tokens .used) (is-k .0, omega (arith, is-k .1)) (pre .3), is-i .0) (played-to Going (is-going (p .ending) (p .why) q) e r h dt ot c);
+              ∙ rw (pre .0, is-x .0, count-as y (p .held .live) is-y (pre .1), count-as z (p .held .made) is-z (pre .2), is-o .0, small-as t (p .held .target) is-t) (played-to Going (is-going (p .ending) (p .why) q) e r h dt ot c);
           side = spell (λ w. sidesIn (onward-words x w)) s long;
         }
 
-    pub plays-done : p .ending ≡ 1 → LandsPackets s p m (set (set (set (set (set (set (set (set (set (set s 13 3) 21 0) 22 0) 23 0) 26 y) 27 z) 29 o) 31 t) 33 k) 35 i) m
+    pub plays-done : p .ending ≡ 1 → LandsPackets s p m (set (set (set (set (set (set (set (set s 13 3) 21 0) 22 0) 23 0) 26 y) 27 z) 29 o) 31 t) m
     unfolding worldIn
     plays-done q =
         record {
           world = λ e r h dt ot c.
               spell (λ w. worldIn (waiting-words w) e r h dt ot c m) s long
-              ∙ rw (count-as y (p .held .live) is-y (pre .1), count-as z (p .held .made) is-z (pre .2), is-o .0, small-as t (p .held .target) is-t, token-count-as k (p .held .tokens .used) (is-k .0, omega (arith, is-k .1)) (pre .3), is-i .0) (played-to Done (is-done (p .ending) (p .why) q) e r h dt ot c);
+              ∙ rw (count-as y (p .held .live) is-y (pre .1), count-as z (p .held .made) is-z (pre .2), is-o .0, small-as t (p .held .target) is-t) (played-to Done (is-done (p .ending) (p .why) q) e r h dt ot c);
           side = spell (λ w. sidesIn (waiting-words w)) s long;
         }
 

@@ -19,9 +19,9 @@ use Rattle.run_entries.specs.Ending.{Ending}
 use Rattle.run_entries.specs.Ending.Ending.{Going, Done, Broken}
 use Rattle.run_entries.specs.Entries.{Reading, readingOf}
 use Rattle.run_entries.specs.declared.entries.EntriesPlace.{EntriesPlace}
-use Rattle.run_packets.specs.Playing.{Playing, playingOf}
+use Rattle.run_packets.specs.Playing.{Playing, packetTables, playing}
 use Rattle.run_packets.specs.declared.PacketsPlace.{PacketsPlace}
-use Rattle.run_state.specs.Views.{jobIn, streamIn, openedIn, keptIn, worldIn, bareIn, sidesIn}
+use Rattle.run_state.specs.Views.{jobIn, streamIn, openedIn, keptIn, heldTokensIn, worldIn, bareIn, sidesIn}
 
 -- a device whose entries have come so far
 abbrev pub laid-on : World → Opened → List Entry → Ending → World
@@ -48,5 +48,5 @@ pub record LandsEntries (s : List ℕ) (p : EntriesPlace) (m s′ m′ : List �
   pub side : sidesIn s′ ≡ sidesIn s
 
 pub record LandsPackets (s : List ℕ) (p : PacketsPlace) (m s′ m′ : List ℕ) : Type 0 where
-  pub world : (e r h dt ot c : List ℕ) → worldIn s′ e r h dt ot c m′ ≡ played (bareIn s r dt m) (jobIn s) (streamIn s) (keptIn s e) (playingOf p r h dt ot c)
+  pub world : (e r h dt ot c : List ℕ) → worldIn s′ e r h dt ot c m′ ≡ played (bareIn s r dt m) (jobIn s) (streamIn s) (keptIn s e) (playing p (packetTables e r h c) (heldTokensIn s dt ot))
   pub side : sidesIn s′ ≡ sidesIn s

@@ -9,7 +9,6 @@ use run_packets::PacketsPlace;
 use run_settle::settle_refused;
 use run_state::COPIED;
 use run_state::HELD;
-use run_state::HELD_TOKENS;
 use run_state::KEPT;
 use run_state::MADE;
 use run_state::PLACE;
@@ -17,7 +16,6 @@ use run_state::STREAM_GPA;
 use run_state::STREAM_SIZE;
 use run_state::TAG;
 use run_state::TARGET;
-use run_state::TOKENS_COPIED;
 use run_state::WAITING;
 use run_state::Words;
 use widths::u32_to_word;
@@ -26,7 +24,7 @@ use words::low32;
 ghost use mathlib.Core.Path.{_≡_};
 ghost use Prim.Native.Nat.{_≤_};
 ghost use Rattle.rules.specs.Judging.{refusal, fault-at};
-ghost use Rattle.rules.specs.Numbers.{most, most-tokens};
+ghost use Rattle.rules.specs.Numbers.{most};
 ghost use Rattle.run_state.specs.Views.{tagIn};
 ghost use Rattle.run_after_phase.specs.Views.{LandsEntries, LandsPackets};
 
@@ -56,9 +54,9 @@ pub fn land_entries(words: &mut Words, p: EntriesPlace, mem: &mut [u8])
     settle_refused(words, mem, fault(p.why, p.kept));
 }
 
-// The packets at a place. A submission that waits has no word of its stream left.
+// The packets at a place; the tokens are in the words already. A submission that waits has no word of its stream left.
 pub fn land_packets(words: &mut Words, p: PacketsPlace, mem: &mut [u8])
-    requires { ⌜ (tagIn (now words) ≡ 2) × (p .held .live ≤ most) × (p .held .made ≤ most) × (p .held .tokens .used ≤ most-tokens) ⌝ }
+    requires { ⌜ (tagIn (now words) ≡ 2) × (p .held .live ≤ most) × (p .held .made ≤ most) ⌝ }
     ensures { λ _. ⌜ LandsPackets (now (words .entry)) p (now (mem .entry)) (now (words .exit)) (now (mem .exit)) ⌝ }
 {
     let held = p.held;
@@ -67,9 +65,6 @@ pub fn land_packets(words: &mut Words, p: PacketsPlace, mem: &mut [u8])
     let made = usize_to_word(held.made);
     let copied = u32_to_word(held.copied);
     let target = u32_to_word(held.target);
-    let tokens = held.tokens;
-    let used = u32_to_word(tokens.used);
-    let own = u32_to_word(tokens.copied);
     if p.ending == GOING {
         let all = &words[..];
         words[PLACE] = at;
@@ -77,8 +72,6 @@ pub fn land_packets(words: &mut Words, p: PacketsPlace, mem: &mut [u8])
         words[MADE] = made;
         words[COPIED] = copied;
         words[TARGET] = target;
-        words[HELD_TOKENS] = used;
-        words[TOKENS_COPIED] = own;
         return;
     }
     if p.ending == DONE {
@@ -91,8 +84,6 @@ pub fn land_packets(words: &mut Words, p: PacketsPlace, mem: &mut [u8])
         words[MADE] = made;
         words[COPIED] = copied;
         words[TARGET] = target;
-        words[HELD_TOKENS] = used;
-        words[TOKENS_COPIED] = own;
         return;
     }
     settle_refused(words, mem, fault(p.why, p.at));

@@ -3,9 +3,8 @@ use mathlib.Core.Path.{_≡_}
 use mathlib.Core.List.{List}
 use Prim.Native.Nat.{ℕ}
 use Rattle.rules.specs.Steps.{run-for}
-use Rattle.kept_resources.specs.Views.{Tables}
 use Rattle.run_state.specs.Views.{sidesIn}
-use Rattle.run_turns.specs.Views.{worldWith}
+use Rattle.run_turns.specs.Views.{Tables, worldWith}
 
 pub record RanFor (allowance : ℕ) (s : List ℕ) (t : Tables) (m : List ℕ) (units : ℕ) (s′ : List ℕ) (t′ : Tables) (m′ : List ℕ) : Type 0 where
   pub run : record { state = worldWith s′ t′ m′; units = units } ≡ run-for allowance (worldWith s t m)

@@ -25,16 +25,16 @@ fn turn_once(
     entries: &mut Entries,
     resources: &Resources,
     own: &mut Resources,
-    tokens: &Tokens,
-    owntokens: &mut Tokens,
+    firsttokens: &mut Tokens,
+    secondtokens: &mut Tokens,
     records: &mut Records,
     left: u16,
 ) -> u16
     requires { ⌜ 0 < left ⌝ }
     ensures { λ r. ⌜ TurnOf left (now (words .entry))
-        (record { entries = now (entries .entry); resources = now (resources .entry); own = now (own .entry); tokens = now (tokens .entry); ownTokens = now (owntokens .entry); records = now (records .entry) })
+        (record { entries = now (entries .entry); resources = now (resources .entry); own = now (own .entry); firstTokens = now (firsttokens .entry); secondTokens = now (secondtokens .entry); records = now (records .entry) })
         (now (mem .entry)) r (now (words .exit))
-        (record { entries = now (entries .exit); resources = now (resources .entry); own = now (own .exit); tokens = now (tokens .entry); ownTokens = now (owntokens .exit); records = now (records .exit) })
+        (record { entries = now (entries .exit); resources = now (resources .entry); own = now (own .exit); firstTokens = now (firsttokens .exit); secondTokens = now (secondtokens .exit); records = now (records .exit) })
         (now (mem .exit)) ⌝ }
 {
     if words[ENABLED] == 0 {
@@ -48,8 +48,8 @@ fn turn_once(
             entries,
             resources,
             own,
-            tokens,
-            owntokens,
+            firsttokens,
+            secondtokens,
             records,
             left,
         );
@@ -67,22 +67,23 @@ fn turn_once(
     1
 }
 
-// As many units as are allowed, until they are spent, nothing is due, or a submission waits: how many were spent.
+// As many units as are allowed, until they are spent, nothing is due, or a submission waits: how many were spent. What is lent stands in the order in
+// which a host lends it, so that a call hands it on as it is.
 pub fn run(
     words: &mut Words,
-    mem: &mut [u8],
     entries: &mut Entries,
     resources: &Resources,
     own: &mut Resources,
-    tokens: &Tokens,
-    owntokens: &mut Tokens,
+    firsttokens: &mut Tokens,
+    secondtokens: &mut Tokens,
     records: &mut Records,
+    mem: &mut [u8],
     allowance: u16,
 ) -> u16
     ensures { λ r. ⌜ RanFor allowance (now (words .entry))
-        (record { entries = now (entries .entry); resources = now (resources .entry); own = now (own .entry); tokens = now (tokens .entry); ownTokens = now (owntokens .entry); records = now (records .entry) })
+        (record { entries = now (entries .entry); resources = now (resources .entry); own = now (own .entry); firstTokens = now (firsttokens .entry); secondTokens = now (secondtokens .entry); records = now (records .entry) })
         (now (mem .entry)) r (now (words .exit))
-        (record { entries = now (entries .exit); resources = now (resources .entry); own = now (own .exit); tokens = now (tokens .entry); ownTokens = now (owntokens .exit); records = now (records .exit) })
+        (record { entries = now (entries .exit); resources = now (resources .entry); own = now (own .exit); firstTokens = now (firsttokens .exit); secondTokens = now (secondtokens .exit); records = now (records .exit) })
         (now (mem .exit)) ⌝ }
 {
     let mut units: u16 = 0;
@@ -93,8 +94,8 @@ pub fn run(
             entries,
             resources,
             own,
-            tokens,
-            owntokens,
+            firsttokens,
+            secondtokens,
             records,
             allowance - units,
         );

@@ -1,13 +1,15 @@
-// The phase of packets: one a unit, from the stream's own part of the memory lent at that unit.
+// The phase of packets: one a unit, from the stream's own part of the memory lent at that unit. It is left at a packet that needs tokens: few do,
+// and so the loop over the others has nothing of tokens in it.
 use kept_entries::Entries;
 use kept_records::Records;
 use kept_resources::resources::Resources;
-use kept_tokens::Tokens;
+use packet_apply::apply::LEFT;
+use packet_apply::apply::UNKNOWN;
 use packet_apply::apply::apply_packet;
 use packet_held::held::Changed;
 use packet_held::held::Held;
+use packet_held::held::SharedPacket;
 use rules::Packet;
-use rules::Verdict;
 use run_entries::ending::BROKEN;
 use run_entries::ending::DONE;
 use run_entries::ending::GOING;
@@ -16,12 +18,13 @@ use stream_packets::framing::packet_at;
 use stream_packets::framing::unknown_size;
 use widths::u32_to_usize;
 ghost use mathlib.Core.Path.{_≡_};
-ghost use Prim.Native.Nat.{_+_, _-_, _≤_, _^_, _<_};
+ghost use Prim.Native.Nat.{_+_, _-_, _≤_, _<_};
 ghost use lib.ListN.{length};
-ghost use Rattle.rules.specs.Packets.{pass};
-ghost use Rattle.kept_entries.specs.Views.{entriesOf};
-ghost use Rattle.packet_apply.specs.Apply.{heldOf, RoomFor, Changes};
-ghost use Rattle.run_packets.specs.Playing.{placeAfter, PacketStepped, Skips, PacketsRan};
+ghost use Rattle.packet_ranges.specs.Views.{RowsExist};
+ghost use Rattle.run_packets.specs.Playing.{placeAfter, nothingLeft, PacketTook, PacketStepped, Skips, PacketsRan};
+
+// How the phase stands where a packet is left: it needs tokens, and its unit is counted.
+pub const AT_SHARED: u32 = 3;
 
 // Where the packets stand: the place in the stream, what is held, how the phase stands, and the number of a rule that is broken, 0
 // otherwise.
@@ -32,97 +35,105 @@ pub struct PacketsPlace {
     pub why: u32,
 }
 
-// Where the packets stand after some units, and how many those were.
+// A packet that is left, and where the next one stands.
+pub struct Left {
+    pub next: usize,
+    pub packet: SharedPacket,
+}
+
+// Where the packets stand after some units, and how many those were. Where a packet is left, its unit is counted and yet to be done.
 pub struct PacketsRun {
     pub place: PacketsPlace,
     pub units: u16,
+    pub left: Left,
 }
 
-// The place after a packet of the stream: the next one, the end, or where it was refused.
-fn place_after(at: usize, next: usize, end: usize, x: Changed) -> PacketsPlace
-    ensures { λ r. ⌜ r ≡ placeAfter at next end x ⌝ }
+// No packet is left.
+fn nothing_left() -> Left
+    ensures { λ r. ⌜ r ≡ nothingLeft ⌝ }
 {
-    let verdict = x.verdict;
-    let held = x.held;
-    match verdict {
-        Verdict::Broken(why) => PacketsPlace {
-            at,
-            held,
-            ending: BROKEN,
-            why: why.code,
-        },
-        Verdict::Fine => {
-            if next < end {
-                return PacketsPlace {
-                    at: next,
-                    held,
-                    ending: GOING,
-                    why: 0,
-                };
-            }
-            PacketsPlace {
-                at: next,
-                held,
-                ending: DONE,
-                why: 0,
-            }
-        }
+    Left {
+        next: 0,
+        packet: SharedPacket::Nothing,
     }
 }
 
-// What a packet came to, and whether it is one that we do not know. That is a hint and nothing is said of it: more such packets are
-// likely to come.
-struct Taken {
-    changed: Changed,
-    unknown: bool,
+// The place after a packet of the stream: the next one, the end, or where it was refused.
+pub fn place_after(at: usize, next: usize, end: usize, x: Changed) -> PacketsPlace
+    ensures { λ r. ⌜ r ≡ placeAfter at next end x ⌝ }
+{
+    let held = x.held;
+    if x.why != 0 {
+        return PacketsPlace {
+            at,
+            held,
+            ending: BROKEN,
+            why: x.why,
+        };
+    }
+    if next < end {
+        return PacketsPlace {
+            at: next,
+            held,
+            ending: GOING,
+            why: 0,
+        };
+    }
+    PacketsPlace {
+        at: next,
+        held,
+        ending: DONE,
+        why: 0,
+    }
 }
 
-// A packet that was read does to what the submission holds what its kind does.
+// The place after a unit, whether its packet is one that nobody knows, which is a hint and nothing is said of it, and what is left.
+struct Stepped {
+    place: PacketsPlace,
+    unknown: bool,
+    left: Left,
+}
+
+// A packet that was read: the place after it, or that it is left.
 fn take_packet(
     entries: &Entries,
     kept: usize,
     resources: &Resources,
     own: &mut Resources,
-    tokens: &Tokens,
-    owntokens: &mut Tokens,
     records: &mut Records,
+    at: usize,
+    next: usize,
+    end: usize,
     h: Held,
     packet: Packet,
-) -> Taken
-    requires { ⌜ RoomFor kept h ⌝ }
-    ensures { λ x. ⌜ Changes (pass (entriesOf kept (now (entries .entry)))
-        (heldOf h (now (resources .entry)) (now (own .entry)) (now (tokens .entry)) (now (owntokens .entry)) (now (records .entry))) packet)
-        (now (resources .entry)) (now (tokens .entry)) (x .changed) (now (own .exit)) (now (owntokens .exit)) (now (records .exit)) ⌝ }
+) -> Stepped
+    requires { ⌜ RowsExist kept (h .live) (h .made) ⌝ }
+    ensures { λ r. ⌜ PacketTook end kept
+        (record { entries = now (entries .entry); resources = now (resources .entry); own = now (own .entry); records = now (records .entry) })
+        at next h packet (r .place) (r .left)
+        (record { entries = now (entries .entry); resources = now (resources .entry); own = now (own .exit); records = now (records .exit) }) ⌝ }
 {
-    match packet {
-        Packet::Unknown => Taken {
-            changed: Changed {
-                verdict: Verdict::Fine,
-                held: h,
+    let t = apply_packet(entries, kept, resources, own, records, h, packet);
+    let x = t.changed;
+    if t.what == LEFT {
+        let held = x.held;
+        let packet = t.left;
+        return Stepped {
+            place: PacketsPlace {
+                at,
+                held,
+                ending: AT_SHARED,
+                why: 0,
             },
-            unknown: true,
-        },
-        _ => Taken {
-            changed: apply_packet(
-                entries,
-                kept,
-                resources,
-                own,
-                tokens,
-                owntokens,
-                records,
-                h,
-                packet,
-            ),
             unknown: false,
-        },
+            left: Left { next, packet },
+        };
     }
-}
-
-// The place after a unit, and the hint of its packet.
-struct Stepped {
-    place: PacketsPlace,
-    unknown: bool,
+    Stepped {
+        place: place_after(at, next, end, x),
+        unknown: t.what == UNKNOWN,
+        left: nothing_left(),
+    }
 }
 
 // One unit: the packet at the place.
@@ -133,16 +144,14 @@ fn step_packet(
     kept: usize,
     resources: &Resources,
     own: &mut Resources,
-    tokens: &Tokens,
-    owntokens: &mut Tokens,
     records: &mut Records,
     p: PacketsPlace,
 ) -> Stepped
-    requires { ⌜ RoomFor kept (p .held) ⌝ }
+    requires { ⌜ RowsExist kept (p .held .live) (p .held .made) ⌝ }
     ensures { λ r. ⌜ PacketStepped (now (stream .entry)) end kept
-        (record { entries = now (entries .entry); resources = now (resources .entry); own = now (own .entry); tokens = now (tokens .entry); ownTokens = now (owntokens .entry); records = now (records .entry) })
-        p (r .place)
-        (record { entries = now (entries .entry); resources = now (resources .entry); own = now (own .exit); tokens = now (tokens .entry); ownTokens = now (owntokens .exit); records = now (records .exit) }) ⌝ }
+        (record { entries = now (entries .entry); resources = now (resources .entry); own = now (own .entry); records = now (records .entry) })
+        p (r .place) (r .left)
+        (record { entries = now (entries .entry); resources = now (resources .entry); own = now (own .exit); records = now (records .exit) }) ⌝ }
 {
     let at = p.at;
     let held = p.held;
@@ -155,24 +164,22 @@ fn step_packet(
                 why: why.code,
             },
             unknown: false,
+            left: nothing_left(),
         },
         PacketRead::Whole(size, packet) => {
             let next = at + u32_to_usize(size);
-            let t = take_packet(
+            take_packet(
                 entries,
                 kept,
                 resources,
                 own,
-                tokens,
-                owntokens,
                 records,
+                at,
+                next,
+                end,
                 held,
                 packet,
-            );
-            Stepped {
-                place: place_after(at, next, end, t.changed),
-                unknown: t.unknown,
-            }
+            )
         }
     }
 }
@@ -222,8 +229,8 @@ fn skip_unknown(stream: &[u8], bound: usize, from: usize, spent: u16, allowance:
     Skipped { at, units }
 }
 
-// Packets, one a unit, until the allowance is spent, the stream is done or a rule is broken. `resources` is the device's table of
-// resources, `own` the submission's own; `tokens` and `owntokens` likewise.
+// Packets, one a unit, until the allowance is spent, the stream is done, a rule is broken or a packet is left. `resources` is the device's
+// table of resources, `own` the submission's own.
 pub fn read_packets(
     stream: &[u8],
     end: usize,
@@ -231,38 +238,30 @@ pub fn read_packets(
     kept: usize,
     resources: &Resources,
     own: &mut Resources,
-    tokens: &Tokens,
-    owntokens: &mut Tokens,
     records: &mut Records,
     from: PacketsPlace,
     allowance: u16,
 ) -> PacketsRun
-    requires { ⌜ RoomFor kept (from .held) × (from .ending ≡ 0) ⌝ }
+    requires { ⌜ RowsExist kept (from .held .live) (from .held .made) × (from .ending ≡ 0) ⌝ }
     ensures { λ r. ⌜ PacketsRan (now (stream .entry)) end kept
-        (record { entries = now (entries .entry); resources = now (resources .entry); own = now (own .entry); tokens = now (tokens .entry); ownTokens = now (owntokens .entry); records = now (records .entry) })
+        (record { entries = now (entries .entry); resources = now (resources .entry); own = now (own .entry); records = now (records .entry) })
         from allowance r
-        (record { entries = now (entries .entry); resources = now (resources .entry); own = now (own .exit); tokens = now (tokens .entry); ownTokens = now (owntokens .exit); records = now (records .exit) }) ⌝ }
+        (record { entries = now (entries .entry); resources = now (resources .entry); own = now (own .exit); records = now (records .exit) }) ⌝ }
 {
     let bound = inner_bound(stream, end);
     let mut p = from;
     let mut units: u16 = 0;
     while units < allowance {
-        let t = step_packet(
-            stream,
-            end,
-            entries,
-            kept,
-            resources,
-            own,
-            tokens,
-            owntokens,
-            records,
-            p,
-        );
+        let t = step_packet(stream, end, entries, kept, resources, own, records, p);
         p = t.place;
         units += 1;
         if p.ending != GOING {
-            return PacketsRun { place: p, units };
+            let left = t.left;
+            return PacketsRun {
+                place: p,
+                units,
+                left,
+            };
         }
         if t.unknown {
             let s = skip_unknown(stream, bound, p.at, units, allowance);
@@ -270,5 +269,9 @@ pub fn read_packets(
             units = s.units;
         }
     }
-    PacketsRun { place: p, units }
+    PacketsRun {
+        place: p,
+        units,
+        left: nothing_left(),
+    }
 }

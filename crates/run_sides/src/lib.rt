@@ -1,73 +1,13 @@
-// A run over the arrays that a host lends, whichever of two is the device's: of resources, and of tokens.
+// A run over the arrays that a host lends, whichever of two tables of resources is the device's.
 use kept_entries::Entries;
 use kept_records::Records;
 use kept_resources::resources::Resources;
 use kept_tokens::Tokens;
 use run_state::SIDE;
-use run_state::TOKEN_SIDE;
 use run_state::Words;
-ghost use Rattle.run_sides.specs.Views.{RanSided, RanOn};
+ghost use Rattle.run_sides.specs.Views.{RanOn};
 
-// A run, with the table of tokens that is the device's and the other.
-fn run_sided(
-    words: &mut Words,
-    entries: &mut Entries,
-    resources: &Resources,
-    own: &mut Resources,
-    firsttokens: &mut Tokens,
-    secondtokens: &mut Tokens,
-    records: &mut Records,
-    mem: &mut [u8],
-    allowance: u16,
-) -> u16
-    ensures { λ r. ⌜ RanSided allowance (now (resources .entry))
-        (record {
-          words = now (words .entry);
-          entries = now (entries .entry);
-          own = now (own .entry);
-          firstTokens = now (firsttokens .entry);
-          secondTokens = now (secondtokens .entry);
-          records = now (records .entry);
-          mem = now (mem .entry);
-        })
-        r
-        (record {
-          words = now (words .exit);
-          entries = now (entries .exit);
-          own = now (own .exit);
-          firstTokens = now (firsttokens .exit);
-          secondTokens = now (secondtokens .exit);
-          records = now (records .exit);
-          mem = now (mem .exit);
-        }) ⌝ }
-{
-    if words[TOKEN_SIDE] == 0 {
-        return run_loop::run(
-            words,
-            mem,
-            entries,
-            resources,
-            own,
-            firsttokens,
-            secondtokens,
-            records,
-            allowance,
-        );
-    }
-    run_loop::run(
-        words,
-        mem,
-        entries,
-        resources,
-        own,
-        secondtokens,
-        firsttokens,
-        records,
-        allowance,
-    )
-}
-
-// A run, with the tables that are the device's and the others. Without an allowance nothing is looked at.
+// A run, with the table of resources that is the device's and the other. Without an allowance nothing is looked at.
 pub fn run_on(
     words: &mut Words,
     entries: &mut Entries,
@@ -106,7 +46,7 @@ pub fn run_on(
         return 0;
     }
     if words[SIDE] == 0 {
-        return run_sided(
+        return run_loop::run(
             words,
             entries,
             first,
@@ -118,7 +58,7 @@ pub fn run_on(
             allowance,
         );
     }
-    run_sided(
+    run_loop::run(
         words,
         entries,
         second,

@@ -16,6 +16,7 @@ use Rattle.rules.specs.State.{Work, State, World, registers-of}
 use Rattle.rules.specs.State.Work.{resting, entries, packets, waiting}
 use Rattle.rules.specs.declared.Registers.{Registers}
 use Rattle.rules.specs.declared.Entry.{Entry}
+use Rattle.rules.specs.declared.Token.{Token}
 use Rattle.rules.specs.declared.Job.{Job}
 use Rattle.rules.specs.declared.Table.{Table}
 use Rattle.rules.specs.declared.Stream.{Stream}
@@ -77,11 +78,17 @@ abbrev pub belongingsIn : List ℕ → List ℕ → List ℕ → Belongings
 belongingsIn s r dt =
     record { resources = resourcesOf (countIn (getD s 25 0)) r; tokens = tokensOf (tokenCountIn (getD s 32 0)) dt }
 
--- what the submission holds, its target and its tokens: resources and tokens are rows of the device's tables until it has its own
+-- the submission's tokens: rows of the device's table until it has its own
+abbrev pub heldTokensIn : List ℕ → List ℕ → List ℕ → List Token
+heldTokensIn s dt ot = tokensOf (tokenCountIn (getD s 33 0)) (pick (setIn (getD s 35 0)) ot dt)
+
+-- what the submission holds and its target, with these tokens: resources, too, are rows of the device's table until it has its own
+abbrev pub heldWith : List ℕ → List ℕ → List ℕ → List ℕ → List Token → Progress
+heldWith s r h c ts = progressOf (smallIn (getD s 31 0)) (countIn (getD s 26 0)) (pick (setIn (getD s 29 0)) h r) (countIn (getD s 27 0)) c ts
+
+-- the same with its own tokens
 abbrev pub heldIn : List ℕ → List ℕ → List ℕ → List ℕ → List ℕ → List ℕ → Progress
-heldIn s r h dt ot c =
-    progressOf (smallIn (getD s 31 0)) (countIn (getD s 26 0)) (pick (setIn (getD s 29 0)) h r) (countIn (getD s 27 0)) c
-    (tokensOf (tokenCountIn (getD s 33 0)) (pick (setIn (getD s 35 0)) ot dt))
+heldIn s r h dt ot c = heldWith s r h c (heldTokensIn s dt ot)
 
 -- what is in work, by its tag: none 0, entries 1, packets 2; any other waits for the host
 abbrev pub workIn : List ℕ → List ℕ → List ℕ → List ℕ → List ℕ → List ℕ → List ℕ → Work

@@ -21,7 +21,6 @@ use Rattle.rules.specs.State.{Work, World, working}
 use Rattle.rules.specs.State.Work.{entries, packets, waiting}
 use Rattle.rules.specs.Settle.{settled}
 use Rattle.rules.specs.Steps.{go, step, packets-at, entry-step, after-entry, packet-step, after-packet, next-place}
-use Rattle.kept_resources.specs.Views.{tables}
 use Rattle.rules.specs.declared.Entry.{Entry}
 use Rattle.rules.specs.declared.Job.{Job}
 use Rattle.rules.specs.declared.Table.{Table}
@@ -33,7 +32,7 @@ use Rattle.rules.specs.declared.Verdict.the-variants.{Fine, Broken as BrokenRul
 use Rattle.run_entries.specs.Ending.{Ending, onward}
 use Rattle.run_entries.specs.Ending.Ending.{Going, Done, Broken}
 use Rattle.run_entries.specs.Entries.{Reading, reading-goes, read-on, read-step}
-use Rattle.run_packets.specs.Playing.{Playing, playing-goes, play-on, play-step, PacketsRan}
+use Rattle.run_packets.specs.Playing.{Playing, playing-goes, play-on, play-step, PacketsRan, packetTables}
 use Rattle.run_packets.specs.declared.PacketsPlace.{PacketsPlace}
 use Rattle.run_packets.specs.declared.PacketsRun.{PacketsRun}
 use Rattle.run_after_phase.specs.Views.{laid-on, laid, played-on, played}
@@ -68,9 +67,9 @@ pub ruleset parting = (part-none, part-short, part-fits, part-whole, needs)
 
 -- ---- play
 
-pub played-part : (m b : List ℕ) (t : Stream) (end n : ℕ) (e : List ℕ) (p : PacketsPlace) (r l dt ot c : List ℕ) (left : ℕ) (x : PacketsRun) (l′ ot′ c′ : List ℕ) → b ≡ stream-bytes m t → end ≡ t .size
-    → PacketsRan b end n (tables e r l dt ot c) p left x (tables e r l′ dt ot′ c′) → PacketsRan (stream-bytes m t) (t .size) n (tables e r l dt ot c) p left x (tables e r l′ dt ot′ c′)
-played-part m b t end n e p r l dt ot c left x l′ ot′ c′ same long h = rw (← same, ← long) h
+pub played-part : (m b : List ℕ) (t : Stream) (end n : ℕ) (e : List ℕ) (p : PacketsPlace) (r l c : List ℕ) (left : ℕ) (x : PacketsRun) (l′ c′ : List ℕ) → b ≡ stream-bytes m t → end ≡ t .size
+    → PacketsRan b end n (packetTables e r l c) p left x (packetTables e r l′ c′) → PacketsRan (stream-bytes m t) (t .size) n (packetTables e r l c) p left x (packetTables e r l′ c′)
+played-part m b t end n e p r l c left x l′ c′ same long h = rw (← same, ← long) h
 
 pub ruleset playing = (played-part, needs)
 

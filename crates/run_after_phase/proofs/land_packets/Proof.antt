@@ -1,6 +1,6 @@
 -- `land_packets` meets its contract. Assumes nothing.
-use Rattle.run_after_phase.specs.Landing.{landing-packets}
 use borrow.Author.Needs.{needs}
+use Rattle.run_after_phase.specs.Landing.{landing-packets}
 use Rattle.run_after_phase.proofs.land_packets.Statement.{statement}
 use Rattle.run_after_phase.proofs.land_packets.Tie as tie
 
@@ -19,12 +19,6 @@ u32-to-word-requires c κs = search needs
 u32-to-word-requires-2 : tie.Need-u32-to-word-requires-2
 u32-to-word-requires-2 c κs = search needs
 
-u32-to-word-requires-3 : tie.Need-u32-to-word-requires-3
-u32-to-word-requires-3 c κs = search needs
-
-u32-to-word-requires-4 : tie.Need-u32-to-word-requires-4
-u32-to-word-requires-4 c κs = search needs
-
 element-write-words : tie.Need-element-write-words
 element-write-words c = search needs
 
@@ -40,14 +34,14 @@ element-write-words-4 c = search needs
 element-write-words-5 : tie.Need-element-write-words-5
 element-write-words-5 c = search needs
 
+returns : tie.Need-returns
+returns c = search landing-packets
+
 element-write-words-6 : tie.Need-element-write-words-6
 element-write-words-6 c = search needs
 
 element-write-words-7 : tie.Need-element-write-words-7
 element-write-words-7 c = search needs
-
-returns : tie.Need-returns
-returns c = search landing-packets
 
 element-write-words-8 : tie.Need-element-write-words-8
 element-write-words-8 c = search needs
@@ -66,18 +60,6 @@ element-write-words-12 c = search needs
 
 element-write-words-13 : tie.Need-element-write-words-13
 element-write-words-13 c = search needs
-
-element-write-words-14 : tie.Need-element-write-words-14
-element-write-words-14 c = search needs
-
-element-write-words-15 : tie.Need-element-write-words-15
-element-write-words-15 c = search needs
-
-element-write-words-16 : tie.Need-element-write-words-16
-element-write-words-16 c = search needs
-
-element-write-words-17 : tie.Need-element-write-words-17
-element-write-words-17 c = search needs
 
 returns-2 : tie.Need-returns-2
 returns-2 c = search landing-packets
@@ -103,26 +85,20 @@ land-packets-spec =
     usize-to-word-requires-3
     u32-to-word-requires
     u32-to-word-requires-2
-    u32-to-word-requires-3
-    u32-to-word-requires-4
     element-write-words
     element-write-words-2
     element-write-words-3
     element-write-words-4
     element-write-words-5
+    returns
     element-write-words-6
     element-write-words-7
-    returns
     element-write-words-8
     element-write-words-9
     element-write-words-10
     element-write-words-11
     element-write-words-12
     element-write-words-13
-    element-write-words-14
-    element-write-words-15
-    element-write-words-16
-    element-write-words-17
     returns-2
     fault-requires
     settle-refused-requires

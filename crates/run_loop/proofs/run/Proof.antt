@@ -6,20 +6,22 @@ use native.Mathlib.Omega.{arith}
 use lib.ListN.{length}
 use Rattle.machine.specs.Machine.{spent}
 use Rattle.rules.specs.Steps.{run-for}
-use Rattle.run_state.specs.Views.{worldIn, sidesIn}
-use Rattle.run_loop.specs.Turning.{advancing}
+use Rattle.run_state.specs.Views.{sidesIn}
+use Rattle.run_turns.specs.Views.{tables, worldWith}
+use Rattle.run_loop.specs.Turning.{advancing, run-stops}
 use Rattle.run_loop.proofs.run.Statement.{statement}
 use Rattle.run_loop.proofs.run.Tie as tie
 
 abbrev Inv-loop : tie.InvT-loop
-Inv-loop words₀ mem₀ entries₀ resources own₀ tokens owntokens₀ records₀ allowance units₀ words mem entries own owntokens records units =
+Inv-loop words₀ entries₀ resources own₀ firsttokens₀ secondtokens₀ records₀ mem₀ allowance units₀ words entries own firsttokens secondtokens records mem units =
     (units ≤ allowance)
     × (length mem ≡ length mem₀)
-    × (run-for allowance (worldIn words₀ entries₀ resources own₀ tokens owntokens₀ records₀ mem₀) ≡ spent units (run-for (allowance - units) (worldIn words entries resources own tokens owntokens records mem)))
+    × (run-for allowance (worldWith words₀ (tables entries₀ resources own₀ firsttokens₀ secondtokens₀ records₀) mem₀)
+    ≡ spent units (run-for (allowance - units) (worldWith words (tables entries resources own firsttokens secondtokens records) mem)))
     × (sidesIn words ≡ sidesIn words₀)
 
 abbrev μ-loop : tie.MeasureT-loop
-μ-loop words₀ mem₀ entries₀ resources own₀ tokens owntokens₀ records₀ allowance units₀ words mem entries own owntokens records units =
+μ-loop words₀ entries₀ resources own₀ firsttokens₀ secondtokens₀ records₀ mem₀ allowance units₀ words entries own firsttokens secondtokens records mem units =
     allowance - units
 
 loop-holds : tie.Need-loop-holds Inv-loop μ-loop
@@ -35,7 +37,7 @@ same-length : tie.Need-same-length Inv-loop μ-loop
 same-length c = search advancing
 
 returns : tie.Need-returns Inv-loop μ-loop
-returns c = search advancing
+returns c = search (run-stops, c .before .before .before .turn-once .ensures)
 
 add-units : tie.Need-add-units Inv-loop μ-loop
 add-units c = omega arith

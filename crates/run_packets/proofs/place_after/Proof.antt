@@ -1,13 +1,7 @@
+-- `place_after` meets its contract. Assumes nothing.
 use Rattle.run_packets.specs.Playing.{going-after}
-use borrow.Author.Needs.{needs}
 use Rattle.run_packets.proofs.place_after.Statement.{statement}
 use Rattle.run_packets.proofs.place_after.Tie as tie
-
-enum-known-verdict : tie.Need-enum-known-verdict
-enum-known-verdict c = search needs
-
-enum-told : tie.Need-enum-told
-enum-told c = search needs
 
 returns : tie.Need-returns
 returns c = search going-after
@@ -19,4 +13,4 @@ returns-3 : tie.Need-returns-3
 returns-3 c = search going-after
 
 pub place-after-spec : {M : Type 1} → statement M
-place-after-spec = tie.close (tie.spec enum-known-verdict enum-told returns returns-2 returns-3)
+place-after-spec = tie.close (tie.spec returns returns-2 returns-3)

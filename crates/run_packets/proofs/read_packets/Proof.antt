@@ -3,23 +3,21 @@
 use mathlib.Core.Path.{_≡_}
 use Prim.Native.Nat.{_≤_, _-_}
 use native.Mathlib.Omega.{arith}
-use Rattle.machine.specs.Machine.{spent, runFor}
 use Rattle.kept_entries.specs.Views.{entriesOf}
-use Rattle.packet_apply.specs.Apply.{RoomFor}
-use Rattle.run_packets.specs.Playing.{playing-goes, play-step, playingOf, playing-on}
+use Rattle.packet_ranges.specs.Views.{RowsExist}
+use Rattle.run_packets.specs.Playing.{packetTables, RunsOn, playing-on}
 use Rattle.run_packets.proofs.read_packets.Statement.{statement}
 use Rattle.run_packets.proofs.read_packets.Tie as tie
 
 abbrev Inv-loop : tie.InvT-loop
-Inv-loop stream end entries n resources own₀ tokens owntokens₀ records₀ allowance bound p₀ units₀ own owntokens records p units =
+Inv-loop stream end entries n resources own₀ records₀ allowance bound p₀ units₀ own records p units =
     (units ≤ allowance)
     × (p .ending ≡ 0)
-    × RoomFor n (p .held)
-    × (runFor playing-goes (play-step (entriesOf n entries) stream end) allowance (playingOf p₀ resources own₀ tokens owntokens₀ records₀)
-    ≡ spent units (runFor playing-goes (play-step (entriesOf n entries) stream end) (allowance - units) (playingOf p resources own tokens owntokens records)))
+    × RowsExist n (p .held .live) (p .held .made)
+    × RunsOn stream end (entriesOf n entries) allowance p₀ (packetTables entries resources own₀ records₀) units p (packetTables entries resources own records)
 
 abbrev μ-loop : tie.MeasureT-loop
-μ-loop stream end entries n resources own₀ tokens owntokens₀ records₀ allowance bound p₀ units₀ own owntokens records p units = allowance - units
+μ-loop stream end entries n resources own₀ records₀ allowance bound p₀ units₀ own records p units = allowance - units
 
 inner-bound-requires : tie.Need-inner-bound-requires Inv-loop μ-loop
 inner-bound-requires c κs = search playing-on
@@ -51,6 +49,9 @@ loop-less-2 c = search playing-on
 loop-again-2 : tie.Need-loop-again-2 Inv-loop μ-loop
 loop-again-2 c = (omega arith, search playing-on, search playing-on, search playing-on)
 
+nothing-left-requires : tie.Need-nothing-left-requires Inv-loop μ-loop
+nothing-left-requires c κs = search playing-on
+
 returns-2 : tie.Need-returns-2 Inv-loop μ-loop
 returns-2 c = search playing-on
 
@@ -70,4 +71,5 @@ read-packets-spec =
     loop-again
     loop-less-2
     loop-again-2
+    nothing-left-requires
     returns-2)

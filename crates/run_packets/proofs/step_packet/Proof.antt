@@ -10,6 +10,9 @@ packet-at-requires c κs = search needs
 enum-known-why : tie.Need-enum-known-why
 enum-known-why c = search needs
 
+nothing-left-requires : tie.Need-nothing-left-requires
+nothing-left-requires c κs = search needs
+
 enum-known-size : tie.Need-enum-known-size
 enum-known-size c = search needs
 
@@ -21,9 +24,6 @@ add-next c = search stepping-packet
 
 take-packet-requires : tie.Need-take-packet-requires
 take-packet-requires c κs = search needs
-
-place-after-requires : tie.Need-place-after-requires
-place-after-requires c κs = search needs
 
 returns : tie.Need-returns
 returns c = search stepping-packet
@@ -37,10 +37,10 @@ step-packet-spec =
     (tie.spec
     packet-at-requires
     enum-known-why
+    nothing-left-requires
     enum-known-size
     u32-to-usize-requires
     add-next
     take-packet-requires
-    place-after-requires
     returns
     returns-2)

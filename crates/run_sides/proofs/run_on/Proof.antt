@@ -1,6 +1,6 @@
 -- `run_on` meets its contract. Assumes nothing.
-use Rattle.run_sides.specs.Sides.{choosing}
 use borrow.Author.Needs.{needs}
+use Rattle.run_sides.specs.Sides.{choosing}
 use Rattle.run_sides.proofs.run_on.Statement.{statement}
 use Rattle.run_sides.proofs.run_on.Tie as tie
 
@@ -10,8 +10,8 @@ returns c = search choosing
 element-copy-out-if2 : tie.Need-element-copy-out-if2
 element-copy-out-if2 c = search needs
 
-run-sided-requires : tie.Need-run-sided-requires
-run-sided-requires c κs = search needs
+run-requires : tie.Need-run-requires
+run-requires c κs = search needs
 
 same-length : tie.Need-same-length
 same-length c = search needs
@@ -19,8 +19,8 @@ same-length c = search needs
 returns-2 : tie.Need-returns-2
 returns-2 c = search choosing
 
-run-sided-requires-2 : tie.Need-run-sided-requires-2
-run-sided-requires-2 c κs = search needs
+run-requires-2 : tie.Need-run-requires-2
+run-requires-2 c κs = search needs
 
 same-length-2 : tie.Need-same-length-2
 same-length-2 c = search needs
@@ -34,9 +34,9 @@ run-on-spec =
     (tie.spec
     returns
     element-copy-out-if2
-    run-sided-requires
+    run-requires
     same-length
     returns-2
-    run-sided-requires-2
+    run-requires-2
     same-length-2
     returns-3)

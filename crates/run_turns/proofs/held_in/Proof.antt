@@ -28,18 +28,6 @@ element-copy-out-low32 c = search needs
 low32-requires : tie.Need-low32-requires
 low32-requires c κs = search needs
 
-element-copy-out-tokens-in : tie.Need-element-copy-out-tokens-in
-element-copy-out-tokens-in c = search needs
-
-tokens-in-requires : tie.Need-tokens-in-requires
-tokens-in-requires c κs = search needs
-
-element-copy-out-mark-2 : tie.Need-element-copy-out-mark-2
-element-copy-out-mark-2 c = search needs
-
-mark-requires-2 : tie.Need-mark-requires-2
-mark-requires-2 c κs = search needs
-
 returns : tie.Need-returns
 returns c = search finding-held
 
@@ -55,8 +43,4 @@ held-in-spec =
     mark-requires
     element-copy-out-low32
     low32-requires
-    element-copy-out-tokens-in
-    tokens-in-requires
-    element-copy-out-mark-2
-    mark-requires-2
     returns)

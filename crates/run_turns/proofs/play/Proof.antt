@@ -1,6 +1,6 @@
 -- `play` meets its contract. Assumes nothing.
-use Rattle.run_turns.specs.Phases.{playing}
 use borrow.Author.Needs.{needs}
+use Rattle.run_turns.specs.Phases.{playing}
 use Rattle.run_turns.proofs.play.Statement.{statement}
 use Rattle.run_turns.proofs.play.Tie as tie
 
@@ -17,4 +17,5 @@ returns : tie.Need-returns
 returns c = search playing
 
 pub play-spec : {M : Type 1} → statement M
-play-spec = tie.close (tie.spec stream-part-requires u32-to-usize-requires read-packets-requires returns)
+play-spec =
+    tie.close (tie.spec stream-part-requires u32-to-usize-requires read-packets-requires returns)

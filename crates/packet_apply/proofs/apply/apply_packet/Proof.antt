@@ -10,11 +10,17 @@ enum-known-p c = search needs
 make-buffer-requires : tie.Need-make-buffer-requires
 make-buffer-requires c κs = search needs
 
+plain-requires : tie.Need-plain-requires
+plain-requires c κs = search needs
+
 enum-known-p-2 : tie.Need-enum-known-p-2
 enum-known-p-2 c = search needs
 
 make-texture-requires : tie.Need-make-texture-requires
 make-texture-requires c κs = search needs
+
+plain-requires-2 : tie.Need-plain-requires-2
+plain-requires-2 c κs = search needs
 
 enum-known-p-3 : tie.Need-enum-known-p-3
 enum-known-p-3 c = search needs
@@ -28,17 +34,26 @@ enum-known-p-4 c = search needs
 dirty-requires : tie.Need-dirty-requires
 dirty-requires c κs = search needs
 
+plain-requires-3 : tie.Need-plain-requires-3
+plain-requires-3 c κs = search needs
+
 enum-known-p-5 : tie.Need-enum-known-p-5
 enum-known-p-5 c = search needs
 
 copy-requires : tie.Need-copy-requires
 copy-requires c κs = search needs
 
+plain-requires-4 : tie.Need-plain-requires-4
+plain-requires-4 c κs = search needs
+
 enum-known-p-6 : tie.Need-enum-known-p-6
 enum-known-p-6 c = search needs
 
 aim-requires : tie.Need-aim-requires
 aim-requires c κs = search needs
+
+plain-requires-5 : tie.Need-plain-requires-5
+plain-requires-5 c κs = search needs
 
 enum-known-p-7 : tie.Need-enum-known-p-7
 enum-known-p-7 c = search needs
@@ -49,11 +64,17 @@ on-viewport-requires c κs = search needs
 with-own-requires : tie.Need-with-own-requires
 with-own-requires c κs = search needs
 
+plain-requires-6 : tie.Need-plain-requires-6
+plain-requires-6 c κs = search needs
+
 enum-known-p-8 : tie.Need-enum-known-p-8
 enum-known-p-8 c = search needs
 
 cut-requires : tie.Need-cut-requires
 cut-requires c κs = search needs
+
+plain-requires-7 : tie.Need-plain-requires-7
+plain-requires-7 c κs = search needs
 
 enum-known-p-9 : tie.Need-enum-known-p-9
 enum-known-p-9 c = search needs
@@ -64,23 +85,26 @@ on-clear-requires c κs = search needs
 with-own-requires-2 : tie.Need-with-own-requires-2
 with-own-requires-2 c κs = search needs
 
+plain-requires-8 : tie.Need-plain-requires-8
+plain-requires-8 c κs = search needs
+
 enum-known-p-10 : tie.Need-enum-known-p-10
 enum-known-p-10 c = search needs
 
-export-requires : tie.Need-export-requires
-export-requires c κs = search needs
+leave-requires : tie.Need-leave-requires
+leave-requires c κs = search needs
 
 enum-known-p-11 : tie.Need-enum-known-p-11
 enum-known-p-11 c = search needs
 
-import-requires : tie.Need-import-requires
-import-requires c κs = search needs
+leave-requires-2 : tie.Need-leave-requires-2
+leave-requires-2 c κs = search needs
 
 enum-known-p-12 : tie.Need-enum-known-p-12
 enum-known-p-12 c = search needs
 
-release-requires : tie.Need-release-requires
-release-requires c κs = search needs
+leave-requires-3 : tie.Need-leave-requires-3
+leave-requires-3 c κs = search needs
 
 enum-told : tie.Need-enum-told
 enum-told c = search needs
@@ -90,6 +114,9 @@ refuse-requires c κs = search needs
 
 with-own-requires-3 : tie.Need-with-own-requires-3
 with-own-requires-3 c κs = search needs
+
+plain-requires-9 : tie.Need-plain-requires-9
+plain-requires-9 c κs = search needs
 
 enum-told-2 : tie.Need-enum-told-2
 enum-told-2 c = search needs
@@ -142,33 +169,42 @@ apply-packet-spec =
     (tie.spec
     enum-known-p
     make-buffer-requires
+    plain-requires
     enum-known-p-2
     make-texture-requires
+    plain-requires-2
     enum-known-p-3
     destroy-requires
     enum-known-p-4
     dirty-requires
+    plain-requires-3
     enum-known-p-5
     copy-requires
+    plain-requires-4
     enum-known-p-6
     aim-requires
+    plain-requires-5
     enum-known-p-7
     on-viewport-requires
     with-own-requires
+    plain-requires-6
     enum-known-p-8
     cut-requires
+    plain-requires-7
     enum-known-p-9
     on-clear-requires
     with-own-requires-2
+    plain-requires-8
     enum-known-p-10
-    export-requires
+    leave-requires
     enum-known-p-11
-    import-requires
+    leave-requires-2
     enum-known-p-12
-    release-requires
+    leave-requires-3
     enum-told
     refuse-requires
     with-own-requires-3
+    plain-requires-9
     enum-told-2
     returns
     returns-2

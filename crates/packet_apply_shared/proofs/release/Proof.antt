@@ -1,12 +1,8 @@
 -- `release` meets its contract. Assumes nothing.
-use Rattle.packet_apply.specs.Apply.{releasing}
 use borrow.Author.Needs.{needs}
-use Rattle.packet_apply.proofs.apply.release.Statement.{statement}
-use Rattle.packet_apply.proofs.apply.release.Tie as tie
-use Rattle.packet_held.proofs.held.chosen.Reads as chosen-reads
-use Rattle.packet_apply.proofs.apply.judge_release.Reads as judge-release-reads
-use Rattle.packet_held.proofs.held.with_own.Reads as with-own-reads
-use Rattle.packet_held.proofs.tokens.without_token.Reads as without-token-reads
+use Rattle.packet_apply_shared.specs.Shared.{releasing}
+use Rattle.packet_apply_shared.proofs.release.Statement.{statement}
+use Rattle.packet_apply_shared.proofs.release.Tie as tie
 
 chosen-requires : tie.Need-chosen-requires
 chosen-requires c κs = search needs
@@ -23,11 +19,17 @@ without-token-requires c κs = search releasing
 with-own-requires : tie.Need-with-own-requires
 with-own-requires c κs = search needs
 
+with-tokens-requires : tie.Need-with-tokens-requires
+with-tokens-requires c κs = search needs
+
 enum-told-2 : tie.Need-enum-told-2
 enum-told-2 c = search needs
 
 with-own-requires-2 : tie.Need-with-own-requires-2
 with-own-requires-2 c κs = search needs
+
+with-tokens-requires-2 : tie.Need-with-tokens-requires-2
+with-tokens-requires-2 c κs = search needs
 
 returns : tie.Need-returns
 returns c = search releasing
@@ -44,7 +46,9 @@ release-spec =
     enum-told
     without-token-requires
     with-own-requires
+    with-tokens-requires
     enum-told-2
     with-own-requires-2
+    with-tokens-requires-2
     returns
     returns-2)

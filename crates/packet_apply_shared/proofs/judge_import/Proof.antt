@@ -1,10 +1,8 @@
 -- `judge_import` meets its contract. Assumes nothing.
-use Rattle.packet_apply.specs.Apply.{judging}
 use borrow.Author.Needs.{needs}
-use Rattle.packet_apply.proofs.apply.judge_import.Statement.{statement}
-use Rattle.packet_apply.proofs.apply.judge_import.Tie as tie
-use Rattle.packet_held.proofs.tokens.chosen_tokens.Reads as chosen-tokens-reads
-use Rattle.packet_share.proofs.import.on_import.Reads as on-import-reads
+use Rattle.packet_apply_shared.specs.Shared.{judging}
+use Rattle.packet_apply_shared.proofs.judge_import.Statement.{statement}
+use Rattle.packet_apply_shared.proofs.judge_import.Tie as tie
 
 chosen-tokens-requires : tie.Need-chosen-tokens-requires
 chosen-tokens-requires c κs = search needs

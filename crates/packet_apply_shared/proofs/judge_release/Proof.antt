@@ -1,10 +1,8 @@
 -- `judge_release` meets its contract. Assumes nothing.
-use Rattle.packet_apply.specs.Apply.{judging}
 use borrow.Author.Needs.{needs}
-use Rattle.packet_apply.proofs.apply.judge_release.Statement.{statement}
-use Rattle.packet_apply.proofs.apply.judge_release.Tie as tie
-use Rattle.packet_held.proofs.tokens.chosen_tokens.Reads as chosen-tokens-reads
-use Rattle.packet_share.proofs.release.on_release.Reads as on-release-reads
+use Rattle.packet_apply_shared.specs.Shared.{judging}
+use Rattle.packet_apply_shared.proofs.judge_release.Statement.{statement}
+use Rattle.packet_apply_shared.proofs.judge_release.Tie as tie
 
 chosen-tokens-requires : tie.Need-chosen-tokens-requires
 chosen-tokens-requires c κs = search needs

@@ -1,10 +1,8 @@
 -- `judge_export` meets its contract. Assumes nothing.
-use Rattle.packet_apply.specs.Apply.{judging}
 use borrow.Author.Needs.{needs}
-use Rattle.packet_apply.proofs.apply.judge_export.Statement.{statement}
-use Rattle.packet_apply.proofs.apply.judge_export.Tie as tie
-use Rattle.packet_held.proofs.tokens.chosen_tokens.Reads as chosen-tokens-reads
-use Rattle.packet_export.proofs.export.on_export.Reads as on-export-reads
+use Rattle.packet_apply_shared.specs.Shared.{judging}
+use Rattle.packet_apply_shared.proofs.judge_export.Statement.{statement}
+use Rattle.packet_apply_shared.proofs.judge_export.Tie as tie
 
 chosen-tokens-requires : tie.Need-chosen-tokens-requires
 chosen-tokens-requires c κs = search needs
