@@ -2,7 +2,7 @@
 """Brings the repository's own definitions and lemmas to the spelling of today's Rattle: words in snake case, types and facts in
 upper camel case. A dash stays where it joins names in the name of a lemma.
 
-usage: tools/respell.py [--check]     at the top of the repository, once, right after the kit's port.py
+usage: tools/respell.py [--check]     at the top of the repository, right after the kit's port.py. A second run turns nothing more.
 
 It reads every declaration of crates/*/specs and crates/*/proofs, decides by its type what it is (a type, a function, a lemma), and
 turns each name as a whole word in .antt and .rt files, in must-fail edits, and in code spans of README.md and docs/.
@@ -19,9 +19,9 @@ WORD = re.compile(NAME)
 QUIET = re.compile(r'"(?:[^"\\\n]|\\.)*"|(?<!\S)--[^\n]*|\{-.*?-\}', re.S)
 QUIET_RUST = re.compile(r'//[^\n]*|"(?:[^"\\\n]|\\.)*"')
 DECLARED = re.compile(
-    r"^( *)((?:pub |abbrev |opaque |irreducible |instance |unfolding )*)(" + NAME + r")((?: (?:\{[^{}]*\}|\([^()]*\)))*) : (.*)$"
+    r"^( *)((?:pub |abbrev |unfoldable |opaque |irreducible |instance |unfolding )*)(" + NAME + r")((?: (?:\{[^{}]*\}|\([^()]*\)))*) : (.*)$"
 )
-HEADED = re.compile(r"^( *)((?:pub |abbrev |opaque |irreducible |instance )*)(record|data|ruleset|syntax)\s+(?:pub )?(" + NAME + ")(.*)$")
+HEADED = re.compile(r"^( *)((?:pub |abbrev |unfoldable |opaque |irreducible |instance )*)(record|data|ruleset|syntax)\s+(?:pub )?(" + NAME + ")(.*)$")
 BY_HAND = {
     "answered": "answered",
     "by-resource": "by_resource",
@@ -30,6 +30,10 @@ BY_HAND = {
     "table-of": "checked_table",
     "tokenOf": "token_of_row",
     "resourceOf": "resource_of_row",
+    "packetAt": "packet_read_at",
+    "is-nan": "is_nan_bits",
+    "streamOf": "judged_stream",
+    "runFor": "run_while",
 }
 DATA = {"ℕ", "ℤ", "Bool", "List", "Maybe", "Option", "Float"}
 

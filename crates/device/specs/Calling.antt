@@ -2,12 +2,12 @@
 use Rattle.std.specs.Prelude.{◌≡◌, Bool, List, ℕ}
 use Rattle.std.proofs.Common.{rules}
 use Rattle.rules.specs.State.{made}
-use Rattle.rules.specs.Calls.{call-write, call-read, call-run, call-record, call-answer}
+use Rattle.rules.specs.Calls.{call_write, call_read, call_run, call_record, call_answer}
 use Rattle.register_writes.specs.Views.{Writes}
 use Rattle.device_calls.specs.Views.{value_of, record_read_of, Makes, Reads, GivesRecord}
 use Rattle.device_calls.specs.declared.ValueRead.{ValueRead}
 use Rattle.device_calls.specs.declared.RecordRead.{RecordRead}
-use Rattle.rules.specs.Saved.{call-save}
+use Rattle.rules.specs.Saved.{call_save}
 use Rattle.rules.specs.declared.Form.{Form}
 use Rattle.saved_save.specs.Views.{saved_of, Saves}
 use Rattle.saved_save.specs.declared.FileSaved.{FileSaved}
@@ -24,25 +24,25 @@ is_made memory s e a b ft st c k = k.new e a b ft st c
 
 module _ (d : Device) where
   pub wrote : (offset v answer : ℕ) (s' : List ℕ) → Writes d.words offset v answer s'
-      → wrote_of (record { answer = answer; device = record { words = s'; entries = d.entries; first = d.first; second = d.second; firsttokens = d.firsttokens; secondtokens = d.secondtokens; records = d.records } }) ≡ call-write (state_of d) offset v
+      → wrote_of (record { answer = answer; device = record { words = s'; entries = d.entries; first = d.first; second = d.second; firsttokens = d.firsttokens; secondtokens = d.secondtokens; records = d.records } }) ≡ call_write (state_of d) offset v
   wrote offset v answer s' k = k.wrote d.entries d.first d.second d.firsttokens d.secondtokens d.records
 
-  pub read : (offset : ℕ) (x : ValueRead) → Reads d.words offset x → value_of x ≡ call-read (state_of d) offset
+  pub read : (offset : ℕ) (x : ValueRead) → Reads d.words offset x → value_of x ≡ call_read (state_of d) offset
   read offset x k = k.value d.entries d.first d.second d.firsttokens d.secondtokens d.records
 
-  pub record_read : (i : ℕ) (x : RecordRead) → GivesRecord d.words d.records i x → record_read_of x ≡ call-record (state_of d) i
+  pub record_read : (i : ℕ) (x : RecordRead) → GivesRecord d.words d.records i x → record_read_of x ≡ call_record (state_of d) i
   record_read i x k = k.hands d.entries d.first d.second d.firsttokens d.secondtokens
 
   pub ran : (m : List ℕ) (allowance : ℕ) (x : Spent) (s' e' a' b' ft' st' c' m' : List ℕ) → Runs allowance (lent d.words d.entries d.first d.second d.firsttokens d.secondtokens d.records m) x (lent s' e' a' b' ft' st' c' m')
-      → ran_of (record { answer = x.answer; units = x.units; ended = x.ended; device = record { words = s'; entries = e'; first = a'; second = b'; firsttokens = ft'; secondtokens = st'; records = c' } }) m' ≡ call-run (world_of d m) allowance
+      → ran_of (record { answer = x.answer; units = x.units; ended = x.ended; device = record { words = s'; entries = e'; first = a'; second = b'; firsttokens = ft'; secondtokens = st'; records = c' } }) m' ≡ call_run (world_of d m) allowance
   ran m allowance x s' e' a' b' ft' st' c' m' k = k.ran
 
   pub answered : (m : List ℕ) (good : Bool) (allowance : ℕ) (x : Spent) (s' e' a' b' ft' st' c' m' : List ℕ) → Answers good allowance (lent d.words d.entries d.first d.second d.firsttokens d.secondtokens d.records m) x (lent s' e' a' b' ft' st' c' m')
-      → ran_of (record { answer = x.answer; units = x.units; ended = x.ended; device = record { words = s'; entries = e'; first = a'; second = b'; firsttokens = ft'; secondtokens = st'; records = c' } }) m' ≡ call-answer (world_of d m) good allowance
+      → ran_of (record { answer = x.answer; units = x.units; ended = x.ended; device = record { words = s'; entries = e'; first = a'; second = b'; firsttokens = ft'; secondtokens = st'; records = c' } }) m' ≡ call_answer (world_of d m) good allowance
   answered m good allowance x s' e' a' b' ft' st' c' m' k = k.ran
 
   pub saved : (f : Form) (buffer buffer' : List ℕ) (x : FileSaved) → Saves f d.words d.first d.second d.firsttokens d.secondtokens buffer x buffer'
-      → saved_of x buffer' ≡ call-save f (state_of d) buffer
+      → saved_of x buffer' ≡ call_save f (state_of d) buffer
   saved f buffer buffer' x k = k.saves d.entries d.records
 
   pub loaded : (file : List ℕ) (x : FileLoaded) (s' a' ft' : List ℕ) → Loads file d.words d.first d.firsttokens s' a' ft' x

@@ -3,7 +3,7 @@ use Rattle.std.specs.Prelude.{◌≡◌, List, ℕ}
 use Rattle.rules.specs.State.{State, World}
 use Rattle.rules.specs.Calls.{Wrote as WroteBy, Ran as RanBy}
 use Rattle.rules.specs.Numbers.{done}
-use Rattle.rules.specs.Loaded.{Loaded as LoadedBy, call-load}
+use Rattle.rules.specs.Loaded.{Loaded as LoadedBy, call_load}
 use Rattle.run_state.specs.Views.{state_in, desk_in, Refused, Rests}
 use Rattle.device.specs.declared.Device.{Device}
 use Rattle.device.specs.declared.Wrote.{Wrote}
@@ -27,6 +27,6 @@ loaded_of r = record { answer = r.answer; place = r.place; state = state_of r.de
 
 -- the rules' load; "device unchanged", to the last word and row, if it is refused; done, no word is left of what was in work
 pub record LoadsDevice (d : Device) (file : List ℕ) (r : Loaded) : Type 0 where
-  pub loads : loaded_of r ≡ call-load (state_of d) file
+  pub loads : loaded_of r ≡ call_load (state_of d) file
   pub refused : Refused r.answer → r.device ≡ d
   pub rests : r.answer ≡ done → Rests r.device.words

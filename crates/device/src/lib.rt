@@ -3,8 +3,8 @@
 // and says what it gives.
 ghost use Rattle.std.specs.Prelude.{◌≡◌};
 ghost use Rattle.rules.specs.State.{made};
-ghost use Rattle.rules.specs.Calls.{call-write, call-read, call-run, call-record, call-answer};
-ghost use Rattle.rules.specs.Saved.{call-save};
+ghost use Rattle.rules.specs.Calls.{call_write, call_read, call_run, call_record, call_answer};
+ghost use Rattle.rules.specs.Saved.{call_save};
 ghost use Rattle.device_calls.specs.Views.{value_of, record_read_of};
 ghost use Rattle.saved_save.specs.Views.{saved_of};
 ghost use Rattle.device.specs.Views.{state_of, world_of, wrote_of, ran_of, LoadsDevice};
@@ -69,7 +69,7 @@ impl Device {
 
     // What a write to a register makes of the device.
     pub fn write(self, offset: u32, value: u32) -> Wrote
-        ensures { wrote_of result ≡ call-write (state_of self) offset value }
+        ensures { wrote_of result ≡ call_write (state_of self) offset value }
     {
         let mut words = self.words;
         let entries = self.entries;
@@ -93,7 +93,7 @@ impl Device {
 
     // What a register shows.
     pub fn read(self, offset: u32) -> ValueRead
-        ensures { value_of result ≡ call-read (state_of self) offset }
+        ensures { value_of result ≡ call_read (state_of self) offset }
     {
         let words = self.words;
         device_calls::read(&words, offset)
@@ -101,7 +101,7 @@ impl Device {
 
     // Record i of the submission that waits.
     pub fn record(self, i: u32) -> RecordRead
-        ensures { record_read_of result ≡ call-record (state_of self) i }
+        ensures { record_read_of result ≡ call_record (state_of self) i }
     {
         let words = self.words;
         let records = self.records;
@@ -110,7 +110,7 @@ impl Device {
 
     // As many units as are allowed, over the memory lent now; says how many were spent and how it ended.
     pub fn run(self, mem: &mut [u8], allowance: u16) -> Ran
-        ensures { ran_of result mem.new ≡ call-run (world_of self mem.old) allowance }
+        ensures { ran_of result mem.new ≡ call_run (world_of self mem.old) allowance }
     {
         let mut words = self.words;
         let mut entries = self.entries;
@@ -151,7 +151,7 @@ impl Device {
     // The host's answer to what waits, and at once as many units as are allowed; says how many were spent and how it ended. An allowance
     // of 0 is an answer alone.
     pub fn answer(self, mem: &mut [u8], good: bool, allowance: u16) -> Ran
-        ensures { ran_of result mem.new ≡ call-answer (world_of self mem.old) good allowance }
+        ensures { ran_of result mem.new ≡ call_answer (world_of self mem.old) good allowance }
     {
         let mut words = self.words;
         let mut entries = self.entries;
@@ -192,7 +192,7 @@ impl Device {
 
     // Writes the device, at rest, into the lent buffer, in this form of a saved desk; says how many bytes those are.
     pub fn save(self, form: Form, buffer: &mut [u8]) -> FileSaved
-        ensures { saved_of result buffer.new ≡ call-save form (state_of self) buffer.old }
+        ensures { saved_of result buffer.new ≡ call_save form (state_of self) buffer.old }
     {
         let words = self.words;
         let first = self.first;

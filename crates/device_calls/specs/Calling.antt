@@ -10,14 +10,14 @@ use Rattle.rules.specs.Lists.{Found, nth}
 use Rattle.rules.specs.Lists.Found.{none, found}
 use Rattle.rules.specs.Registers.{Read as ReadAt, register}
 use Rattle.rules.specs.State.Work.{waiting}
-use Rattle.rules.specs.Calls.{valued, call-read, handed_out, call-record}
+use Rattle.rules.specs.Calls.{valued, call_read, handed_out, call_record}
 use Rattle.rules.specs.declared.Record.{Record}
 use Rattle.registers.specs.Map.{shown}
 use Rattle.registers.specs.declared.Shown.{Shown}
 use Rattle.registers.specs.declared.Shown.TheVariants.{Value, NoRegister as NoShown}
 use Rattle.rows.specs.Rows.{row_at, table, tab}
 use Rattle.kept_resources.specs.Views.{record_of, records_of}
-use Rattle.run_state.specs.Views.{countIn, registers_in, tag_in, worldIn, rested, state_in, side_in, token_side_in}
+use Rattle.run_state.specs.Views.{count_in, registers_in, tag_in, world_in, rested, state_in, side_in, token_side_in}
 use Rattle.run_state.specs.Reading.{none-live, none-used}
 use Rattle.run_state.specs.Stages.{waits_in, outs-in}
 use Rattle.run_state.specs.Spelled.{spell}
@@ -32,7 +32,7 @@ made_words n w = set (set (set (set (set (set (set (set (set (set (set (set (set
 pub makes : (s s' : List ℕ) (memory n : ℕ) → length s ≡ 36 → (n ≡ memory) × (n < 18446744073709551616)
     → s' ≡ rested (set (set (set (set (set (set (set (set (set (set (set (set (set (set (set (set (set (set s 0 n) 1 0) 2 0) 3 0) 4 0) 5 0) 6 0) 7 0) 8 0) 9 0) 10 0) 11 0) 30 0) 12 0) 25 0) 28 0) 32 0) 34 0)
     → Makes memory s'
-unfolding worldIn rested
+unfolding world_in rested
 makes s s' memory n long p is =
     record {
       new = λ e a b ft st c. rw is (spell (λ w. state_in (rested (made_words n w)) e a b ft st c) s long ∙ rw (p.0, none-live a, none-used ft));
@@ -53,11 +53,11 @@ shown-value (found x) v e = let same : x.value ≡ v = cc in rw same
 
 module _ (s : List ℕ) (offset : ℕ) (x : Shown) (is : x ≡ shown (register (registers_in s) offset)) where
   pub reads_none : x ≡ NoShown → Reads s offset (record { answer = no_register; value = 0 })
-  unfolding call-read worldIn
+  unfolding call_read world_in
   reads_none q = record { value = λ e a b ft st c. sym (shown-none (register (registers_in s) offset) (sym is ∙ q)) }
 
   pub reads-value : (v : ℕ) → x ≡ Value v → Reads s offset (record { answer = done; value = v })
-  unfolding call-read worldIn
+  unfolding call_read world_in
   reads-value v q = record { value = λ e a b ft st c. sym (shown-value (register (registers_in s) offset) v (sym is ∙ q)) }
 
 pub ruleset reading = (reads_none, reads-value, rules)
@@ -78,15 +78,15 @@ nth_past f i (suc n) (suc k) h = nth_past f (suc i) n k (omega arith)
 
 module _ (s c : List ℕ) (i k : ℕ) (at : k ≡ i) where
   pub hands-unasked : (x : RecordRead) → tag_in s < 3 → x ≡ no_record_read → GivesRecord s c i x
-  unfolding call-record nth
+  unfolding call_record nth
   hands-unasked x low p = record { hands = λ e a b ft st. rw (p, outs-in s e (pick (side_in s) b a) (pick (side_in s) a b) (pick (token_side_in s) st ft) (pick (token_side_in s) ft st) c [] low) }
 
-  module _ (waiting : 3 ≤ tag_in s) (n : ℕ) (is : (n ≡ countIn (get_or s 27 0)) × (n ≤ most)) where
+  module _ (waiting : 3 ≤ tag_in s) (n : ℕ) (is : (n ≡ count_in (get_or s 27 0)) × (n ≤ most)) where
     there : (e a b ft st : List ℕ) → handed_out (state_in s e a b ft st c).work ≡ records_of n c
     there e a b ft st = rw (waits_in s e (pick (side_in s) b a) (pick (side_in s) a b) (pick (token_side_in s) st ft) (pick (token_side_in s) ft st) c [] waiting, is.0)
 
     pub hands-past : (x : RecordRead) → n ≤ k → x ≡ no_record_read → GivesRecord s c i x
-    unfolding call-record table
+    unfolding call_record table
     hands-past x p q =
         let out : nth (records_of n c) i ≡ none = nth_past (λ j. record_of (row_at 5 c j)) 0 n i (omega arith) in
         record { hands = λ e a b ft st. rw (q, there e a b ft st, out) }
@@ -95,7 +95,7 @@ module _ (s c : List ℕ) (i k : ℕ) (at : k ≡ i) where
     record-room p = omega (arith, is.1)
 
     pub hands-there : (x : Record) → k < n → x ≡ record_of (row_at 5 c k) → GivesRecord s c i (record { answer = done; range = x })
-    unfolding call-record table
+    unfolding call_record table
     hands-there x p q =
         let out : nth (records_of n c) i ≡ found (record_of (row_at 5 c (0 + i))) = nth-tab (λ j. record_of (row_at 5 c j)) 0 n i (omega arith) in
         record { hands = λ e a b ft st. rw (there e a b ft st, out, zero-add, q, at) }

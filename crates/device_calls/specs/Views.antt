@@ -3,7 +3,7 @@
 use Rattle.std.specs.Prelude.{◌≡◌, List, ℕ}
 use Rattle.rules.specs.Numbers.{no_record}
 use Rattle.rules.specs.State.{made}
-use Rattle.rules.specs.Calls.{Value, no_range, RecordRead as RecordReadBy, call-read, call-record}
+use Rattle.rules.specs.Calls.{Value, no_range, RecordRead as RecordReadBy, call_read, call_record}
 use Rattle.run_state.specs.Views.{Rests, state_in}
 use Rattle.device_calls.specs.declared.ValueRead.{ValueRead}
 use Rattle.device_calls.specs.declared.RecordRead.{RecordRead}
@@ -23,7 +23,7 @@ pub record Makes (memory : ℕ) (s' : List ℕ) : Type 0 where
   pub rests : Rests s'
 
 pub record Reads (s : List ℕ) (offset : ℕ) (x : ValueRead) : Type 0 where
-  pub value : (e a b ft st c : List ℕ) → value_of x ≡ call-read (state_in s e a b ft st c) offset
+  pub value : (e a b ft st c : List ℕ) → value_of x ≡ call_read (state_in s e a b ft st c) offset
 
 pub record GivesRecord (s c : List ℕ) (i : ℕ) (x : RecordRead) : Type 0 where
-  pub hands : (e a b ft st : List ℕ) → record_read_of x ≡ call-record (state_in s e a b ft st c) i
+  pub hands : (e a b ft st : List ℕ) → record_read_of x ≡ call_record (state_in s e a b ft st c) i

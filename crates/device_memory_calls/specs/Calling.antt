@@ -7,9 +7,9 @@ use Rattle.machine.specs.Machine.{pick}
 use Rattle.rules.specs.Numbers.{done, other_memory, nothing_waits}
 use Rattle.rules.specs.State.{World}
 use Rattle.rules.specs.Steps.{run_for, waits, answered}
-use Rattle.rules.specs.Calls.{lent_another, Ran, ran, call-run, answer-alone, call-answer}
+use Rattle.rules.specs.Calls.{lent_another, Ran, ran, call_run, answer_alone, call_answer}
 use Rattle.rules.specs.declared.Ended.{Ended}
-use Rattle.run_state.specs.Views.{tag_in, worldIn, side_in, token_side_in, desk_in, lent}
+use Rattle.run_state.specs.Views.{tag_in, world_in, side_in, token_side_in, desk_in, lent}
 use Rattle.run_state.specs.Stages.{waits_in, works-on}
 use Rattle.settle.specs.Only.{answered-is-lent-alike}
 use Rattle.device_memory_calls.specs.Views.{refused_with, CarriesOn, Runs, Answers}
@@ -32,11 +32,11 @@ carries-nothing allowance k s e a b ft st c m z = carries-on allowance 0 k s e a
 -- ---- the memory that is lent
 
 memory-in : (s e a b ft st c m : List ℕ) → (desk_in s e a b ft st c m).state.memory ≡ get_or s 0 0
-unfolding worldIn
+unfolding world_in
 memory-in s e a b ft st c m = refl
 
 lent-in : (s e a b ft st c m : List ℕ) → (desk_in s e a b ft st c m).mem ≡ m
-unfolding worldIn
+unfolding world_in
 lent-in s e a b ft st c m = refl
 
 module _ (s e a b ft st c m : List ℕ) (memory : ℕ) (is : memory ≡ get_or s 0 0) where
@@ -54,12 +54,12 @@ not-refused allowance s e a b ft st c m s' e' a' b' ft' st' c' m' x k = ap (λ (
 
 module _ (s e a b ft st c m : List ℕ) (allowance memory : ℕ) (is : memory ≡ get_or s 0 0) (x : Spent) where
   pub runs_other : (length m ≡ memory → ⊥) → x ≡ refused_with other_memory → Runs allowance (lent s e a b ft st c m) x (lent s e a b ft st c m)
-  unfolding call-run
+  unfolding call_run
   runs_other n r = record { ran = rw (r, other s e a b ft st c m memory is n); still = λ q. refl }
 
   pub runs_done : (s' e' a' b' ft' st' c' m' : List ℕ) → length m ≡ memory → CarriesOn allowance (lent s e a b ft st c m) x (lent s' e' a' b' ft' st' c' m')
       → Runs allowance (lent s e a b ft st c m) x (lent s' e' a' b' ft' st' c' m')
-  unfolding call-run
+  unfolding call_run
   runs_done s' e' a' b' ft' st' c' m' n k =
       record {
         ran = rw (own s e a b ft st c m memory is n) k.carried;
@@ -72,19 +72,19 @@ pub ruleset running = (runs_other, runs_done, carries-on, rules)
 
 module _ (s e a b ft st c m : List ℕ) (good : Bool) (allowance memory : ℕ) (is : memory ≡ get_or s 0 0) (x : Spent) where
   pub answers-other : (length m ≡ memory → ⊥) → x ≡ refused_with other_memory → Answers good allowance (lent s e a b ft st c m) x (lent s e a b ft st c m)
-  unfolding answer-alone call-answer
+  unfolding answer_alone call_answer
   answers-other n r = record { ran = rw (r, other s e a b ft st c m memory is n); still = λ q. refl }
 
   module _ (n : length m ≡ memory) where
     pub answers-unasked : tag_in s < 3 → x ≡ refused_with nothing_waits → Answers good allowance (lent s e a b ft st c m) x (lent s e a b ft st c m)
-    unfolding answer-alone call-answer
+    unfolding answer_alone call_answer
     answers-unasked low r =
         record { ran = rw (r, own s e a b ft st c m memory is n, works-on s e (pick (side_in s) b a) (pick (side_in s) a b) (pick (token_side_in s) st ft) (pick (token_side_in s) ft st) c m low); still = λ q. refl }
 
     module _ (asked : 3 ≤ tag_in s) where
       -- what the rules' call then is
-      answered-as : call-answer (desk_in s e a b ft st c m) good allowance ≡ ran (run_for allowance (answered good (desk_in s e a b ft st c m)))
-      unfolding answer-alone call-answer call-run
+      answered-as : call_answer (desk_in s e a b ft st c m) good allowance ≡ ran (run_for allowance (answered good (desk_in s e a b ft st c m)))
+      unfolding answer_alone call_answer call_run
       answered-as =
           let awaits : waits (desk_in s e a b ft st c m).state ≡ true = rw (waits_in s e (pick (side_in s) b a) (pick (side_in s) a b) (pick (token_side_in s) st ft) (pick (token_side_in s) ft st) c m asked) in
           rw (own s e a b ft st c m memory is n, awaits, answered-is-lent-alike good (desk_in s e a b ft st c m), own s e a b ft st c m memory is n)

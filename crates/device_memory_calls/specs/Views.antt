@@ -2,7 +2,7 @@
 -- row and byte.
 use Rattle.std.specs.Prelude.{◌≡◌, Bool, List, ℕ}
 use Rattle.rules.specs.Steps.{run_for}
-use Rattle.rules.specs.Calls.{Ran, ran, call-run, call-answer}
+use Rattle.rules.specs.Calls.{Ran, ran, call_run, call_answer}
 use Rattle.rules.specs.declared.Ended.TheVariants.{Idle}
 use Rattle.run_state.specs.Views.{Lent, desk_of, Refused}
 use Rattle.device_memory_calls.specs.declared.Spent.{Spent}
@@ -18,9 +18,9 @@ pub record CarriesOn (allowance : ℕ) (l : Lent) (x : Spent) (l' : Lent) : Type
   pub carried : ran_of x l' ≡ ran (run_for allowance (desk_of l))
 
 pub record Runs (allowance : ℕ) (l : Lent) (x : Spent) (l' : Lent) : Type 0 where
-  pub ran : ran_of x l' ≡ call-run (desk_of l) allowance
+  pub ran : ran_of x l' ≡ call_run (desk_of l) allowance
   pub still : Refused x.answer → l' ≡ l
 
 pub record Answers (good : Bool) (allowance : ℕ) (l : Lent) (x : Spent) (l' : Lent) : Type 0 where
-  pub ran : ran_of x l' ≡ call-answer (desk_of l) good allowance
+  pub ran : ran_of x l' ≡ call_answer (desk_of l) good allowance
   pub still : Refused x.answer → l' ≡ l

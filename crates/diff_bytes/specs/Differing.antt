@@ -10,7 +10,7 @@ use Rattle.machine.specs.Machine.{pick}
 use Rattle.words.specs.Fields.{bytes_of-le}
 use Rattle.words.specs.Over.{below_or_not}
 use Rattle.rules.specs.Bytes.{bytes_of, field}
-use Rattle.rules.specs.Difference.{differing-from, differing, next-from}
+use Rattle.rules.specs.Difference.{differing_from, differing, next_from}
 use Rattle.rules.specs.declared.Offset.{Offset}
 use Rattle.rules.specs.declared.Offset.TheVariants.{At, Nowhere}
 
@@ -45,23 +45,23 @@ first_of (i ∷ offsets) = At i
 
 -- the bytes from an offset on
 abbrev pub from_offset : List ℕ → List ℕ → ℕ → List ℕ
-from_offset x y i = differing-from i (drop i x) (drop i y)
+from_offset x y i = differing_from i (drop i x) (drop i y)
 
-none_below : (from i : ℕ) (x y : List ℕ) → from ≤ i → next-from from (differing-from i x y) ≡ first_of (differing-from i x y)
-unfolding differing-from next-from
+none_below : (from i : ℕ) (x y : List ℕ) → from ≤ i → next_from from (differing_from i x y) ≡ first_of (differing_from i x y)
+unfolding differing_from next_from
 none_below from i [] [] h = refl
 none_below from i [] (n ∷ y) h = rw (le-ltb i from h)
 none_below from i (m ∷ x) [] h = rw (le-ltb i from h)
 none_below from i (m ∷ x) (n ∷ y) h = by_test (eqb m n) (none_below from (i + 1) x y (omega arith))
   where
-    by_test : (t : Bool) → next-from from (differing-from (i + 1) x y) ≡ first_of (differing-from (i + 1) x y)
-        → next-from from (pick t (differing-from (i + 1) x y) (i ∷ differing-from (i + 1) x y)) ≡ first_of (pick t (differing-from (i + 1) x y) (i ∷ differing-from (i + 1) x y))
+    by_test : (t : Bool) → next_from from (differing_from (i + 1) x y) ≡ first_of (differing_from (i + 1) x y)
+        → next_from from (pick t (differing_from (i + 1) x y) (i ∷ differing_from (i + 1) x y)) ≡ first_of (pick t (differing_from (i + 1) x y) (i ∷ differing_from (i + 1) x y))
     by_test true e = e
     by_test false e = rw (le-ltb i from h)
 
 -- those below the given offset are passed over
-skips : (n i : ℕ) (x y : List ℕ) → next-from (i + n) (differing-from i x y) ≡ first_of (differing-from (i + n) (drop n x) (drop n y))
-unfolding differing-from next-from
+skips : (n i : ℕ) (x y : List ℕ) → next_from (i + n) (differing_from i x y) ≡ first_of (differing_from (i + n) (drop n x) (drop n y))
+unfolding differing_from next_from
 skips zero i x y = rw add-zero (none_below i i x y (omega arith))
 skips (suc n) i [] [] = refl
 skips (suc n) i [] (b ∷ y) =
@@ -72,11 +72,11 @@ skips (suc n) i (a ∷ x) [] =
     rw (lt-ltb i (i + suc n) (omega arith), e) (rw drop-nil at (skips n (i + 1) x []))
 skips (suc n) i (a ∷ x) (b ∷ y) =
     let e : i + suc n ≡ i + 1 + n = omega arith in
-    let later : next-from (i + suc n) (differing-from (i + 1) x y) ≡ first_of (differing-from (i + suc n) (drop n x) (drop n y)) = rw e (skips n (i + 1) x y) in
+    let later : next_from (i + suc n) (differing_from (i + 1) x y) ≡ first_of (differing_from (i + suc n) (drop n x) (drop n y)) = rw e (skips n (i + 1) x y) in
     by_test (eqb a b) later
   where
-    by_test : (t : Bool) → next-from (i + suc n) (differing-from (i + 1) x y) ≡ first_of (differing-from (i + suc n) (drop n x) (drop n y))
-        → next-from (i + suc n) (pick t (differing-from (i + 1) x y) (i ∷ differing-from (i + 1) x y)) ≡ first_of (differing-from (i + suc n) (drop n x) (drop n y))
+    by_test : (t : Bool) → next_from (i + suc n) (differing_from (i + 1) x y) ≡ first_of (differing_from (i + suc n) (drop n x) (drop n y))
+        → next_from (i + suc n) (pick t (differing_from (i + 1) x y) (i ∷ differing_from (i + 1) x y)) ≡ first_of (differing_from (i + suc n) (drop n x) (drop n y))
     by_test true e = e
     by_test false e = rw (lt-ltb i (i + suc n) (omega arith)) e
 
@@ -89,19 +89,19 @@ module _ (x y : List ℕ) where
   -- both bytes are there
   both-there : (i : ℕ) → i < length x → i < length y
       → from_offset x y i ≡ pick (eqb (get_or x i 0) (get_or y i 0)) (from_offset x y (i + 1)) (i ∷ from_offset x y (i + 1))
-  unfolding differing-from
+  unfolding differing_from
   both-there i h k = rw (drop-next x i h, drop-next y i k)
 
   first-there : (i : ℕ) → i < length x → length y ≤ i → from_offset x y i ≡ i ∷ from_offset x y (i + 1)
-  unfolding differing-from
+  unfolding differing_from
   first-there i h k = let l : length y ≤ i + 1 = omega arith in rw (drop-next x i h, drop_of_length-le y k, drop_of_length-le y l)
 
   second-there : (i : ℕ) → length x ≤ i → i < length y → from_offset x y i ≡ i ∷ from_offset x y (i + 1)
-  unfolding differing-from
+  unfolding differing_from
   second-there i h k = let l : length x ≤ i + 1 = omega arith in rw (drop-next y i k, drop_of_length-le x h, drop_of_length-le x l)
 
   pub none-there : (i : ℕ) → max (length x) (length y) ≤ i → from_offset x y i ≡ []
-  unfolding differing-from
+  unfolding differing_from
   none-there i h = let l : length x ≤ i = omega arith in let k : length y ≤ i = omega arith in rw (drop_of_length-le x l, drop_of_length-le y k)
 
   -- the list from an offset on has it exactly if the packets differ there
@@ -154,12 +154,12 @@ eight-same x y i p q h k m n e d =
     }
 
 -- equal bytes at the front give no offset
-front-equal : (p : List ℕ) (i : ℕ) (x y : List ℕ) → differing-from i (p ++ x) (p ++ y) ≡ differing-from (i + length p) x y
-unfolding differing-from
+front-equal : (p : List ℕ) (i : ℕ) (x y : List ℕ) → differing_from i (p ++ x) (p ++ y) ≡ differing_from (i + length p) x y
+unfolding differing_from
 front-equal [] i x y = rw add-zero
 front-equal (m ∷ p) i x y =
     let e : i + 1 + length p ≡ i + suc (length p) = omega arith in
-    rw (eq-eqb m m refl) (front-equal p (i + 1) x y ∙ ap (λ n. differing-from n x y) e)
+    rw (eq-eqb m m refl) (front-equal p (i + 1) x y ∙ ap (λ n. differing_from n x y) e)
 
 module _ (x y : List ℕ) (from i : ℕ) (w : from_offset x y from ≡ from_offset x y i) (end : ℕ) (short : end ≡ min (length x) (length y)) (h : i < end) where
   module _ (all : 8 ≤ end - i) where
@@ -175,14 +175,14 @@ module _ (x y : List ℕ) (from i : ℕ) (w : from_offset x y from ≡ from_offs
         let a : drop i x ≡ take 8 (drop i x) ++ drop (i + 8) x = sym (take-append-drop 8 (drop i x)) ∙ rw drop-drop in
         let b : drop i y ≡ take 8 (drop i x) ++ drop (i + 8) y = sym (take-append-drop 8 (drop i y)) ∙ rw (drop-drop, ← e) in
         let k : length (take 8 (drop i x)) ≡ 8 = length-take-le 8 (drop i x) (rw length-drop (omega arith)) in
-        w ∙ (ap (λ l. differing-from i l (drop i y)) a ∙ (ap (λ l. differing-from i (take 8 (drop i x) ++ drop (i + 8) x) l) b
-        ∙ (front-equal (take 8 (drop i x)) i (drop (i + 8) x) (drop (i + 8) y) ∙ ap (λ n. differing-from (i + n) (drop (i + 8) x) (drop (i + 8) y)) k)))
+        w ∙ (ap (λ l. differing_from i l (drop i y)) a ∙ (ap (λ l. differing_from i (take 8 (drop i x) ++ drop (i + 8) x) l) b
+        ∙ (front-equal (take 8 (drop i x)) i (drop (i + 8) x) (drop (i + 8) y) ∙ ap (λ n. differing_from (i + n) (drop (i + 8) x) (drop (i + 8) y)) k)))
 
 pub ruleset going_by_eight = (eight-first, eight-second, eight-on, rules)
 
 module _ (x y : List ℕ) (from : ℕ) where
   abbrev asked : Offset
-  asked = next-from from (differing x y)
+  asked = next_from from (differing x y)
 
   pub next_start : asked ≡ first_of (from_offset x y from)
   next_start = rw zero-add at (skips from 0 x y)

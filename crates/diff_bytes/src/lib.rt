@@ -1,6 +1,6 @@
 // Where the bytes of two packets differ: bytes past the shorter of the two count as differing.
 ghost use Rattle.std.specs.Prelude.{◌≡◌, ◌+◌, ◌≤◌, min, max, length};
-ghost use Rattle.rules.specs.Difference.{differing, next-from};
+ghost use Rattle.rules.specs.Difference.{differing, next_from};
 ghost use Rattle.diff_bytes.specs.Differing.{differs_at, from_offset, SameEight};
 
 use rules::Offset;
@@ -66,7 +66,7 @@ fn equal_until(a: &[u8], b: &[u8], from: usize) -> usize
 
 // The least offset, not below `from`, where two packets differ.
 pub fn next_differing(a: &[u8], b: &[u8], from: usize) -> Offset
-    ensures { result ≡ next-from from (differing a.now b.now) }
+    ensures { result ≡ next_from from (differing a.now b.now) }
 {
     let end = longer(a, b);
     let mut i = equal_until(a, b, from);

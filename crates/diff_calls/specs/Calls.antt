@@ -5,7 +5,7 @@ use Rattle.std.specs.Int.{w64}
 use Rattle.words.specs.Over.{below_or_not}
 use Rattle.rules.specs.Layouts.{stream_header_size}
 use Rattle.rules.specs.Lists.{nth}
-use Rattle.rules.specs.Difference.{packets, checked, check, class_of, offsets_of, next-from, parted, parts, class_asked, next_asked, own, packet_at, size_at, behind, pair_in, pair_at, next_at, onward, start}
+use Rattle.rules.specs.Difference.{packets, checked, check, class_of, offsets_of, next_from, parted, parts, class_asked, next_asked, own, packet_at, size_at, behind, pair_in, pair_at, next_at, onward, start}
 use Rattle.rules.specs.declared.Checked.{Checked}
 use Rattle.rules.specs.declared.Checked.TheVariants.{Valid, Refused}
 use Rattle.rules.specs.declared.Class.{Class}
@@ -74,11 +74,11 @@ module _ (b c : List ℕ) (x : Checked) (is : x ≡ check b c) where
             ∙ ap (λ u. class_of (nth (packets b) i) u) (g ∙ ap (λ u. nth u i) second_is))) in
             rw (← is, e, same)
 
-        pub next-is : (from : ℕ) (r : Offset) → r ≡ next-from from (offsets_of (packet_at s at) (packet_at t to)) → OffsetIs r ≡ next_asked b c i from
+        pub next-is : (from : ℕ) (r : Offset) → r ≡ next_from from (offsets_of (packet_at s at) (packet_at t to)) → OffsetIs r ≡ next_asked b c i from
         next-is from r h =
-            let same : r ≡ next-from from (offsets_of (nth (packets b) i) (nth (packets c) i)) =
-            h ∙ (ap (λ u. next-from from (offsets_of u (packet_at t to))) (f ∙ ap (λ u. nth u i) first-is)
-            ∙ ap (λ u. next-from from (offsets_of (nth (packets b) i) u)) (g ∙ ap (λ u. nth u i) second_is)) in
+            let same : r ≡ next_from from (offsets_of (nth (packets b) i) (nth (packets c) i)) =
+            h ∙ (ap (λ u. next_from from (offsets_of u (packet_at t to))) (f ∙ ap (λ u. nth u i) first-is)
+            ∙ ap (λ u. next_from from (offsets_of (nth (packets b) i) u)) (g ∙ ap (λ u. nth u i) second_is)) in
             rw (← is, e, same)
 
 pub ruleset asking_parts = (parts-refused, parts_is, rules)
@@ -95,7 +95,7 @@ module _ (b c s t : List ℕ) (p : s ≡ own b) (q : t ≡ own c) (k : Cursor) w
   pub pair-here : (r : Pair) → r ≡ pair_in s k.first t k.second → r ≡ pair_at b c k
   pair-here r h = rw (← p, ← q) h
 
-  pub next_here : (from : ℕ) (r : Offset) → r ≡ next-from from (offsets_of (packet_at s k.first) (packet_at t k.second)) → r ≡ next_at b c k from
+  pub next_here : (from : ℕ) (r : Offset) → r ≡ next_from from (offsets_of (packet_at s k.first) (packet_at t k.second)) → r ≡ next_at b c k from
   next_here from r h = rw (← p, ← q) h
 
   pub goes-onward : (m n : ℕ) → m ≡ behind s k.first → n ≡ behind t k.second → record { first = m; second = n } ≡ onward b c k

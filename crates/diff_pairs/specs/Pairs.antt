@@ -3,7 +3,7 @@ use Rattle.std.specs.Prelude.{◌≡◌, refl, List, [], ◌∷◌, ℕ, ◌+◌
 use Rattle.std.proofs.Common.{sym, ◌∙◌, arith, rules, length-drop, length-take-le}
 use borrow.Author.Tests.{eq-eqb, ne_eqb}
 use Rattle.rules.specs.Layouts.{word}
-use Rattle.rules.specs.Difference.{differing, same_opcode, class-both, offsets-both, class_of, offsets_of, next-from, packet_at, size_at, pair_in}
+use Rattle.rules.specs.Difference.{differing, same_opcode, class_both, offsets_both, class_of, offsets_of, next_from, packet_at, size_at, pair_in}
 use Rattle.rules.specs.declared.Class.{Class}
 use Rattle.rules.specs.declared.Class.TheVariants.{Equal, SameOpcode, OtherOpcode, OnlyFirst, OnlySecond, Neither}
 use Rattle.rules.specs.declared.Offset.{Offset}
@@ -14,7 +14,7 @@ use Rattle.diff_walk.specs.Walk.{no-packet, some-packet}
 -- ---- compare, next_of_parts
 
 -- the whole list, by its first member
-module _ (x y : List ℕ) (o : Offset) (is : o ≡ next-from 0 (differing x y)) where
+module _ (x y : List ℕ) (o : Offset) (is : o ≡ next_from 0 (differing x y)) where
   first-is : o ≡ first_of (differing x y)
   first-is = is ∙ next_start x y 0
 
@@ -33,25 +33,25 @@ module _ (x y : List ℕ) (o : Offset) (is : o ≡ next-from 0 (differing x y)) 
   none_differ f = by-none (differing x y) first-is f
 
 module _ (x y : List ℕ) (a b : ℕ) (p : a ≡ word x 0) (q : b ≡ word y 0) where
-  pub other-class : (a ≡ b → ⊥) → OtherOpcode ≡ class-both x y
-  unfolding class-both
+  pub other-class : (a ≡ b → ⊥) → OtherOpcode ≡ class_both x y
+  unfolding class_both
   other-class n = rw (← p, ← q, ne_eqb a b n)
 
-  pub other-next : (from : ℕ) → (a ≡ b → ⊥) → Nowhere ≡ next-from from (offsets-both x y)
-  unfolding offsets-both next-from
+  pub other-next : (from : ℕ) → (a ≡ b → ⊥) → Nowhere ≡ next_from from (offsets_both x y)
+  unfolding offsets_both next_from
   other-next from n = rw (← p, ← q, ne_eqb a b n)
 
   module _ (e : a ≡ b) where
-    pub same_class : (o : Offset) → o ≡ next-from 0 (differing x y) → (i : ℕ) → o ≡ At i → SameOpcode ≡ class-both x y
-    unfolding class-both
+    pub same_class : (o : Offset) → o ≡ next_from 0 (differing x y) → (i : ℕ) → o ≡ At i → SameOpcode ≡ class_both x y
+    unfolding class_both
     same_class o is i f = rw (← p, ← q, eq-eqb a b e, some-differ x y o is i f)
 
-    pub equal-class : (o : Offset) → o ≡ next-from 0 (differing x y) → o ≡ Nowhere → Equal ≡ class-both x y
-    unfolding class-both
+    pub equal-class : (o : Offset) → o ≡ next_from 0 (differing x y) → o ≡ Nowhere → Equal ≡ class_both x y
+    unfolding class_both
     equal-class o is f = rw (← p, ← q, eq-eqb a b e, none_differ x y o is f)
 
-    pub same_next : (from : ℕ) (o : Offset) → o ≡ next-from from (differing x y) → o ≡ next-from from (offsets-both x y)
-    unfolding offsets-both
+    pub same_next : (from : ℕ) (o : Offset) → o ≡ next_from from (differing x y) → o ≡ next_from from (offsets_both x y)
+    unfolding offsets_both
     same_next from o is = rw (← p, ← q, eq-eqb a b e) is
 
 pub ruleset comparing = (other-class, same_class, equal-class, other-next, same_next, rules)
@@ -75,23 +75,23 @@ module _ (s : List ℕ) (at size : ℕ) (is : size ≡ size_at s at) (t : List �
   pub in-second : size ≡ 0 → (long ≡ 0 → ⊥) → OnlySecond ≡ class_of (packet_at s at) (packet_at t to)
   in-second a b = rw (no-packet s at (sym is ∙ a), (some-packet t to long also b).is)
 
-  pub next-no-first : size ≡ 0 → (from : ℕ) → Nowhere ≡ next-from from (offsets_of (packet_at s at) (packet_at t to))
-  unfolding next-from
+  pub next-no-first : size ≡ 0 → (from : ℕ) → Nowhere ≡ next_from from (offsets_of (packet_at s at) (packet_at t to))
+  unfolding next_from
   next-no-first a from = rw (no-packet s at (sym is ∙ a))
 
   module _ (n : size ≡ 0 → ⊥) where
     pub in-first : long ≡ 0 → OnlyFirst ≡ class_of (packet_at s at) (packet_at t to)
     in-first b = rw ((some-packet s at size is n).is, no-packet t to (sym also ∙ b))
 
-    pub next-no-second : long ≡ 0 → (from : ℕ) → Nowhere ≡ next-from from (offsets_of (packet_at s at) (packet_at t to))
-    unfolding next-from
+    pub next-no-second : long ≡ 0 → (from : ℕ) → Nowhere ≡ next_from from (offsets_of (packet_at s at) (packet_at t to))
+    unfolding next_from
     next-no-second b from = rw ((some-packet s at size is n).is, no-packet t to (sym also ∙ b))
 
     module _ (m : long ≡ 0 → ⊥) (a b : List ℕ) (part : a ≡ take size (drop at s)) (part' : b ≡ take long (drop to t)) where
-      pub in_both : (r : Class) → r ≡ class-both a b → r ≡ class_of (packet_at s at) (packet_at t to)
+      pub in_both : (r : Class) → r ≡ class_both a b → r ≡ class_of (packet_at s at) (packet_at t to)
       in_both r g = rw ((some-packet s at size is n).is, (some-packet t to long also m).is, ← part, ← part') g
 
-      pub next-in-both : (from : ℕ) (r : Offset) → r ≡ next-from from (offsets-both a b) → r ≡ next-from from (offsets_of (packet_at s at) (packet_at t to))
+      pub next-in-both : (from : ℕ) (r : Offset) → r ≡ next_from from (offsets_both a b) → r ≡ next_from from (offsets_of (packet_at s at) (packet_at t to))
       next-in-both from r g = rw ((some-packet s at size is n).is, (some-packet t to long also m).is, ← part, ← part') g
 
 pub ruleset classing = (part-inside, part-head, in-neither, in-second, in-first, in_both, rules)

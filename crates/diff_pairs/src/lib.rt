@@ -1,7 +1,7 @@
 // The packets at two places of two streams' own bytes: how they compare, and where they differ.
 ghost use Rattle.std.specs.Prelude.{◌≡◌, ◌≤◌, length};
 ghost use Rattle.rules.specs.Layouts.{stream_header_size};
-ghost use Rattle.rules.specs.Difference.{class-both, class_of, offsets-both, offsets_of, next-from, packet_at, size_at, pair_in, parted};
+ghost use Rattle.rules.specs.Difference.{class_both, class_of, offsets_both, offsets_of, next_from, packet_at, size_at, pair_in, parted};
 ghost use Rattle.diff_walk.specs.Walk.{packets_from};
 
 use diff_bytes::next_differing;
@@ -16,7 +16,7 @@ const STREAM_HEADER_SIZE: usize = rules::numbers::STREAM_HEADER_SIZE as usize;
 fn compare(a: &[u8], b: &[u8]) -> Class
     requires in_bounds { 4 ≤ length a.now }
     requires in_bounds_2 { 4 ≤ length b.now }
-    ensures { result ≡ class-both a.now b.now }
+    ensures { result ≡ class_both a.now b.now }
 {
     if u32_at(a, 0) != u32_at(b, 0) {
         return Class::OtherOpcode;
@@ -72,7 +72,7 @@ pub fn pair_in(first: &[u8], at: usize, second: &[u8], to: usize) -> Pair
 fn next_of_parts(x: &[u8], y: &[u8], from: usize) -> Offset
     requires in_bounds { 4 ≤ length x.now }
     requires in_bounds_2 { 4 ≤ length y.now }
-    ensures { result ≡ next-from from (offsets-both x.now y.now) }
+    ensures { result ≡ next_from from (offsets_both x.now y.now) }
 {
     if u32_at(x, 0) != u32_at(y, 0) {
         return Offset::Nowhere;
@@ -82,7 +82,7 @@ fn next_of_parts(x: &[u8], y: &[u8], from: usize) -> Offset
 
 // The next differing offset, from a given one on, of the packets at two places.
 pub fn next_in(first: &[u8], at: usize, second: &[u8], to: usize, from: usize) -> Offset
-    ensures { result ≡ next-from from (offsets_of (packet_at first.now at) (packet_at second.now to)) }
+    ensures { result ≡ next_from from (offsets_of (packet_at first.now at) (packet_at second.now to)) }
 {
     let size = size_at(first, at);
     let long = size_at(second, to);

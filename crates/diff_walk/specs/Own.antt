@@ -2,9 +2,9 @@
 use Rattle.std.specs.Prelude.{◌≡◌, refl, false, List, [], ℕ, ◌-◌, ◌≤◌, length, take, drop}
 use Rattle.std.proofs.Math.Path.{sym, ap}
 use Rattle.std.proofs.Common.{◌∙◌, arith, rules, length-drop, length-take-le}
-use Rattle.rules.specs.Layouts.{stream-header, stream_header_size}
-use Rattle.rules.specs.Stream.{stream-rules, stream_of}
-use Rattle.rules.specs.Dump.{Dump, dump_in, dump-of, listed}
+use Rattle.rules.specs.Layouts.{stream_header, stream_header_size}
+use Rattle.rules.specs.Stream.{stream_rules, stream_of}
+use Rattle.rules.specs.Dump.{Dump, dump_in, dump_of, listed}
 use Rattle.rules.specs.declared.Refusal.{Refusal}
 use Rattle.rules.specs.declared.Stream.{Stream}
 use Rattle.rules.specs.declared.Verdict.{Verdict}
@@ -12,14 +12,14 @@ use Rattle.rules.specs.declared.Verdict.TheVariants.{Fine, Broken}
 use Rattle.stream_header.specs.Header.{begun, stream-sound}
 use Rattle.stream_header.specs.declared.header.CheckedStream.{CheckedStream}
 use Rattle.stream_header.specs.declared.header.CheckedStream.TheVariants.{Good, Bad}
-use Rattle.stream_listing.specs.Walk.{listed-from, listed-end, listed-fuel}
+use Rattle.stream_listing.specs.Walk.{listed_from, listed-end, listed-fuel}
 use Rattle.stream_listing.specs.Begin.{begins-bad, begins-good, size-inside}
 use Rattle.rules.specs.Difference.{packets, broken_by, fault, own_in, own}
 use Rattle.diff_walk.specs.Walk.{packets_from, ending_from}
 
 -- ---- own_bytes, fault_of: `x` is what the check of the header gave
 
-module _ (b : List ℕ) (n : ℕ) (all_of : n ≡ length b) (x : CheckedStream) (is : x ≡ begun (stream-rules n (stream-header b 0)) (stream_of 0 (stream-header b 0))) where
+module _ (b : List ℕ) (n : ℕ) (all_of : n ≡ length b) (x : CheckedStream) (is : x ≡ begun (stream_rules n (stream_header b 0)) (stream_of 0 (stream_header b 0))) where
   by-bad : (v : Verdict) (st : Stream) (r : Refusal) → begun v st ≡ Bad r → v ≡ Broken r
   by-bad Fine st r e = absurd (let z : ◌≡◌ {A = ℕ} 0 1 = cc in omega arith)
   by-bad (Broken q) st r e = let p : q ≡ r = cc in rw p
@@ -32,7 +32,7 @@ module _ (b : List ℕ) (n : ℕ) (all_of : n ≡ length b) (x : CheckedStream) 
     pub own-none : [] ≡ own b
     unfolding own
     own-none =
-        let v : stream-rules (length b) (stream-header b 0) ≡ Broken r = rw all_of at (by-bad (stream-rules n (stream-header b 0)) (stream_of 0 (stream-header b 0)) r (sym is ∙ e)) in
+        let v : stream_rules (length b) (stream_header b 0) ≡ Broken r = rw all_of at (by-bad (stream_rules n (stream_header b 0)) (stream_of 0 (stream_header b 0)) r (sym is ∙ e)) in
         rw v
 
     pub fault-header : r.code ≡ fault b
@@ -48,9 +48,9 @@ module _ (b : List ℕ) (n : ℕ) (all_of : n ≡ length b) (x : CheckedStream) 
     pub own_is : take size b ≡ own b
     unfolding own
     own_is =
-        let g = by_good (stream-rules n (stream-header b 0)) (stream_of 0 (stream-header b 0)) st (sym is ∙ e) in
-        let fine : stream-rules (length b) (stream-header b 0) ≡ Fine = rw all_of at g.0 in
-        let kept : (stream-header b 0).size ≡ size = ap (λ (t : Stream). t.size) g.1 ∙ sym z in
+        let g = by_good (stream_rules n (stream_header b 0)) (stream_of 0 (stream_header b 0)) st (sym is ∙ e) in
+        let fine : stream_rules (length b) (stream_header b 0) ≡ Fine = rw all_of at g.0 in
+        let kept : (stream_header b 0).size ≡ size = ap (λ (t : Stream). t.size) g.1 ∙ sym z in
         rw (fine, kept)
 
     pub fault-packets : (code : ℕ) → code ≡ broken_by (ending_from (take size b) stream_header_size) → code ≡ fault b
@@ -61,7 +61,7 @@ pub ruleset heading = (own-none, fault-header, own-inside, own-there, own_is, fa
 -- ---- the packets of a stream are those of its own bytes
 
 own-by : (b : List ℕ) (size : ℕ) (v : Verdict) → (v ≡ Fine → size ≤ length b) → packets_from (own_in v size b) stream_header_size ≡ (dump_in false b v size).packets
-unfolding listed-from
+unfolding listed_from
 own-by b size Fine h =
     let t : length (take size b) ≡ size = length-take-le size b (h refl) in
     ap (λ k. (listed false (k - 24) 24 (drop 24 (take size b))).packets) t
@@ -69,7 +69,7 @@ own-by b size Fine h =
 own-by b size (Broken r) h = ap (λ (d : Dump). d.packets) (listed-end false (0 - 24) 24 (drop 24 []) refl)
 
 pub own-packets : (b : List ℕ) → packets_from (own b) stream_header_size ≡ packets b
-unfolding own dump-of
+unfolding own dump_of
 own-packets b =
-    own-by b (stream-header b 0).size (stream-rules (length b) (stream-header b 0))
-    (λ e. (stream-sound (length b) (stream-header b 0) e).inside)
+    own-by b (stream_header b 0).size (stream_rules (length b) (stream_header b 0))
+    (λ e. (stream-sound (length b) (stream_header b 0) e).inside)

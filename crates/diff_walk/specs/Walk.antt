@@ -11,28 +11,28 @@ use Rattle.rules.specs.Judging.{rule, ◌▹◌}
 use Rattle.rules.specs.Layouts.{word, stream_header_size, packet_header_size}
 use Rattle.rules.specs.Lists.{Found, nth}
 use Rattle.rules.specs.Lists.Found.{none, found}
-use Rattle.rules.specs.Stream.{frame-of, frame-rules, framed, least_size, size_of}
+use Rattle.rules.specs.Stream.{frame_of, frame_rules, framed, least_size, size_of}
 use Rattle.rules.specs.Dump.{Listed, Dump, Ending, listed_at}
 use Rattle.rules.specs.declared.Refusal.{Refusal}
 use Rattle.rules.specs.declared.Packet.{Packet}
 use Rattle.rules.specs.declared.Frame.{Frame}
 use Rattle.rules.specs.declared.Frame.TheVariants.{Whole, Misframed}
-use Rattle.stream_packets.specs.Framing.{packetAt, was-whole, was-misframed, frame-sound}
+use Rattle.stream_packets.specs.Framing.{packet_read_at, was-whole, was-misframed, frame-sound}
 use Rattle.stream_packets.specs.declared.framing.PacketRead.{PacketRead}
 use Rattle.stream_packets.specs.declared.framing.PacketRead.TheVariants.{Whole as WholePacket, Misframed as NoPacket}
-use Rattle.stream_listing.specs.Walk.{listed-from, from-none, from-bad, from_on}
+use Rattle.stream_listing.specs.Walk.{listed_from, from-none, from-bad, from_on}
 use Rattle.rules.specs.Difference.{broken_by, framed_at, packet_at, size_at, behind}
 
 -- the packets of a stream from a place on, and how they end
 abbrev pub packets_from : List ℕ → ℕ → List Listed
-packets_from s at = (listed-from false s at).packets
+packets_from s at = (listed_from false s at).packets
 
 abbrev pub ending_from : List ℕ → ℕ → Ending
-ending_from s at = (listed-from false s at).ending
+ending_from s at = (listed_from false s at).ending
 
 -- ---- size_at
 
-module _ (s : List ℕ) (at : ℕ) (x : PacketRead) (is : x ≡ packetAt (drop at s)) where
+module _ (s : List ℕ) (at : ℕ) (x : PacketRead) (is : x ≡ packet_read_at (drop at s)) where
   pub size_none : (r : Refusal) → x ≡ NoPacket r → 0 ≡ size_at s at
   size_none r e = rw (was-misframed (drop at s) x is r e)
 
@@ -47,19 +47,19 @@ pub ruleset sizing = (size_none, size-whole, rules)
 pub record PacketThere (s : List ℕ) (at size : ℕ) : Type 0 where
   pub opcode : ℕ
   pub is : packet_at s at ≡ found (listed_at at opcode size (drop at s))
-  pub framed : frame-of (drop at s) ≡ Whole opcode size
+  pub framed : frame_of (drop at s) ≡ Whole opcode size
   pub inside : at + size ≤ length s
   pub some : 8 ≤ size
 
 module _ (s : List ℕ) (at : ℕ) where
-  by-none : (f : Frame) → frame-of (drop at s) ≡ f → size_of f ≡ 0 → packet_at s at ≡ none
+  by-none : (f : Frame) → frame_of (drop at s) ≡ f → size_of f ≡ 0 → packet_at s at ≡ none
   by-none (Whole op size) e z = absurd (omega (arith, (frame-sound (drop at s) op size e).header))
   by-none (Misframed r) e z = rw e
 
   pub no-packet : size_at s at ≡ 0 → packet_at s at ≡ none
-  no-packet z = by-none (frame-of (drop at s)) refl z
+  no-packet z = by-none (frame_of (drop at s)) refl z
 
-  by-some : (f : Frame) → frame-of (drop at s) ≡ f → (size_of f ≡ 0 → ⊥) → PacketThere s at (size_of f)
+  by-some : (f : Frame) → frame_of (drop at s) ≡ f → (size_of f ≡ 0 → ⊥) → PacketThere s at (size_of f)
   by-some (Misframed r) e n = absurd (n refl)
   by-some (Whole op size) e n =
       let i : size ≤ length s - at = rw length-drop at (frame-sound (drop at s) op size e).inside in
@@ -67,7 +67,7 @@ module _ (s : List ℕ) (at : ℕ) where
       record { opcode = op; is = rw e; framed = e; inside = omega arith; some = k }
 
   pub some-packet : (size : ℕ) → size ≡ size_at s at → (size ≡ 0 → ⊥) → PacketThere s at size
-  some-packet size is n = rw is (by-some (frame-of (drop at s)) refl (λ z. n (is ∙ z)))
+  some-packet size is n = rw is (by-some (frame_of (drop at s)) refl (λ z. n (is ∙ z)))
 
 -- ---- those behind it
 
@@ -76,18 +76,18 @@ found_then none later = []
 found_then (found p) later = p ∷ later
 
 module _ (s : List ℕ) (at : ℕ) where
-  by_frame : (f : Frame) → frame-of (drop at s) ≡ f → at < length s → packets_from s at ≡ found_then (framed_at f at (drop at s)) (packets_from s (at + size_of f))
+  by_frame : (f : Frame) → frame_of (drop at s) ≡ f → at < length s → packets_from s at ≡ found_then (framed_at f at (drop at s)) (packets_from s (at + size_of f))
   by_frame (Whole op size) e here = ap (λ (d : Dump). d.packets) (from_on false s at here op size e refl)
   by_frame (Misframed r) e here = ap (λ (d : Dump). d.packets) (from-bad false s at here r e)
 
-  by_end : (f : Frame) → frame-of (drop at s) ≡ f → length s ≤ at → packets_from s at ≡ found_then (framed_at f at (drop at s)) (packets_from s (at + size_of f))
+  by_end : (f : Frame) → frame_of (drop at s) ≡ f → length s ≤ at → packets_from s at ≡ found_then (framed_at f at (drop at s)) (packets_from s (at + size_of f))
   by_end (Whole op size) e h =
       let i : size ≤ length s - at = rw length-drop at (frame-sound (drop at s) op size e).inside in
       absurd (omega (arith, (frame-sound (drop at s) op size e).header))
   by_end (Misframed r) e h = ap (λ (d : Dump). d.packets) (from-none false s at h)
 
   pub packets-first : packets_from s at ≡ found_then (packet_at s at) (packets_from s (behind s at))
-  packets-first = ⊎_elim (λ h. by_frame (frame-of (drop at s)) refl h) (λ h. by_end (frame-of (drop at s)) refl h) (below_or_not at (length s))
+  packets-first = ⊎_elim (λ h. by_frame (frame_of (drop at s)) refl h) (λ h. by_end (frame_of (drop at s)) refl h) (below_or_not at (length s))
 
   first_found : (f : Found Listed) (later : List Listed) → nth (found_then f later) 0 ≡ f
   unfolding nth
@@ -104,7 +104,7 @@ module _ (s : List ℕ) (at : ℕ) where
   pub nth_none : size_at s at ≡ 0 → (i : ℕ) → nth (packets_from s at) i ≡ none
   nth_none z i = ap (λ l. nth l i) packets-first ∙ none_found (packet_at s at) (packets_from s (behind s at)) i (no-packet s at z)
 
-  nth-behind : (f : Frame) → frame-of (drop at s) ≡ f → (i : ℕ) → nth (packets_from s at) (suc i) ≡ nth (packets_from s (at + size_of f)) i
+  nth-behind : (f : Frame) → frame_of (drop at s) ≡ f → (i : ℕ) → nth (packets_from s at) (suc i) ≡ nth (packets_from s (at + size_of f)) i
   unfolding nth
   nth-behind (Whole op size) e i = ap (λ l. nth l (suc i)) packets-first ∙ rw e
   nth-behind (Misframed r) e i =
@@ -113,7 +113,7 @@ module _ (s : List ℕ) (at : ℕ) where
       nth_none z (suc i) ∙ (sym (nth_none z i) ∙ ap (λ n. nth (packets_from s n) i) (sym same))
 
   pub nth_on : (i : ℕ) → nth (packets_from s at) (suc i) ≡ nth (packets_from s (behind s at)) i
-  nth_on i = nth-behind (frame-of (drop at s)) refl i
+  nth_on i = nth-behind (frame_of (drop at s)) refl i
 
 -- ---- place_of
 
@@ -163,8 +163,8 @@ module _ (op size : ℕ) (r : Refusal) where
   broken-in false false false false false h = absurd (let z : ◌≡◌ {A = ℕ} 0 1 = cc in omega arith)
 
 -- a packet breaks no rule but 17
-pub misframed-code : (b : List ℕ) (r : Refusal) → frame-of b ≡ Misframed r → r.code ≡ bad_packet
-unfolding frame-of frame-rules
+pub misframed-code : (b : List ℕ) (r : Refusal) → frame_of b ≡ Misframed r → r.code ≡ bad_packet
+unfolding frame_of frame_rules
 misframed-code b r e =
     broken-in (word b 0) (word b 4) r (ltb (length b) packet_header_size) (ltb (word b 4) packet_header_size) (not (eqb (word b 4 % 4) 0)) (ltb (length b) (word b 4))
     (ltb (word b 4) (least_size (word b 0))) e
@@ -174,12 +174,12 @@ module _ (s : List ℕ) (at : ℕ) (w : broken_by (ending_from s stream_header_s
   fault-none h = sym (w ∙ ap (λ (d : Dump). broken_by d.ending) (from-none false s at h))
 
   module _ (here : at < length s) (size : ℕ) (is : size ≡ size_at s at) where
-    by-fault : (f : Frame) → frame-of (drop at s) ≡ f → size_of f ≡ 0 → bad_packet ≡ broken_by (ending_from s at)
+    by-fault : (f : Frame) → frame_of (drop at s) ≡ f → size_of f ≡ 0 → bad_packet ≡ broken_by (ending_from s at)
     by-fault (Whole op n) e z = absurd (omega (arith, (frame-sound (drop at s) op n e).header))
     by-fault (Misframed r) e z = sym (ap (λ (d : Dump). broken_by d.ending) (from-bad false s at here r e) ∙ misframed-code (drop at s) r e)
 
     pub fault-here : size ≡ 0 → 17 ≡ broken_by (ending_from s stream_header_size)
-    fault-here z = by-fault (frame-of (drop at s)) refl (sym is ∙ z) ∙ sym w
+    fault-here z = by-fault (frame_of (drop at s)) refl (sym is ∙ z) ∙ sym w
 
     module _ (n : size ≡ 0 → ⊥) where
       there : PacketThere s at size

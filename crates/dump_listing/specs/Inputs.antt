@@ -7,7 +7,7 @@ use Rattle.std.proofs.Math.ListN.{length, take, drop}
 use Rattle.std.proofs.Math.Seq.{take_all}
 use Rattle.machine.specs.Machine.{pick}
 use Rattle.rules.specs.Text.{ascii}
-use Rattle.rules.specs.Dump.{text_of, dump-of, bad_input, longest_dump, listing}
+use Rattle.rules.specs.Dump.{text_of, dump_of, bad_input, longest_dump, listing}
 use Rattle.words.specs.Over.{part_at}
 use Rattle.text_numbers.specs.Writing.{Puts, puts-length}
 use Rattle.text_filling.specs.Filling.{filled, piece, takes}
@@ -56,18 +56,18 @@ module _ (input : List ℕ) where
           let l : longest_dump < length (drop 1 input) = rw behind h in
           rw (le-ltb 1 (get_or input 0 0) first, lt-ltb longest_dump (length (drop 1 input)) l) at whole
 
-      pub listing_dump : length input - 1 ≤ longest_dump → text_of (dump-of (eqb (get_or input 0 0) 1) (take (length input - 1) (drop 1 input))) ≡ listing input
+      pub listing_dump : length input - 1 ≤ longest_dump → text_of (dump_of (eqb (get_or input 0 0) 1) (take (length input - 1) (drop 1 input))) ≡ listing input
       unfolding listing
       listing_dump h =
           let l : length (drop 1 input) ≤ longest_dump = rw behind h in
           let t : take (length input - 1) (drop 1 input) ≡ drop 1 input = take_all (length input - 1) (drop 1 input) (omega (arith, behind)) in
-          ap (λ b. text_of (dump-of (eqb (get_or input 0 0) 1) b)) t ∙ (rw (le-ltb 1 (get_or input 0 0) first, le-ltb longest_dump (length (drop 1 input)) l) at whole)
+          ap (λ b. text_of (dump_of (eqb (get_or input 0 0) 1) b)) t ∙ (rw (le-ltb 1 (get_or input 0 0) first, le-ltb longest_dump (length (drop 1 input)) l) at whole)
 
 module _ (text text' : List ℕ) (same : text ≡ text') (b : List ℕ) where
   pub front-room : length text' ≤ length b → length text ≤ length b
   front-room h = rw same h
 
-pub dump-put : (strict : Bool) (s text b : List ℕ) (end : ℕ) (m : List ℕ) → PutsDump strict s b end m → text_of (dump-of strict s) ≡ text → Puts 0 text b end m
+pub dump-put : (strict : Bool) (s text b : List ℕ) (end : ℕ) (m : List ℕ) → PutsDump strict s b end m → text_of (dump_of strict s) ≡ text → Puts 0 text b end m
 dump-put strict s text b end m p same = rw same at p.puts
 
 pub ruleset going_listing = (front-room, same-put, dump-put, listing-empty, listing-other, listing-longer, listing_dump, rules)
@@ -83,7 +83,7 @@ listing-bound (first ∷ b) = by_test (ltb 1 first || ltb longest_dump (length b
     within true y e = absurd (let z : ◌≡◌ {A = ℕ} 0 1 = cc in omega arith)
     within false y e = e
 
-    by_test : (t : Bool) → ltb 1 first || ltb longest_dump (length b) ≡ t → length (pick t bad_input (text_of (dump-of (eqb first 1) b))) ≤ longest_listing
+    by_test : (t : Bool) → ltb 1 first || ltb longest_dump (length b) ≡ t → length (pick t bad_input (text_of (dump_of (eqb first 1) b))) ≤ longest_listing
     by_test true e = omega arith
     by_test false e =
         let h : length b ≤ longest_dump = ltb-false longest_dump (length b) (within (ltb 1 first) _ e) in

@@ -10,9 +10,9 @@ use Rattle.machine.specs.Machine.{pick}
 use Rattle.rules.specs.Numbers.{done, too_short}
 use Rattle.rules.specs.Judging.{refusal}
 use Rattle.rules.specs.Lists.{over}
-use Rattle.rules.specs.Layouts.{stream-header, stream_header_size}
-use Rattle.rules.specs.Stream.{stream-rules, stream_of}
-use Rattle.rules.specs.Dump.{ending-text, lines_of, text_of, dump-of}
+use Rattle.rules.specs.Layouts.{stream_header, stream_header_size}
+use Rattle.rules.specs.Stream.{stream_rules, stream_of}
+use Rattle.rules.specs.Dump.{ending_text, lines_of, text_of, dump_of}
 use Rattle.rules.specs.Dump.Ending.{refused}
 use Rattle.rules.specs.declared.Refusal.{Refusal}
 use Rattle.rules.specs.declared.Stream.{Stream}
@@ -21,14 +21,14 @@ use Rattle.stream_header.specs.declared.header.CheckedStream.{CheckedStream}
 use Rattle.stream_header.specs.declared.header.CheckedStream.TheVariants.{Good, Bad}
 use Rattle.stream_listing.specs.Begin.{begins-bad, begins-good, size-inside, size-there}
 use Rattle.text_numbers.specs.Writing.{Puts, Writes, writes_start, writes_end, writes-length, writes-room, writes-next}
-use Rattle.dump_next.specs.Rest.{next-line, rest_from, rest-none, next-within}
+use Rattle.dump_next.specs.Rest.{next_line, rest_from, rest-none, next-within}
 use Rattle.dump_next.specs.Next.{Goes, GoesOn, GoesNot, goes-less}
 use Rattle.dump_next.specs.declared.Going.{Going}
 use Rattle.dump_next.specs.declared.Going.TheVariants.{On, Ended}
 use Rattle.dump_room.specs.Widest.{error-bound}
 use Rattle.dump_room.specs.Longest.{rest-small}
 use Rattle.dump_room.specs.Fitting.{fits}
-use Rattle.dump_listing.specs.Views.{PutsDump, too_short_for, call-dump, Dumps}
+use Rattle.dump_listing.specs.Views.{PutsDump, too_short_for, call_dump, Dumps}
 
 -- ---- put_packets
 
@@ -49,7 +49,7 @@ module _ (strict : Bool) (s b : List ℕ) (room : length (rest_from strict s str
     pub all-kept : (m' : List ℕ) → length m' ≡ length m → length m' ≡ length b
     all-kept m' e = e ∙ all-length
 
-    pub line-room : at < length s → end + length (next-line strict s at) ≤ length m
+    pub line-room : at < length s → end + length (next_line strict s at) ≤ length m
     line-room h = omega (arith, next-within strict s at h, writes-room 0 all b (rw zero-add room) (rest_from strict s at) [] end m as-part)
 
     pub all_end : length s ≤ at → Puts 0 all b end m
@@ -66,7 +66,7 @@ module _ (strict : Bool) (s b : List ℕ) (room : length (rest_from strict s str
       on = rw e at g
 
       pub all-on : Writes 0 all b (rest_from strict s next) last m'
-      all-on = writes-next 0 all b (rw zero-add room) (next-line strict s at) (rest_from strict s next) end m (rw on.split at w) last m' on.puts
+      all-on = writes-next 0 all b (rw zero-add room) (next_line strict s at) (rest_from strict s next) end m (rw on.split at w) last m' on.puts
 
 pub ruleset going_all = (all_start, all-length, all-kept, line-room, all_end, all-ended, all-on, rules)
 
@@ -75,16 +75,16 @@ pub ruleset Going-less = (goes-less, rules)
 -- ---- put_dump
 
 module _ (strict : Bool) (s : List ℕ) (n : ℕ) (all_of : n ≡ length s) (x : CheckedStream)
-    (is : x ≡ begun (stream-rules n (stream-header s 0)) (stream_of 0 (stream-header s 0))) (b : List ℕ) where
+    (is : x ≡ begun (stream_rules n (stream_header s 0)) (stream_of 0 (stream_header s 0))) (b : List ℕ) where
   module _ (r : Refusal) (e : x ≡ Bad r) where
-    error-is : text_of (dump-of strict s) ≡ ending-text (refused (refusal r.code))
+    error-is : text_of (dump_of strict s) ≡ ending_text (refused (refusal r.code))
     unfolding text_of lines_of
     error-is = rw (begins-bad strict s n all_of x is r e)
 
-    pub error-room : length (text_of (dump-of strict s)) ≤ length b → 0 + length (ending-text (refused (refusal r.code))) ≤ length b
+    pub error-room : length (text_of (dump_of strict s)) ≤ length b → 0 + length (ending_text (refused (refusal r.code))) ≤ length b
     error-room h = rw zero-add (rw error-is at h)
 
-    pub error-put : (end : ℕ) (m : List ℕ) → Puts 0 (ending-text (refused (refusal r.code))) b end m → PutsDump strict s b end m
+    pub error-put : (end : ℕ) (m : List ℕ) → Puts 0 (ending_text (refused (refusal r.code))) b end m → PutsDump strict s b end m
     error-put end m p =
         record {
           puts = rw error-is p;
@@ -98,15 +98,15 @@ module _ (strict : Bool) (s : List ℕ) (n : ℕ) (all_of : n ≡ length s) (x :
     pub part-there : size ≡ length (take size s)
     part-there = size-there strict s n all_of x is st e size z
 
-    good-is : text_of (dump-of strict s) ≡ rest_from strict (take size s) stream_header_size
+    good-is : text_of (dump_of strict s) ≡ rest_from strict (take size s) stream_header_size
     unfolding rest_from
     good-is = ap text_of (begins-good strict s n all_of x is st e size z)
 
-    pub good-room : length (text_of (dump-of strict s)) ≤ length b → length (rest_from strict (take size s) stream_header_size) ≤ length b
+    pub good-room : length (text_of (dump_of strict s)) ≤ length b → length (rest_from strict (take size s) stream_header_size) ≤ length b
     good-room h = rw good-is at h
 
 pub good-put : (strict : Bool) (s : List ℕ) (size end : ℕ) (b m : List ℕ) → Puts 0 (rest_from strict (take size s) stream_header_size) b end m
-    → (st : Stream) → size ≡ st.size → st.size < 4294967296 → (x : CheckedStream) → x ≡ Good st → (n : ℕ) → x ≡ begun (stream-rules n (stream-header s 0)) (stream_of 0 (stream-header s 0)) → n ≡ length s
+    → (st : Stream) → size ≡ st.size → st.size < 4294967296 → (x : CheckedStream) → x ≡ Good st → (n : ℕ) → x ≡ begun (stream_rules n (stream_header s 0)) (stream_of 0 (stream_header s 0)) → n ≡ length s
     → PutsDump strict s b end m
 good-put strict s size end b m p st z few x e n is all_of =
     record {
@@ -118,9 +118,9 @@ pub ruleset going_dump = (error-room, error-put, part-inside, part-there, good-r
 
 -- ---- list_dump
 
-module _ (strict : Bool) (s b : List ℕ) (t : Bool) (tells : t ≡ fits (text_of (dump-of strict s)) (length b)) where
+module _ (strict : Bool) (s b : List ℕ) (t : Bool) (tells : t ≡ fits (text_of (dump_of strict s)) (length b)) where
   abbrev text : List ℕ
-  text = text_of (dump-of strict s)
+  text = text_of (dump_of strict s)
 
   by_test : (u : Bool) → not u ≡ true → u ≡ false
   by_test true e = absurd (let z : ◌≡◌ {A = ℕ} 0 1 = cc in omega arith)
@@ -135,11 +135,11 @@ module _ (strict : Bool) (s b : List ℕ) (t : Bool) (tells : t ≡ fits (text_o
     unfolding fits
     enough = by_test (ltb (length b) (length text)) (sym tells ∙ h)
 
-    pub text-room : length (text_of (dump-of strict s)) ≤ length b
+    pub text-room : length (text_of (dump_of strict s)) ≤ length b
     text-room = ltb-false (length b) (length text) enough
 
     pub dumps-text : (end long : ℕ) (m : List ℕ) → PutsDump strict s b end m → long ≡ end → Dumps strict s b (record { answer = done; length = long }) m
-    unfolding call-dump
+    unfolding call_dump
     dumps-text end long m p e =
         let k : long ≡ length text = e ∙ (p.puts.place ∙ zero-add (length text)) in
         record {
@@ -148,7 +148,7 @@ module _ (strict : Bool) (s b : List ℕ) (t : Bool) (tells : t ≡ fits (text_o
         }
 
   pub dumps-none : t ≡ false → Dumps strict s b (record { answer = too_short; length = 0 }) b
-  unfolding call-dump fits
+  unfolding call_dump fits
   dumps-none h =
       let short : ltb (length b) (length text) ≡ true = by-not (ltb (length b) (length text)) (sym tells ∙ h) in
       record {
@@ -159,10 +159,10 @@ module _ (strict : Bool) (s b : List ℕ) (t : Bool) (tells : t ≡ fits (text_o
 pub ruleset listing_dump = (text-room, dumps-text, dumps-none, rules)
 
 -- the answer of a host's call is 0 or 6
-pub answer-small : (strict : Bool) (s b : List ℕ) → (call-dump strict s b).answer < 256
-unfolding call-dump
-answer-small strict s b = by_test (ltb (length b) (length (text_of (dump-of strict s))))
+pub answer-small : (strict : Bool) (s b : List ℕ) → (call_dump strict s b).answer < 256
+unfolding call_dump
+answer-small strict s b = by_test (ltb (length b) (length (text_of (dump_of strict s))))
   where
-    by_test : (t : Bool) → (pick t (too_short_for b) (record { answer = done; length = length (text_of (dump-of strict s)); buffer = over 0 (text_of (dump-of strict s)) b })).answer < 256
+    by_test : (t : Bool) → (pick t (too_short_for b) (record { answer = done; length = length (text_of (dump_of strict s)); buffer = over 0 (text_of (dump_of strict s)) b })).answer < 256
     by_test true = omega arith
     by_test false = omega arith

@@ -3,7 +3,7 @@ use Rattle.std.specs.Prelude.{◌≡◌, Bool, List, ℕ, ◌≤◌, ◌<◌, �
 use Rattle.machine.specs.Machine.{pick}
 use Rattle.rules.specs.Numbers.{done, too_short}
 use Rattle.rules.specs.Lists.{over}
-use Rattle.rules.specs.Dump.{text_of, dump-of, listing}
+use Rattle.rules.specs.Dump.{text_of, dump_of, listing}
 use Rattle.text_numbers.specs.Writing.{Puts}
 use Rattle.dump_listing.specs.declared.DumpListed.{DumpListed}
 
@@ -11,7 +11,7 @@ use Rattle.dump_listing.specs.declared.DumpListed.{DumpListed}
 
 -- the text is at the buffer's front; its length is less than 2^36, since the size of a stream is a word
 pub record PutsDump (strict : Bool) (s b : List ℕ) (end : ℕ) (m : List ℕ) : Type 0 where
-  pub puts : Puts 0 (text_of (dump-of strict s)) b end m
+  pub puts : Puts 0 (text_of (dump_of strict s)) b end m
   pub small : end < 2 ^ 36
 
 -- ---- the call of a host
@@ -27,20 +27,20 @@ too_short_for buffer = record { answer = too_short; length = 0; buffer = buffer 
 
 -- "The text for a packet is exact": the buffer begins with the text of the dump and keeps its later bytes. One that is shorter than the text answers 6,
 -- with length 0, and stays as it was.
-unfoldable pub call-dump : Bool → List ℕ → List ℕ → Dumped
-call-dump strict s buffer =
-    pick (ltb (length buffer) (length (text_of (dump-of strict s)))) (too_short_for buffer)
+unfoldable pub call_dump : Bool → List ℕ → List ℕ → Dumped
+call_dump strict s buffer =
+    pick (ltb (length buffer) (length (text_of (dump_of strict s)))) (too_short_for buffer)
     (record {
       answer = done;
-      length = length (text_of (dump-of strict s));
-      buffer = over 0 (text_of (dump-of strict s)) buffer;
+      length = length (text_of (dump_of strict s));
+      buffer = over 0 (text_of (dump_of strict s)) buffer;
     })
 
 abbrev pub dumped_of : DumpListed → List ℕ → Dumped
 dumped_of x buffer = record { answer = x.answer; length = x.length; buffer = buffer }
 
 pub record Dumps (strict : Bool) (s buffer : List ℕ) (x : DumpListed) (buffer' : List ℕ) : Type 0 where
-  pub dumps : dumped_of x buffer' ≡ call-dump strict s buffer
+  pub dumps : dumped_of x buffer' ≡ call_dump strict s buffer
   pub small : x.length < 2 ^ 36
 
 -- ---- list

@@ -2,7 +2,7 @@
 // host calls `list_dump` with any buffer.
 ghost use Rattle.std.specs.Prelude.{◌≡◌, ◌≤◌, length};
 ghost use Rattle.rules.specs.Layouts.{stream_header_size};
-ghost use Rattle.rules.specs.Dump.{text_of, dump-of, bad_input, listing};
+ghost use Rattle.rules.specs.Dump.{text_of, dump_of, bad_input, listing};
 ghost use Rattle.text_numbers.specs.Writing.{Puts};
 ghost use Rattle.dump_next.specs.Rest.{rest_from};
 ghost use Rattle.dump_listing.specs.Views.{PutsDump, Dumps, longest_listing, Listing};
@@ -47,7 +47,7 @@ fn put_packets(out: &mut [u8], dump: &[u8], strict: bool) -> usize
 
 // Writes the text of a dump, its listing or the error of its header, to the front of a buffer with room for it; gives its length.
 fn put_dump(out: &mut [u8], dump: &[u8], strict: bool) -> usize
-    requires { length (text_of (dump-of strict dump.now)) ≤ length out.old }
+    requires { length (text_of (dump_of strict dump.now)) ≤ length out.old }
     ensures { PutsDump strict dump.now out.old result out.new }
 {
     match check_header(dump, 0, usize_to_word(dump.len())) {

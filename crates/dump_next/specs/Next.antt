@@ -3,9 +3,9 @@ use Rattle.std.specs.Prelude.{◌≡◌, refl, Bool, true, false, ◌&&◌, List
 use Rattle.std.proofs.Common.{sym, arith, rules, Fits, length-drop, length-take-le}
 use Rattle.std.specs.Int.{w64}
 use Rattle.rules.specs.Judging.{refusal}
-use Rattle.rules.specs.Stream.{known, frame-of, packet-of, least_size}
+use Rattle.rules.specs.Stream.{known, frame_of, packet_of, least_size}
 use Rattle.rules.specs.Text.{ascii}
-use Rattle.rules.specs.Dump.{line, line_in, opcode_text, ending-text, stops}
+use Rattle.rules.specs.Dump.{line, line_in, opcode_text, ending_text, stops}
 use Rattle.rules.specs.Dump.Ending.{refused}
 use Rattle.rules.specs.declared.Frame.TheVariants.{Whole}
 use Rattle.stream_packets.specs.Framing.{frame-sound}
@@ -16,21 +16,21 @@ use Rattle.stream_listing.specs.declared.Seen.TheVariants.{Known, Unknown, Bad}
 use Rattle.text_numbers.specs.Writing.{Puts}
 use Rattle.text_filling.specs.Filling.{filled, piece, takes}
 use Rattle.dump_lines.specs.Lines.{same-room, same-put}
-use Rattle.dump_next.specs.Rest.{next-line, rest_from, line-bad, rest-bad, line-stopped, rest-stopped, line_on, rest-on}
+use Rattle.dump_next.specs.Rest.{next_line, rest_from, line-bad, rest-bad, line-stopped, rest-stopped, line_on, rest-on}
 use Rattle.dump_next.specs.declared.Going.{Going}
 use Rattle.dump_next.specs.declared.Going.TheVariants.{On, Ended}
 
 -- the next line is written, and the text goes on behind it
 pub record GoesOn (strict : Bool) (s : List ℕ) (at end : ℕ) (m : List ℕ) (at' end' : ℕ) (m' : List ℕ) : Type 0 where
-  pub split : rest_from strict s at ≡ next-line strict s at ++ rest_from strict s at'
-  pub puts : Puts end (next-line strict s at) m end' m'
+  pub split : rest_from strict s at ≡ next_line strict s at ++ rest_from strict s at'
+  pub puts : Puts end (next_line strict s at) m end' m'
   pub later : at < at'
   pub within : at' ≤ length s
 
 -- the next line is written, and it is the last
 pub record GoesNot (strict : Bool) (s : List ℕ) (at end : ℕ) (m : List ℕ) (end' : ℕ) (m' : List ℕ) : Type 0 where
-  pub whole : rest_from strict s at ≡ next-line strict s at
-  pub puts : Puts end (next-line strict s at) m end' m'
+  pub whole : rest_from strict s at ≡ next_line strict s at
+  pub puts : Puts end (next_line strict s at) m end' m'
 
 abbrev pub Goes : Bool → List ℕ → ℕ → ℕ → List ℕ → Going → List ℕ → Type 0
 Goes strict s at end m (On at' end') m' = GoesOn strict s at end m at' end' m'
@@ -38,15 +38,15 @@ Goes strict s at end m (Ended end') m' = GoesNot strict s at end m end' m'
 
 -- ---- put_error
 
-pub error-line : (code n : ℕ) → n ≡ code → filled (ascii "error=%\n") (n ∷ []) ≡ ending-text (refused (refusal code))
-unfolding filled piece takes ending-text
+pub error-line : (code n : ℕ) → n ≡ code → filled (ascii "error=%\n") (n ∷ []) ≡ ending_text (refused (refusal code))
+unfolding filled piece takes ending_text
 error-line code n e = rw e
 
 pub ruleset writing_error = (same-room, same-put, error-line, rules)
 
 -- ---- put_packet
 
-module _ (s : List ℕ) (at op size : ℕ) (framed : frame-of (drop at s) ≡ Whole op size) where
+module _ (s : List ℕ) (at op size : ℕ) (framed : frame_of (drop at s) ≡ Whole op size) where
   fits : size ≤ length s - at
   fits = rw length-drop at (frame-sound (drop at s) op size framed).inside
 
@@ -71,21 +71,21 @@ pub ruleset writing_packet = (same-room, same-put, part-there, known-there, pack
 
 module _ (strict : Bool) (s : List ℕ) (at : ℕ) (here : at < length s) (x : Seen) (sees : x ≡ seen (drop at s)) (end : ℕ) (m : List ℕ) where
   module _ (code : ℕ) (e : x ≡ Bad code) where
-    bad : next-line strict s at ≡ ending-text (refused (refusal code))
+    bad : next_line strict s at ≡ ending_text (refused (refusal code))
     bad = line-bad strict s at here (refusal code) (was-bad (drop at s) x sees code e)
 
-    pub bad-room : end + length (next-line strict s at) ≤ length m → end + length (ending-text (refused (refusal code))) ≤ length m
+    pub bad-room : end + length (next_line strict s at) ≤ length m → end + length (ending_text (refused (refusal code))) ≤ length m
     bad-room h = rw bad at h
 
-    pub goes-bad : (end' : ℕ) (m' : List ℕ) → Puts end (ending-text (refused (refusal code))) m end' m' → Goes strict s at end m (Ended end') m'
+    pub goes-bad : (end' : ℕ) (m' : List ℕ) → Puts end (ending_text (refused (refusal code))) m end' m' → Goes strict s at end m (Ended end') m'
     goes-bad end' m' p = record { whole = rest-bad strict s at here (refusal code) (was-bad (drop at s) x sees code e); puts = rw bad p }
 
   module _ (op size : ℕ) where
-    module _ (u : Bool) (p : SeenPacket (drop at s) op size u) (h : stops strict (packet-of op (take size (drop at s))) ≡ false) where
-      on : next-line strict s at ≡ line_in (known op) at op size (take size (drop at s))
+    module _ (u : Bool) (p : SeenPacket (drop at s) op size u) (h : stops strict (packet_of op (take size (drop at s))) ≡ false) where
+      on : next_line strict s at ≡ line_in (known op) at op size (take size (drop at s))
       on = line_on strict s at here op size p.frame h
 
-      on_room : end + length (next-line strict s at) ≤ length m → end + length (line_in (known op) at op size (take size (drop at s))) ≤ length m
+      on_room : end + length (next_line strict s at) ≤ length m → end + length (line_in (known op) at op size (take size (drop at s))) ≤ length m
       on_room r = rw on at r
 
       goes_further : (long : ℕ) → long ≡ size → (end' : ℕ) (m' : List ℕ)
@@ -102,17 +102,17 @@ module _ (strict : Bool) (s : List ℕ) (at : ℕ) (here : at < length s) (x : S
       known-packet : SeenPacket (drop at s) op size false
       known-packet = was-known (drop at s) x sees op size e
 
-      goes : stops strict (packet-of op (take size (drop at s))) ≡ false
+      goes : stops strict (packet_of op (take size (drop at s))) ≡ false
       goes = rw known-packet.tells (by_test strict)
         where
           by_test : (b : Bool) → b && false ≡ false
           by_test true = refl
           by_test false = refl
 
-      pub known-framed : frame-of (drop at s) ≡ Whole op size
+      pub known-framed : frame_of (drop at s) ≡ Whole op size
       known-framed = known-packet.frame
 
-      pub known-room : end + length (next-line strict s at) ≤ length m → end + length (line_in (known op) at op size (take size (drop at s))) ≤ length m
+      pub known-room : end + length (next_line strict s at) ≤ length m → end + length (line_in (known op) at op size (take size (drop at s))) ≤ length m
       known-room = on_room false known-packet goes
 
       pub known-fits : (long : ℕ) → long ≡ size → length s < 2 ^ 64 → Fits w64 (at + long)
@@ -127,13 +127,13 @@ module _ (strict : Bool) (s : List ℕ) (at : ℕ) (here : at < length s) (x : S
       unknown-packet = was-unknown (drop at s) x sees op size e
 
       module _ (t : strict ≡ true) (offset n o : ℕ) (a : offset ≡ at) (b : n ≡ size) (c : o ≡ op) where
-        halts : stops strict (packet-of op (take size (drop at s))) ≡ true
+        halts : stops strict (packet_of op (take size (drop at s))) ≡ true
         halts = rw (t, unknown-packet.tells)
 
-        stopped-is : line offset "STOPPED" n (opcode_text o) ≡ next-line strict s at
+        stopped-is : line offset "STOPPED" n (opcode_text o) ≡ next_line strict s at
         stopped-is = rw (a, b, c) (sym (line-stopped strict s at here op size unknown-packet.frame halts))
 
-        pub stopped-room : end + length (next-line strict s at) ≤ length m → end + length (line offset "STOPPED" n (opcode_text o)) ≤ length m
+        pub stopped-room : end + length (next_line strict s at) ≤ length m → end + length (line offset "STOPPED" n (opcode_text o)) ≤ length m
         stopped-room h = rw stopped-is h
 
         pub goes-stopped : (end' : ℕ) (m' : List ℕ) → Puts end (line offset "STOPPED" n (opcode_text o)) m end' m' → Goes strict s at end m (Ended end') m'
@@ -141,13 +141,13 @@ module _ (strict : Bool) (s : List ℕ) (at : ℕ) (here : at < length s) (x : S
             record { whole = rest-stopped strict s at here op size unknown-packet.frame halts; puts = rw stopped-is at p }
 
       module _ (t : strict ≡ false) where
-        passes : stops strict (packet-of op (take size (drop at s))) ≡ false
+        passes : stops strict (packet_of op (take size (drop at s))) ≡ false
         passes = rw t
 
-        pub unknown-framed : frame-of (drop at s) ≡ Whole op size
+        pub unknown-framed : frame_of (drop at s) ≡ Whole op size
         unknown-framed = unknown-packet.frame
 
-        pub unknown-room : end + length (next-line strict s at) ≤ length m → end + length (line_in (known op) at op size (take size (drop at s))) ≤ length m
+        pub unknown-room : end + length (next_line strict s at) ≤ length m → end + length (line_in (known op) at op size (take size (drop at s))) ≤ length m
         unknown-room = on_room true unknown-packet passes
 
         pub unknown-fits : (long : ℕ) → long ≡ size → length s < 2 ^ 64 → Fits w64 (at + long)

@@ -3,74 +3,74 @@
 use Rattle.std.specs.Prelude.{◌≡◌, refl, Bool, true, false, List, [], ◌++◌, ℕ, ◌+◌, ◌≤◌, ◌<◌, length, take, drop}
 use Rattle.std.proofs.Common.{ap, ◌∙◌, append_assoc, arith, length-append}
 use Rattle.machine.specs.Machine.{pick}
-use Rattle.rules.specs.Stream.{known, frame-of, packet-of}
-use Rattle.rules.specs.Dump.{line, line_in, opcode_text, line_of, ending-text, stops, lines_of, text_of}
+use Rattle.rules.specs.Stream.{known, frame_of, packet_of}
+use Rattle.rules.specs.Dump.{line, line_in, opcode_text, line_of, ending_text, stops, lines_of, text_of}
 use Rattle.rules.specs.Dump.Ending.{refused}
 use Rattle.rules.specs.declared.Refusal.{Refusal}
 use Rattle.rules.specs.declared.Frame.{Frame}
 use Rattle.rules.specs.declared.Frame.TheVariants.{Whole, Misframed}
-use Rattle.stream_listing.specs.Walk.{listed-from, from-none, from-bad, from-stopped, from_on}
+use Rattle.stream_listing.specs.Walk.{listed_from, from-none, from-bad, from-stopped, from_on}
 
 -- the line of the packet at an offset, by its frame: its own, or the one that ends the listing there
 abbrev pub line_by : Bool → ℕ → Frame → List ℕ → List ℕ
 line_by strict at (Whole op size) b =
-    pick (stops strict (packet-of op (take size b))) (line at "STOPPED" size (opcode_text op)) (line_in (known op) at op size (take size b))
-line_by strict at (Misframed r) b = ending-text (refused r)
+    pick (stops strict (packet_of op (take size b))) (line at "STOPPED" size (opcode_text op)) (line_in (known op) at op size (take size b))
+line_by strict at (Misframed r) b = ending_text (refused r)
 
 module _ (strict : Bool) where
-  unfoldable pub next-line : List ℕ → ℕ → List ℕ
-  next-line s at = line_by strict at (frame-of (drop at s)) (drop at s)
+  unfoldable pub next_line : List ℕ → ℕ → List ℕ
+  next_line s at = line_by strict at (frame_of (drop at s)) (drop at s)
 
   unfoldable pub rest_from : List ℕ → ℕ → List ℕ
-  rest_from s at = text_of (listed-from strict s at)
+  rest_from s at = text_of (listed_from strict s at)
 
   module _ (s : List ℕ) (at : ℕ) where
     pub rest-none : length s ≤ at → rest_from s at ≡ []
-    unfolding rest_from text_of lines_of ending-text
+    unfolding rest_from text_of lines_of ending_text
     rest-none h = rw (from-none strict s at h)
 
     module _ (here : at < length s) where
-      module _ (r : Refusal) (e : frame-of (drop at s) ≡ Misframed r) where
-        pub line-bad : next-line s at ≡ ending-text (refused r)
-        unfolding next-line
+      module _ (r : Refusal) (e : frame_of (drop at s) ≡ Misframed r) where
+        pub line-bad : next_line s at ≡ ending_text (refused r)
+        unfolding next_line
         line-bad = rw e
 
-        pub rest-bad : rest_from s at ≡ next-line s at
+        pub rest-bad : rest_from s at ≡ next_line s at
         unfolding rest_from text_of lines_of
         rest-bad = rw (from-bad strict s at here r e, line-bad)
 
-      module _ (op size : ℕ) (e : frame-of (drop at s) ≡ Whole op size) where
-        module _ (h : stops strict (packet-of op (take size (drop at s))) ≡ true) where
-          pub line-stopped : next-line s at ≡ line at "STOPPED" size (opcode_text op)
-          unfolding next-line
+      module _ (op size : ℕ) (e : frame_of (drop at s) ≡ Whole op size) where
+        module _ (h : stops strict (packet_of op (take size (drop at s))) ≡ true) where
+          pub line-stopped : next_line s at ≡ line at "STOPPED" size (opcode_text op)
+          unfolding next_line
           line-stopped = rw (e, h)
 
-          pub rest-stopped : rest_from s at ≡ next-line s at
-          unfolding rest_from text_of lines_of ending-text
+          pub rest-stopped : rest_from s at ≡ next_line s at
+          unfolding rest_from text_of lines_of ending_text
           rest-stopped = rw (from-stopped strict s at here op size e h, line-stopped)
 
-        module _ (h : stops strict (packet-of op (take size (drop at s))) ≡ false) where
-          pub line_on : next-line s at ≡ line_in (known op) at op size (take size (drop at s))
-          unfolding next-line
+        module _ (h : stops strict (packet_of op (take size (drop at s))) ≡ false) where
+          pub line_on : next_line s at ≡ line_in (known op) at op size (take size (drop at s))
+          unfolding next_line
           line_on = rw (e, h)
 
-          pub rest-on : rest_from s at ≡ next-line s at ++ rest_from s (at + size)
+          pub rest-on : rest_from s at ≡ next_line s at ++ rest_from s (at + size)
           unfolding rest_from text_of lines_of line_of
           rest-on =
               rw (from_on strict s at here op size e h, line_on)
               (append_assoc (line_in (known op) at op size (take size (drop at s))) _ _)
 
       -- the next line is a part of the text
-      pub next-within : length (next-line s at) ≤ length (rest_from s at)
-      next-within = by_frame (frame-of (drop at s)) refl
+      pub next-within : length (next_line s at) ≤ length (rest_from s at)
+      next-within = by_frame (frame_of (drop at s)) refl
         where
-          by-stop : (op size : ℕ) → frame-of (drop at s) ≡ Whole op size → (t : Bool) → stops strict (packet-of op (take size (drop at s))) ≡ t
-              → length (next-line s at) ≤ length (rest_from s at)
+          by-stop : (op size : ℕ) → frame_of (drop at s) ≡ Whole op size → (t : Bool) → stops strict (packet_of op (take size (drop at s))) ≡ t
+              → length (next_line s at) ≤ length (rest_from s at)
           by-stop op size e true h = rw (rest-stopped op size e h) (omega arith)
           by-stop op size e false h =
-              let n : length (rest_from s at) ≡ length (next-line s at) + length (rest_from s (at + size)) = ap (λ x. length x) (rest-on op size e h) ∙ length-append (next-line s at) (rest_from s (at + size)) in
+              let n : length (rest_from s at) ≡ length (next_line s at) + length (rest_from s (at + size)) = ap (λ x. length x) (rest-on op size e h) ∙ length-append (next_line s at) (rest_from s (at + size)) in
               omega arith
 
-          by_frame : (f : Frame) → frame-of (drop at s) ≡ f → length (next-line s at) ≤ length (rest_from s at)
-          by_frame (Whole op size) e = by-stop op size e (stops strict (packet-of op (take size (drop at s)))) refl
+          by_frame : (f : Frame) → frame_of (drop at s) ≡ f → length (next_line s at) ≤ length (rest_from s at)
+          by_frame (Whole op size) e = by-stop op size e (stops strict (packet_of op (take size (drop at s)))) refl
           by_frame (Misframed r) e = rw (rest-bad r e) (omega arith)

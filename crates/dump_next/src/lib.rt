@@ -1,12 +1,12 @@
 // The next line of a listing: of the packet at a place of the stream, or the one that ends the listing there.
 ghost use Rattle.std.specs.Prelude.{◌≡◌, ◌+◌, ◌≤◌, ◌<◌, length, take, drop};
 ghost use Rattle.rules.specs.Judging.{refusal};
-ghost use Rattle.rules.specs.Stream.{known, frame-of};
-ghost use Rattle.rules.specs.Dump.{line_in, ending-text};
+ghost use Rattle.rules.specs.Stream.{known, frame_of};
+ghost use Rattle.rules.specs.Dump.{line_in, ending_text};
 ghost use Rattle.rules.specs.Dump.Ending.{refused};
 ghost use Rattle.rules.specs.declared.Frame.TheVariants.{Whole};
 ghost use Rattle.text_numbers.specs.Writing.{Puts};
-ghost use Rattle.dump_next.specs.Rest.{next-line};
+ghost use Rattle.dump_next.specs.Rest.{next_line};
 ghost use Rattle.dump_next.specs.Next.{Goes};
 
 use dump_lines::put_stopped;
@@ -26,8 +26,8 @@ pub enum Going {
 
 // Writes the line of a broken rule, and gives the place behind it.
 pub fn put_error(out: &mut [u8], end: usize, code: u32) -> usize
-    requires { end + length (ending-text (refused (refusal code))) ≤ length out.old }
-    ensures { Puts end (ending-text (refused (refusal code))) out.old result out.new }
+    requires { end + length (ending_text (refused (refusal code))) ≤ length out.old }
+    ensures { Puts end (ending_text (refused (refusal code))) out.old result out.new }
 {
     let numbers: [u64; 1] = [u32_to_word(code)];
     fill(out, end, b"error=%\n", &numbers)
@@ -35,7 +35,7 @@ pub fn put_error(out: &mut [u8], end: usize, code: u32) -> usize
 
 // Writes the line of the packet that is framed at a place of the stream.
 fn put_packet(out: &mut [u8], end: usize, dump: &[u8], at: usize, op: u32, size: u32) -> usize
-    requires dump_value { frame-of (drop at dump.now) ≡ Whole op size }
+    requires dump_value { frame_of (drop at dump.now) ≡ Whole op size }
     requires dump_in_bounds { end + length (line_in (known op) at op size (take size (drop at dump.now))) ≤ length out.old }
     ensures { Puts end (line_in (known op) at op size (take size (drop at dump.now))) out.old result out.new }
 {
@@ -46,7 +46,7 @@ fn put_packet(out: &mut [u8], end: usize, dump: &[u8], at: usize, op: u32, size:
 // Writes the next line, at a place of the stream where bytes are left. It asks for the room of that line alone.
 pub fn put_next(out: &mut [u8], end: usize, dump: &[u8], at: usize, strict: bool) -> Going
     requires at_in_bounds { at < length dump.now }
-    requires at_in_bounds_2 { end + length (next-line strict dump.now at) ≤ length out.old }
+    requires at_in_bounds_2 { end + length (next_line strict dump.now at) ≤ length out.old }
     ensures { Goes strict dump.now at end out.old result out.new }
 {
     match seen_by_reader(dump, at) {

@@ -7,9 +7,9 @@ use Rattle.std.proofs.Math.Nat.{zero-add}
 use native.Mathlib.Omega.{arith}
 use Rattle.std.proofs.Math.ListN.{length}
 use Rattle.rules.specs.Judging.{refusal}
-use Rattle.rules.specs.Layouts.{stream-header, stream_header_size}
-use Rattle.rules.specs.Stream.{stream-rules, stream_of}
-use Rattle.rules.specs.Dump.{ending-text, lines_of, text_of, dump-of}
+use Rattle.rules.specs.Layouts.{stream_header, stream_header_size}
+use Rattle.rules.specs.Stream.{stream_rules, stream_of}
+use Rattle.rules.specs.Dump.{ending_text, lines_of, text_of, dump_of}
 use Rattle.rules.specs.Dump.Ending.{refused}
 use Rattle.rules.specs.declared.Refusal.{Refusal}
 use Rattle.rules.specs.declared.Stream.{Stream}
@@ -19,7 +19,7 @@ use Rattle.stream_header.specs.declared.header.CheckedStream.{CheckedStream}
 use Rattle.stream_header.specs.declared.header.CheckedStream.TheVariants.{Good, Bad}
 use Rattle.stream_listing.specs.Begin.{begins-bad, begins-good, size-inside, size-there}
 use Rattle.text_numbers.specs.Writing.{Puts, puts-length}
-use Rattle.dump_next.specs.Rest.{next-line, rest_from, rest-none}
+use Rattle.dump_next.specs.Rest.{next_line, rest_from, rest-none}
 use Rattle.dump_next.specs.Next.{Goes, GoesOn, GoesNot, goes-less}
 use Rattle.dump_next.specs.declared.Going.{Going}
 use Rattle.dump_next.specs.declared.Going.TheVariants.{On, Ended}
@@ -76,10 +76,10 @@ module _ (strict : Bool) (s line₀ : List ℕ) (room : ℕ) (enough : longest_l
   measures-start = record { same = omega arith; long = refl }
 
   module _ (at left : ℕ) (line : List ℕ) (w : Measures strict s line₀ room at left line) where
-    room-there : 0 + length (next-line strict s at) ≤ length line
+    room-there : 0 + length (next_line strict s at) ≤ length line
     room-there = omega (arith, next-short strict s at, w.long)
 
-    pub next-room : 0 + length (next-line strict s at) ≤ length line
+    pub next-room : 0 + length (next_line strict s at) ≤ length line
     next-room = room-there
 
     pub measured-all : length s ≤ at → true ≡ fits all room
@@ -94,7 +94,7 @@ module _ (strict : Bool) (s line₀ : List ℕ) (room : ℕ) (enough : longest_l
       unfolding fits
       measured-end last e r is =
           let n : GoesNot strict s at 0 line last line' = rw e at g in
-          let p : last ≡ length (next-line strict s at) = n.puts.place ∙ zero-add (length (next-line strict s at)) in
+          let p : last ≡ length (next_line strict s at) = n.puts.place ∙ zero-add (length (next_line strict s at)) in
           let k : length (rest_from strict s at) ≡ last = ap (λ t. length t) n.whole ∙ sym p in
           let q : length all + left ≡ room + last = rw k at w.same in
           is ∙ ap not (same_test (length all) last room left q)
@@ -103,12 +103,12 @@ module _ (strict : Bool) (s line₀ : List ℕ) (room : ℕ) (enough : longest_l
         on : GoesOn strict s at 0 line next last line'
         on = rw e at g
 
-        line-long : last ≡ length (next-line strict s at)
-        line-long = on.puts.place ∙ zero-add (length (next-line strict s at))
+        line-long : last ≡ length (next_line strict s at)
+        line-long = on.puts.place ∙ zero-add (length (next_line strict s at))
 
         two : length (rest_from strict s at) ≡ last + length (rest_from strict s next)
         two =
-            ap (λ t. length t) on.split ∙ (length-append (next-line strict s at) (rest_from strict s next)
+            ap (λ t. length t) on.split ∙ (length-append (next_line strict s at) (rest_from strict s next)
             ∙ ap (λ n. n + length (rest_from strict s next)) (sym line-long))
 
         pub measured-short : left < last → false ≡ fits all room
@@ -121,7 +121,7 @@ module _ (strict : Bool) (s line₀ : List ℕ) (room : ℕ) (enough : longest_l
         measures-on h =
             record {
               same = omega (arith, two, w.same);
-              long = puts-length 0 line (next-line strict s at) last line' on.puts room-there ∙ w.long;
+              long = puts-length 0 line (next_line strict s at) last line' on.puts room-there ∙ w.long;
             }
 
 pub ruleset measuring = (measures-start, next-room, measured-all, measured-end, measured-short, measures-on, rules)
@@ -137,25 +137,25 @@ not_beyond room long e = ltb-false room long (by_test (ltb room long) e)
     by_test true f = absurd (let z : ◌≡◌ {A = ℕ} 0 1 = cc in omega arith)
     by_test false f = refl
 
-pub fits-ample : (strict : Bool) (s : List ℕ) (room : ℕ) (t : Bool) → t ≡ not (ltb room (10 * length s + 90)) → t ≡ true → true ≡ fits (text_of (dump-of strict s)) room
+pub fits-ample : (strict : Bool) (s : List ℕ) (room : ℕ) (t : Bool) → t ≡ not (ltb room (10 * length s + 90)) → t ≡ true → true ≡ fits (text_of (dump_of strict s)) room
 unfolding fits
 fits-ample strict s room t tells h =
-    let k : length (text_of (dump-of strict s)) ≤ room = omega (arith, dump-bound strict s, not_beyond room (10 * length s + 90) (sym tells ∙ h)) in
-    rw (le-ltb room (length (text_of (dump-of strict s))) k)
+    let k : length (text_of (dump_of strict s)) ≤ room = omega (arith, dump-bound strict s, not_beyond room (10 * length s + 90) (sym tells ∙ h)) in
+    rw (le-ltb room (length (text_of (dump_of strict s))) k)
 
-pub line-there : (r : Refusal) (line : List ℕ) → 326 ≡ length line → 0 + length (ending-text (refused (refusal r.code))) ≤ length line
+pub line-there : (r : Refusal) (line : List ℕ) → 326 ≡ length line → 0 + length (ending_text (refused (refusal r.code))) ≤ length line
 line-there r line e = omega (arith, error-bound (refusal r.code))
 
 pub line-enough : (line : List ℕ) → 326 ≡ length line → longest_line ≤ length line
 line-enough line e = omega arith
 
 module _ (strict : Bool) (s : List ℕ) (n : ℕ) (all_of : n ≡ length s) (x : CheckedStream)
-    (is : x ≡ begun (stream-rules n (stream-header s 0)) (stream_of 0 (stream-header s 0))) (room : ℕ) where
-  pub fits-bad : (r : Refusal) → x ≡ Bad r → (last : ℕ) (b m : List ℕ) → Puts 0 (ending-text (refused (refusal r.code))) b last m
-      → (t : Bool) → t ≡ not (ltb room last) → t ≡ fits (text_of (dump-of strict s)) room
+    (is : x ≡ begun (stream_rules n (stream_header s 0)) (stream_of 0 (stream_header s 0))) (room : ℕ) where
+  pub fits-bad : (r : Refusal) → x ≡ Bad r → (last : ℕ) (b m : List ℕ) → Puts 0 (ending_text (refused (refusal r.code))) b last m
+      → (t : Bool) → t ≡ not (ltb room last) → t ≡ fits (text_of (dump_of strict s)) room
   unfolding fits text_of lines_of
   fits-bad r e last b m p t tells =
-      let k : last ≡ length (ending-text (refused r)) = p.place ∙ zero-add (length (ending-text (refused r))) in
+      let k : last ≡ length (ending_text (refused r)) = p.place ∙ zero-add (length (ending_text (refused r))) in
       tells ∙ rw (k, begins-bad strict s n all_of x is r e)
 
   module _ (st : Stream) (e : x ≡ Good st) (size : ℕ) (z : size ≡ st.size) where
@@ -165,7 +165,7 @@ module _ (strict : Bool) (s : List ℕ) (n : ℕ) (all_of : n ≡ length s) (x :
     pub part-there : size ≡ length (take size s)
     part-there = size-there strict s n all_of x is st e size z
 
-    pub fits-good : (t : Bool) → t ≡ fits (rest_from strict (take size s) stream_header_size) room → t ≡ fits (text_of (dump-of strict s)) room
+    pub fits-good : (t : Bool) → t ≡ fits (rest_from strict (take size s) stream_header_size) room → t ≡ fits (text_of (dump_of strict s)) room
     unfolding rest_from
     fits-good t tells = tells ∙ ap (λ d. fits (text_of d) room) (sym (begins-good strict s n all_of x is st e size z))
 

@@ -7,9 +7,9 @@ use native.Mathlib.Omega.{arith}
 use Rattle.std.proofs.Math.ListN.{length, length-append, length-drop}
 use Rattle.std.proofs.Common.{length-take}
 use Rattle.machine.specs.Machine.{pick}
-use Rattle.rules.specs.Layouts.{stream-header, stream_header_size}
-use Rattle.rules.specs.Stream.{stream-rules, frame-of, size_of, packet-of}
-use Rattle.rules.specs.Dump.{line_of, ending-text, Dump, ends, first_then, stops, listed_at, listed_before, listed, dump_in, dump-of, lines_of, text_of}
+use Rattle.rules.specs.Layouts.{stream_header, stream_header_size}
+use Rattle.rules.specs.Stream.{stream_rules, frame_of, size_of, packet_of}
+use Rattle.rules.specs.Dump.{line_of, ending_text, Dump, ends, first_then, stops, listed_at, listed_before, listed, dump_in, dump_of, lines_of, text_of}
 use Rattle.rules.specs.Dump.Ending.{complete, stopped, refused}
 use Rattle.rules.specs.declared.Refusal.{Refusal}
 use Rattle.rules.specs.declared.Verdict.{Verdict}
@@ -17,7 +17,7 @@ use Rattle.rules.specs.declared.Verdict.TheVariants.{Fine, Broken}
 use Rattle.rules.specs.declared.Frame.{Frame}
 use Rattle.rules.specs.declared.Frame.TheVariants.{Whole, Misframed}
 use Rattle.stream_packets.specs.Framing.{frame-sound}
-use Rattle.stream_listing.specs.Walk.{listed-from}
+use Rattle.stream_listing.specs.Walk.{listed_from}
 use Rattle.dump_next.specs.Rest.{rest_from}
 use Rattle.dump_room.specs.Widest.{packet-bound, stopped-bound, error-bound}
 
@@ -28,7 +28,7 @@ module _ (strict : Bool) where
   Bounded d b = length (text_of d) ≤ 10 * length b + 90
 
   none-bound : (b : List ℕ) → Bounded (ends complete) b
-  unfolding text_of lines_of ending-text
+  unfolding text_of lines_of ending_text
   none-bound b = omega arith
 
   module _ (b : List ℕ) (at : ℕ) (later : Dump) where
@@ -36,9 +36,9 @@ module _ (strict : Bool) where
     unfolding text_of lines_of
     bad-bound r = omega (arith, error-bound r)
 
-    module _ (op size : ℕ) (e : frame-of b ≡ Whole op size) (h : Bounded later (drop size b)) where
+    module _ (op size : ℕ) (e : frame_of b ≡ Whole op size) (h : Bounded later (drop size b)) where
       stop-bound : Bounded (ends (stopped (listed_at at op size b))) b
-      unfolding text_of lines_of ending-text
+      unfolding text_of lines_of ending_text
       stop-bound = omega (arith, stopped-bound at op size)
 
       on_bound : Bounded (first_then (listed_at at op size b) later) b
@@ -47,15 +47,15 @@ module _ (strict : Bool) where
           let p = packet-bound op at size (take size b) (frame-sound b op size e).known (frame-sound b op size e).header in
           let i : size ≤ length b = (frame-sound b op size e).inside in
           let n : length (drop size b) ≡ length b - size = length-drop size b in
-          let k : length (lines_of later.packets) + length (ending-text later.ending) ≤ 10 * length (drop size b) + 90 = simp length-append at h in
+          let k : length (lines_of later.packets) + length (ending_text later.ending) ≤ 10 * length (drop size b) + 90 = simp length-append at h in
           simp length-append (omega arith)
 
       whole-bound : (t : Bool) → Bounded (pick t (ends (stopped (listed_at at op size b))) (first_then (listed_at at op size b) later)) b
       whole-bound true = stop-bound
       whole-bound false = on_bound
 
-    before-bound : (f : Frame) → frame-of b ≡ f → Bounded later (drop (size_of f) b) → Bounded (listed_before strict at f b later) b
-    before-bound (Whole op size) e h = whole-bound op size e h (stops strict (packet-of op (take size b)))
+    before-bound : (f : Frame) → frame_of b ≡ f → Bounded later (drop (size_of f) b) → Bounded (listed_before strict at f b later) b
+    before-bound (Whole op size) e h = whole-bound op size e h (stops strict (packet_of op (take size b)))
     before-bound (Misframed r) e h = bad-bound r
 
   listed-bound : (k at : ℕ) (b : List ℕ) → Bounded (listed strict k at b) b
@@ -63,8 +63,8 @@ module _ (strict : Bool) where
   listed-bound zero at b = none-bound b
   listed-bound (suc k) at b =
       by_test (eqb (length b) 0) _
-      (before-bound b at (listed strict k (at + size_of (frame-of b)) (drop (size_of (frame-of b)) b)) (frame-of b) refl
-      (listed-bound k (at + size_of (frame-of b)) (drop (size_of (frame-of b)) b)))
+      (before-bound b at (listed strict k (at + size_of (frame_of b)) (drop (size_of (frame_of b)) b)) (frame_of b) refl
+      (listed-bound k (at + size_of (frame_of b)) (drop (size_of (frame_of b)) b)))
     where
       by_test : (t : Bool) (x : Dump) → Bounded x b → Bounded (pick t (ends complete) x) b
       by_test true x h = none-bound b
@@ -80,18 +80,18 @@ module _ (strict : Bool) where
   in-bound b size (Broken r) = omega (arith, error-bound r)
 
   module _ (b : List ℕ) where
-    taken-bound : Bounded (dump-of strict b) (take (stream-header b 0).size b)
-    unfolding dump-of
-    taken-bound = in-bound b (stream-header b 0).size (stream-rules (length b) (stream-header b 0))
+    taken-bound : Bounded (dump_of strict b) (take (stream_header b 0).size b)
+    unfolding dump_of
+    taken-bound = in-bound b (stream_header b 0).size (stream_rules (length b) (stream_header b 0))
 
-    pub dump-bound : length (text_of (dump-of strict b)) ≤ 10 * length b + 90
+    pub dump-bound : length (text_of (dump_of strict b)) ≤ 10 * length b + 90
     dump-bound =
-        let n : length (take (stream-header b 0).size b) ≤ length b = rw length-take (omega arith) in
+        let n : length (take (stream_header b 0).size b) ≤ length b = rw length-take (omega arith) in
         omega (arith, taken-bound)
 
 -- where the size of a stream is a word, so is nearly the length of its text
 pub rest-small : (strict : Bool) (s : List ℕ) (size : ℕ) → size < 4294967296 → length (rest_from strict (take size s) stream_header_size) < 2 ^ 36
-unfolding rest_from listed-from
+unfolding rest_from listed_from
 rest-small strict s size h =
     let n : length (take size s) ≤ size = rw length-take (omega arith) in
     let k : length (drop 24 (take size s)) ≤ length (take size s) = rw length-drop (omega arith) in

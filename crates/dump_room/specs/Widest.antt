@@ -13,9 +13,9 @@ use Rattle.rules.specs.Fields.FieldType.{U32, U64, F32, I32}
 use Rattle.rules.specs.Layouts.{signed}
 use Rattle.rules.specs.Lists.{Found}
 use Rattle.rules.specs.Lists.Found.{none, found}
-use Rattle.rules.specs.Stream.{Known, known, bytes_in, least_size, frame-of, packet-of}
+use Rattle.rules.specs.Stream.{Known, known, bytes_in, least_size, frame_of, packet_of}
 use Rattle.rules.specs.Text.{ascii, signed_decimal}
-use Rattle.rules.specs.Dump.{number_text, fields_text, opcode_text, line, line_in, ending-text, stops}
+use Rattle.rules.specs.Dump.{number_text, fields_text, opcode_text, line, line_in, ending_text, stops}
 use Rattle.rules.specs.Dump.Ending.{refused}
 use Rattle.rules.specs.declared.Refusal.{Refusal}
 use Rattle.rules.specs.declared.Frame.{Frame}
@@ -23,7 +23,7 @@ use Rattle.rules.specs.declared.Frame.TheVariants.{Whole, Misframed}
 use Rattle.stream_opcodes.specs.Opcodes.{none-known}
 use Rattle.text_numbers.specs.Numbers.{hex-length}
 use Rattle.text_numbers.specs.Digits.{decimal-length}
-use Rattle.dump_next.specs.Rest.{line_by, next-line}
+use Rattle.dump_next.specs.Rest.{line_by, next_line}
 
 -- ---- a line
 
@@ -114,21 +114,21 @@ packet-bound op at size b least head = omega (arith, line-in-bound (known op) at
 pub stopped-bound : (at op size : ℕ) → length (line at "STOPPED" size (opcode_text op)) ≤ 80
 stopped-bound at op size = line-bound at "STOPPED" size (opcode_text op) 30 (opcode-bound op)
 
-pub error-bound : (r : Refusal) → length (ending-text (refused r)) ≤ 27
-unfolding ending-text
+pub error-bound : (r : Refusal) → length (ending_text (refused r)) ≤ 27
+unfolding ending_text
 error-bound r = simp length-append (omega (arith, decimal-length r.code))
 
 -- ---- the next line
 
 module _ (strict : Bool) where
   by-short : (at : ℕ) (f : Frame) (b : List ℕ) → length (line_by strict at f b) ≤ longest_line
-  by-short at (Whole op size) b = by-stop (stops strict (packet-of op (take size b)))
+  by-short at (Whole op size) b = by-stop (stops strict (packet_of op (take size b)))
     where
       by-stop : (t : Bool) → length (pick t (line at "STOPPED" size (opcode_text op)) (line_in (known op) at op size (take size b))) ≤ longest_line
       by-stop true = omega (arith, stopped-bound at op size)
       by-stop false = omega (arith, line-in-bound (known op) at op size (take size b), (known-fair op).short)
   by-short at (Misframed r) b = omega (arith, error-bound r)
 
-  pub next-short : (s : List ℕ) (at : ℕ) → length (next-line strict s at) ≤ longest_line
-  unfolding next-line
-  next-short s at = by-short at (frame-of (drop at s)) (drop at s)
+  pub next-short : (s : List ℕ) (at : ℕ) → length (next_line strict s at) ≤ longest_line
+  unfolding next_line
+  next-short s at = by-short at (frame_of (drop at s)) (drop at s)

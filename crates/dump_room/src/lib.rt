@@ -3,7 +3,7 @@
 // so a text that fits a buffer to the last byte is not refused.
 ghost use Rattle.std.specs.Prelude.{◌≡◌, not, ◌+◌, ◌*◌, ◌≤◌, ltb, length};
 ghost use Rattle.rules.specs.Layouts.{stream_header_size};
-ghost use Rattle.rules.specs.Dump.{text_of, dump-of};
+ghost use Rattle.rules.specs.Dump.{text_of, dump_of};
 ghost use Rattle.dump_next.specs.Rest.{rest_from};
 ghost use Rattle.dump_room.specs.Widest.{longest_line};
 ghost use Rattle.dump_room.specs.Fitting.{fits};
@@ -69,7 +69,7 @@ fn packets_fit(line: &mut [u8], dump: &[u8], strict: bool, room: usize) -> bool
 
 // Whether the text of a dump has room in this many bytes.
 pub fn dump_fits(dump: &[u8], strict: bool, room: usize) -> bool
-    ensures { result ≡ fits (text_of (dump-of strict dump.now)) room }
+    ensures { result ≡ fits (text_of (dump_of strict dump.now)) room }
 {
     if ample(dump.len(), room) {
         return true;

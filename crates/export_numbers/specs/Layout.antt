@@ -25,11 +25,11 @@ abbrev pub record_words : ℕ
 record_words = 320
 
 -- all of them in one number
-unfoldable pub layout-number : ℕ
-layout-number = layout_version * 2 ^ 60 + number_words * 2 ^ 48 + entry_words * 2 ^ 36 + resource_words * 2 ^ 24 + token_words * 2 ^ 12 + record_words
+unfoldable pub layout_number : ℕ
+layout_number = layout_version * 2 ^ 60 + number_words * 2 ^ 48 + entry_words * 2 ^ 36 + resource_words * 2 ^ 24 + token_words * 2 ^ 12 + record_words
 
-pub layout_is : 3468915218055168320 ≡ layout-number
-unfolding layout-number
+pub layout_is : 3468915218055168320 ≡ layout_number
+unfolding layout_number
 layout_is = refl
 
 pub ruleset laying_out = (layout_is, rules)

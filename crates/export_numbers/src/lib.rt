@@ -3,7 +3,7 @@
 ghost use Rattle.std.specs.Prelude.{◌≡◌, ◌≤◌, ◌<◌};
 ghost use Rattle.rules.specs.Calls.{ended_number};
 ghost use Rattle.export_numbers.specs.Numbers.{record_words, said_beside, said_long, said_spent};
-ghost use Rattle.export_numbers.specs.Layout.{layout-number};
+ghost use Rattle.export_numbers.specs.Layout.{layout_number};
 
 use device_memory_calls::Spent;
 use rules::{Ended, Record};
@@ -77,7 +77,7 @@ const LAYOUT: u64 = 3468915218055168320;
 
 // The layout's number.
 pub fn layout() -> u64
-    ensures { result ≡ layout-number }
+    ensures { result ≡ layout_number }
 {
     LAYOUT
 }

@@ -6,12 +6,12 @@ use Rattle.std.proofs.Math.Dec.{eqb_refl}
 use Rattle.std.specs.Float.{nan, inf, fin, binary32}
 use Rattle.std.specs.Float.Ieee.{up, down, level, ne, is_nan, nan_bits, to_bits}
 use Rattle.std.specs.Float.Ieee.Bits.{nan_bits_above, is_true}
-use Rattle.rules.specs.Floats.{bits_of, sign_bit, infinity, is-nan, not_finite, key, below, float_zero, float_one, outside}
+use Rattle.rules.specs.Floats.{bits_of, sign_bit, infinity, is_nan_bits, not_finite, key, below, float_zero, float_one, outside}
 
 -- ---- is_nan, not_finite
 
-pub nan-told : (b : ℕ) → ltb infinity (b % sign_bit) ≡ is-nan b
-unfolding is-nan
+pub nan-told : (b : ℕ) → ltb infinity (b % sign_bit) ≡ is_nan_bits b
+unfolding is_nan_bits
 nan-told b = refl
 
 pub not-finite-told : (b : ℕ) → leb infinity (b % sign_bit) ≡ not_finite b
@@ -42,8 +42,8 @@ module _ (b : ℕ) (x : Bool) (is : x ≡ below b float_zero) where
 
 -- ---- float_of, bits_of
 
-pub a-number : (b : ℕ) → is-nan b ≡ false → T (not (nan_bits binary32 b))
-unfolding is-nan
+pub a-number : (b : ℕ) → is_nan_bits b ≡ false → T (not (nan_bits binary32 b))
+unfolding is_nan_bits
 a-number b e = rw (nan_bits_above binary32 b, e) tt
 
 same_sign : (s : Bool) → beq s s ≡ true

@@ -1,6 +1,6 @@
 // Floats by their bits: which bits are no number's, which of two floats is below the other, and the way from bits to a float and back.
 ghost use Rattle.std.specs.Prelude.{◌≡◌, false};
-ghost use Rattle.rules.specs.Floats.{float_of, bits_of, is-nan, not_finite, key, below as is_below, outside as is-outside};
+ghost use Rattle.rules.specs.Floats.{float_of, bits_of, is_nan_bits, not_finite, key, below as is_below, outside as is-outside};
 
 // The highest bit: the sign.
 const SIGN_BIT: u32 = 2147483648;
@@ -18,7 +18,7 @@ const FLOAT_ONE: u32 = 1065353216;
 
 // Whether bits are a NaN's.
 pub fn is_nan(bits: u32) -> bool
-    ensures { result ≡ is-nan bits }
+    ensures { result ≡ is_nan_bits bits }
 {
     INFINITY < bits % SIGN_BIT
 }
@@ -59,7 +59,7 @@ pub fn outside(bits: u32) -> bool
 
 // The float of some bits, which are no NaN's.
 pub fn float_of(bits: u32) -> f32
-    requires { is-nan bits ≡ false }
+    requires { is_nan_bits bits ≡ false }
     ensures { result ≡ float_of bits }
 {
     f32::from_bits(bits)

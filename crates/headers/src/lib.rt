@@ -1,6 +1,6 @@
 // What the headers of an allocation table and of a command stream share: magic, version and size, judged by the same tests.
 ghost use Rattle.std.specs.Prelude.{◌≡◌};
-ghost use Rattle.rules.specs.Headers.{wrong-header};
+ghost use Rattle.rules.specs.Headers.{wrong_header};
 
 use rules::numbers::{GOOD_MAJOR, MINORS};
 use widths::u32_to_word;
@@ -15,7 +15,7 @@ pub fn wrong_header(
     version: u32,
     size: u32,
 ) -> bool
-    ensures { result ≡ wrong-header wanted header range magic version size }
+    ensures { result ≡ wrong_header wanted header range magic version size }
 {
     let bytes = u32_to_word(size);
     if range < header {

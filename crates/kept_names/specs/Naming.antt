@@ -4,21 +4,21 @@ use Rattle.std.proofs.Common.{sym, ap, ◌∙◌, ⊎_elim, mod-eq_of_lt, add-ze
 use native.Mathlib.Omega.{arith}
 use Rattle.machine.specs.Machine.{pick}
 use Rattle.rules.specs.Numbers.{most}
-use Rattle.rules.specs.Names.{shareable, rename, renamed, with_lowest, lower_of, lowest-left}
+use Rattle.rules.specs.Names.{shareable, rename, renamed, with_lowest, lower_of, lowest_left}
 use Rattle.rules.specs.declared.Kind.{Kind}
 use Rattle.rules.specs.declared.Kind.TheVariants.{Buffer, Texture}
 use Rattle.rules.specs.declared.Shape.{Shape}
 use Rattle.rules.specs.declared.Resource.{Resource}
-use Rattle.rows.specs.Rows.{row_at, table, tableFrom, tab, tab-ext, row_field, length-row_at, from_first, from-none, from_zero}
+use Rattle.rows.specs.Rows.{row_at, table, table_from, tab, tab-ext, row_field, length-row_at, from_first, from-none, from_zero}
 use Rattle.rows.specs.Keys.{same_or_not}
-use Rattle.rows_renaming.specs.Renaming.{wordRenamed, rowsRenamed, table-renamed}
+use Rattle.rows_renaming.specs.Renaming.{word_renamed, rows_renamed, table-renamed}
 use Rattle.kept_resources.specs.Views.{small, resource_of_row, resources_of}
 
 -- ---- rename
 
 -- the row of a resource, with its word for the lowest name changed
-row-with-lowest : (old new : ℕ) (r : List ℕ) → new < 2 ^ 32 → length r ≡ 12 → resource_of_row (wordRenamed 11 old new r) ≡ with_lowest (renamed old new (small r 11)) (resource_of_row r)
-unfolding wordRenamed
+row-with-lowest : (old new : ℕ) (r : List ℕ) → new < 2 ^ 32 → length r ≡ 12 → resource_of_row (word_renamed 11 old new r) ≡ with_lowest (renamed old new (small r 11)) (resource_of_row r)
+unfolding word_renamed
 row-with-lowest old new r fits long = by_test (eqb (get_or r 11 0 % 2 ^ 32) old)
   where
     other : (k : ℕ) → k < 11 → get_or (set r 11 new) k 0 ≡ get_or r k 0
@@ -37,7 +37,7 @@ tab-rename old new row i (suc n) = rw (tab-rename old new row (suc i) n)
 row_fits : (k n : ℕ) (l : List ℕ) → k < n → n ≤ most → length l ≡ 768 → 12 * k + 12 ≤ length l
 row_fits k n l h m len = omega arith
 
-pub renames : (n old new : ℕ) (l m : List ℕ) → n ≤ most → new < 2 ^ 32 → length l ≡ 768 → m ≡ rowsRenamed 12 11 old new n l
+pub renames : (n old new : ℕ) (l m : List ℕ) → n ≤ most → new < 2 ^ 32 → length l ≡ 768 → m ≡ rows_renamed 12 11 old new n l
     → resources_of n m ≡ rename old new (resources_of n l)
 unfolding table
 renames n old new l m h fits len e =
@@ -77,18 +77,18 @@ module _ (low best i v : ℕ) (l : List ℕ) (is : v ≡ get_or l (12 * i + 11) 
 pub ruleset lower_naming = (row-of-another, row_first, row-higher, row-lower, rules)
 
 module _ (low n : ℕ) (l : List ℕ) where
-  pub lowest-none : 0 ≡ lowest-left low (tableFrom resource_of_row 12 n n l)
-  unfolding lowest-left
+  pub lowest-none : 0 ≡ lowest_left low (table_from resource_of_row 12 n n l)
+  unfolding lowest_left
   lowest-none = rw (from-none resource_of_row 12 n n l (omega arith))
 
-  pub lowest-next : (i best r : ℕ) → best ≡ lowest-left low (tableFrom resource_of_row 12 i n l) → i ≤ n → 0 < i → r ≡ with_row low best (row_at 12 l (i - 1))
-      → r ≡ lowest-left low (tableFrom resource_of_row 12 (i - 1) n l)
-  unfolding lowest-left
+  pub lowest-next : (i best r : ℕ) → best ≡ lowest_left low (table_from resource_of_row 12 i n l) → i ≤ n → 0 < i → r ≡ with_row low best (row_at 12 l (i - 1))
+      → r ≡ lowest_left low (table_from resource_of_row 12 (i - 1) n l)
+  unfolding lowest_left
   lowest-next i best r so_far h p e =
       let s : i ≡ i - 1 + 1 = omega arith in
       rw (e, from_first resource_of_row 12 (i - 1) n l (omega arith), ← s, ← so_far)
 
-  pub lowest-all : (i best : ℕ) → best ≡ lowest-left low (tableFrom resource_of_row 12 i n l) → i ≤ 0 → best ≡ lowest-left low (resources_of n l)
+  pub lowest-all : (i best : ℕ) → best ≡ lowest_left low (table_from resource_of_row 12 i n l) → i ≤ 0 → best ≡ lowest_left low (resources_of n l)
   lowest-all i best so_far h =
       let s : i ≡ 0 = omega arith in
       so_far ∙ rw (s, from_zero resource_of_row 12 n l)
@@ -122,10 +122,10 @@ rename-same n (r ∷ rs) = rw (rename-same n rs) (ap {B = List Resource} (λ k. 
 
 -- the lowest name that is left, and all names with it
 pub record RenamesLeft (n low : ℕ) (before : List ℕ) (r : ℕ) (after : List ℕ) : Type 0 where
-  pub lowest : r ≡ lowest-left low (resources_of n before)
-  pub names : resources_of n after ≡ rename low (lowest-left low (resources_of n before)) (resources_of n before)
+  pub lowest : r ≡ lowest_left low (resources_of n before)
+  pub names : resources_of n after ≡ rename low (lowest_left low (resources_of n before)) (resources_of n before)
 
-module _ (n low r : ℕ) (l : List ℕ) (is : r ≡ lowest-left low (resources_of n l)) where
+module _ (n low r : ℕ) (l : List ℕ) (is : r ≡ lowest_left low (resources_of n l)) where
   pub left-changed : (m : List ℕ) → resources_of n m ≡ rename low r (resources_of n l) → RenamesLeft n low l r m
   left-changed m e = record { lowest = is; names = e ∙ ap (λ k. rename low k (resources_of n l)) is }
 

@@ -1,7 +1,7 @@
 // The names of a resource: those that are left, and which of them is the lowest (02, wish 5).
 ghost use Rattle.std.specs.Prelude.{◌≡◌, ◌≤◌, ◌<◌};
 ghost use Rattle.rules.specs.Numbers.{most};
-ghost use Rattle.rules.specs.Names.{shareable, rename, lowest-left};
+ghost use Rattle.rules.specs.Names.{shareable, rename, lowest_left};
 ghost use Rattle.rows.specs.Rows.{row_at};
 ghost use Rattle.kept_resources.specs.Views.{resources_of};
 ghost use Rattle.kept_names.specs.Naming.{with_row, RenamesLeft};
@@ -55,7 +55,7 @@ fn lower_name(resources: &Resources, i: usize, low: u32, best: u32) -> u32
 // The lowest name that is left of the resource whose lowest name was `low`, or 0 where none is.
 pub fn lowest_left(resources: &Resources, live: usize, low: u32) -> u32
     requires { live ≤ most }
-    ensures { result ≡ lowest-left low (resources_of live resources.now) }
+    ensures { result ≡ lowest_left low (resources_of live resources.now) }
 {
     let mut best: u32 = 0;
     let mut i = live;

@@ -10,7 +10,7 @@ use Rattle.rules.specs.Lists.{over, pushed}
 use Rattle.rules.specs.Names.{renamed, rebind}
 use Rattle.rules.specs.declared.Token.{Token}
 use Rattle.rows.specs.Rows.{row_at, table, tab, tab-ext, length-row_at, row_field, table-push-sets, table-replace, table-copied}
-use Rattle.rows_renaming.specs.Renaming.{wordRenamed, rowsRenamed, table-renamed}
+use Rattle.rows_renaming.specs.Renaming.{word_renamed, rows_renamed, table-renamed}
 use Rattle.kept_resources.specs.Views.{small}
 use Rattle.kept_tokens.specs.Views.{token_of_row, tokens_of, spent_at}
 
@@ -44,8 +44,8 @@ pub ruleset spending_token = (spends, rules)
 -- ---- rebind
 
 row-with-name : (old new : ℕ) (r : List ℕ) → new < 2 ^ 32 → length r ≡ 2
-    → token_of_row (wordRenamed 0 old new r) ≡ record { name = renamed old new (small r 0); token = get_or r 1 0 }
-unfolding wordRenamed
+    → token_of_row (word_renamed 0 old new r) ≡ record { name = renamed old new (small r 0); token = get_or r 1 0 }
+unfolding word_renamed
 row-with-name old new r fits long = by_test (eqb (get_or r 0 0 % 2 ^ 32) old)
   where
     by_test : (t : Bool) → token_of_row (pick t (set r 0 new) r) ≡ record { name = pick t new (small r 0); token = get_or r 1 0 }
@@ -61,7 +61,7 @@ tab-rebind old new row i (suc n) = rw (tab-rebind old new row (suc i) n)
 row_fits : (k n : ℕ) (l : List ℕ) → k < n → n ≤ most_tokens → length l ≡ 512 → 2 * k + 2 ≤ length l
 row_fits k n l h m len = omega arith
 
-pub rebinds : (n old new : ℕ) (l m : List ℕ) → n ≤ most_tokens → new < 2 ^ 32 → length l ≡ 512 → m ≡ rowsRenamed 2 0 old new n l
+pub rebinds : (n old new : ℕ) (l m : List ℕ) → n ≤ most_tokens → new < 2 ^ 32 → length l ≡ 512 → m ≡ rows_renamed 2 0 old new n l
     → tokens_of n m ≡ rebind old new (tokens_of n l)
 unfolding table
 rebinds n old new l m h fits len e =

@@ -3,7 +3,7 @@ ghost use Rattle.std.specs.Prelude.{◌≡◌, ◌+◌, ◌-◌, ◌%◌, ◌≤
 ghost use Rattle.rules.specs.Numbers.{most_tokens};
 ghost use Rattle.rules.specs.Lists.{index_of};
 ghost use Rattle.rules.specs.Names.{token_of};
-ghost use Rattle.rows.specs.Rows.{tableFrom};
+ghost use Rattle.rows.specs.Rows.{table_from};
 ghost use Rattle.rows_finding.specs.Among.{Among};
 ghost use Rattle.kept_tokens.specs.Views.{token_of_row, tokens_of};
 ghost use Rattle.kept_tokens.specs.Tokens.{is_bound};
@@ -60,7 +60,7 @@ fn of_eight(tokens: &Tokens, i: usize, token: u64) -> usize
 // The end of a scan: the token's place, or `used`. Eight rows a turn, and as many turns as are left.
 fn by_eight(tokens: &Tokens, from: usize, used: usize, token: u64) -> usize
     requires { (used ≤ most_tokens) × ((from ≤ used) × ((used - from) % 8 ≡ 0)) }
-    ensures { result ≡ from + index_of token_of token (tableFrom token_of_row 2 from used tokens.now) }
+    ensures { result ≡ from + index_of token_of token (table_from token_of_row 2 from used tokens.now) }
 {
     let mut i = from;
     let place = loop {

@@ -11,7 +11,7 @@ use Rattle.machine.specs.Machine.{pick}
 use Rattle.rules.specs.Numbers.{most, reads, writes}
 use Rattle.rows.specs.Rows.{length-table}
 use Rattle.kept_resources.specs.Views.{record_of, records_of}
-use Rattle.rules.specs.Month.{Finished, totals, sum, greatest, every, small, added, merged, fed, length_in, bytes_in, largest_write, listed_kind, alone, good-feed}
+use Rattle.rules.specs.Month.{Finished, totals, sum, greatest, every, small, added, merged, fed, length_in, bytes_in, largest_write, listed_kind, alone, good_feed}
 use Rattle.month_totals.specs.Views.{totals_in, Merges, Feeds}
 use Rattle.month_totals.specs.Summing.{get_or-added, length-added, every-at}
 use Rattle.month_feed.specs.declared.Sum.{Sum}
@@ -84,24 +84,24 @@ module _ (l : List ℕ) (long : length l ≡ 26) (e u read written top : ℕ) wh
 
 -- ---- fed
 
-module _ (l r : List ℕ) (e u n : ℕ) (t : Bool) (judged : t ≡ good-feed (finished e 0 n r)) where
+module _ (l r : List ℕ) (e u n : ℕ) (t : Bool) (judged : t ≡ good_feed (finished e 0 n r)) where
   -- units are not judged
-  same-judged : good-feed (finished e 0 n r) ≡ good-feed (finished e u n r)
-  unfolding good-feed
+  same-judged : good_feed (finished e 0 n r) ≡ good_feed (finished e u n r)
+  unfolding good_feed
   same-judged = refl
 
   pub feed-bad : not t ≡ true → Feeds l (finished e u n r) 10 l
   unfolding fed
   feed-bad h =
-      let no : good-feed (finished e u n r) ≡ false = sym same-judged ∙ sym judged ∙ not-true t h in
+      let no : good_feed (finished e u n r) ≡ false = sym same-judged ∙ sym judged ∙ not-true t h in
       record { answer = rw no; words = rw no }
 
   module _ (go : not t ≡ false) where
-    good : good-feed (finished e u n r) ≡ true
+    good : good_feed (finished e u n r) ≡ true
     good = sym same-judged ∙ sym judged ∙ not-false t go
 
     pub feed-error : good_error e ≡ true
-    unfolding good-feed
+    unfolding good_feed
     feed-error = first (eqb e 0) (leb 10 e && leb e 30) _ _ good
       where
         first : (a b c d : Bool) → (a || (b && c)) && d ≡ true → a || b ≡ true
@@ -111,7 +111,7 @@ module _ (l r : List ℕ) (e u n : ℕ) (t : Bool) (judged : t ≡ good-feed (fi
 
     module _ (k : ℕ) (same : k ≡ n) where
       pub feed-count : k ≤ most
-      unfolding good-feed
+      unfolding good_feed
       feed-count =
           let tail : leb (length (records_of n r)) 64 && every listed_kind (records_of n r) ≡ true = (both (alone (finished e u n r)) (leb (length (records_of n r)) 64 && every listed_kind (records_of n r)) good).1 in
           let p : leb (length (records_of n r)) 64 ≡ true = (both (leb (length (records_of n r)) 64) (every listed_kind (records_of n r)) tail).0 in

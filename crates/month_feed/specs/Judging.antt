@@ -9,27 +9,27 @@ use Rattle.rows.specs.Rows.{length-table}
 use Rattle.rows.specs.Keys.{same_or_not}
 use Rattle.words.specs.Over.{below_or_not}
 use Rattle.kept_resources.specs.Views.{record_of, records_of}
-use Rattle.rules.specs.Month.{every, listed_kind, good-feed}
+use Rattle.rules.specs.Month.{every, listed_kind, good_feed}
 use Rattle.month_feed.specs.Views.{finished, good_error, place_of, ended}
 
 module _ (e u n : ℕ) (l : List ℕ) where
   many : length (records_of n l) ≡ n
   many = length-table record_of 5 n l
 
-  pub error-low : (e ≡ 0 → ⊥) → e < 10 → false ≡ good-feed (finished e u n l)
-  unfolding good-feed
+  pub error-low : (e ≡ 0 → ⊥) → e < 10 → false ≡ good_feed (finished e u n l)
+  unfolding good_feed
   error-low p h = rw (ne_eqb e 0 p, lt-leb 10 e h)
 
-  pub error-high : (e ≡ 0 → ⊥) → 10 ≤ e → 30 < e → false ≡ good-feed (finished e u n l)
-  unfolding good-feed
+  pub error-high : (e ≡ 0 → ⊥) → 10 ≤ e → 30 < e → false ≡ good_feed (finished e u n l)
+  unfolding good_feed
   error-high p g h = rw (ne_eqb e 0 p, le-leb 10 e g, lt-leb e 30 h)
 
-  pub error-records : (e ≡ 0 → ⊥) → 10 ≤ e → e ≤ 30 → (n ≡ 0 → ⊥) → false ≡ good-feed (finished e u n l)
-  unfolding good-feed
+  pub error-records : (e ≡ 0 → ⊥) → 10 ≤ e → e ≤ 30 → (n ≡ 0 → ⊥) → false ≡ good_feed (finished e u n l)
+  unfolding good_feed
   error-records p g h q = rw (ne_eqb e 0 p, le-leb 10 e g, le-leb e 30 h, many, ne_eqb n 0 q)
 
-  pub error-alone : (e ≡ 0 → ⊥) → 10 ≤ e → e ≤ 30 → n ≡ 0 → true ≡ good-feed (finished e u n l)
-  unfolding good-feed every
+  pub error-alone : (e ≡ 0 → ⊥) → 10 ≤ e → e ≤ 30 → n ≡ 0 → true ≡ good_feed (finished e u n l)
+  unfolding good_feed every
   error-alone p g h q =
       let none : records_of n l ≡ [] = nothing (records_of n l) (many ∙ q) in
       rw (ne_eqb e 0 p, le-leb 10 e g, le-leb e 30 h, none)
@@ -38,12 +38,12 @@ module _ (e u n : ℕ) (l : List ℕ) where
       nothing [] h = refl
       nothing (x ∷ xs) h = absurd (omega arith)
 
-  pub too_long : e ≡ 0 → 64 < n → false ≡ good-feed (finished e u n l)
-  unfolding good-feed
+  pub too_long : e ≡ 0 → 64 < n → false ≡ good_feed (finished e u n l)
+  unfolding good_feed
   too_long p h = rw (eq-eqb e 0 p, many, lt-leb n 64 h)
 
-  pub by-kinds : e ≡ 0 → n ≤ 64 → (k : ℕ) → k ≡ n → (t : Bool) → t ≡ every listed_kind (records_of k l) → t ≡ good-feed (finished e u n l)
-  unfolding good-feed
+  pub by-kinds : e ≡ 0 → n ≤ 64 → (k : ℕ) → k ≡ n → (t : Bool) → t ≡ every listed_kind (records_of k l) → t ≡ good_feed (finished e u n l)
+  unfolding good_feed
   by-kinds p h k q t r = rw (eq-eqb e 0 p, many, le-leb n 64 h) (r ∙ ap (λ i. every listed_kind (records_of i l)) q)
 
 pub ruleset judging = (error-low, error-high, error-records, error-alone, too_long, by-kinds, rules)

@@ -7,14 +7,14 @@ use native.Mathlib.Omega.{arith}
 use borrow.Author.Tests.{lt-ltb, le-ltb, ltb-true, ltb-false, le-leb, lt-leb, eq-eqb, ne_eqb, not-true, not-false}
 use Rattle.rules.specs.Numbers.{backs, clips, writes}
 use Rattle.rules.specs.declared.Record.{Record}
-use Rattle.rows.specs.Rows.{row_at, tableFrom, from_first, from-none, from_zero}
+use Rattle.rows.specs.Rows.{row_at, table_from, from_first, from-none, from_zero}
 use Rattle.kept_resources.specs.Views.{record_of, records_of}
 use Rattle.rules.specs.Month.{sum, greatest, every, length_in, listed_kind, small}
 use Rattle.month_feed.specs.declared.Sum.TheVariants.{Below, Reached}
 use Rattle.month_feed.specs.Views.{within}
 
 abbrev pub left : ℕ → ℕ → List ℕ → List Record
-left i n l = tableFrom record_of 5 i n l
+left i n l = table_from record_of 5 i n l
 
 -- ---- one record
 

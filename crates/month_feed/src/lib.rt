@@ -2,7 +2,7 @@
 ghost use Rattle.std.specs.Prelude.{◌≡◌, true, ◌≤◌, ◌<◌, max};
 ghost use Rattle.rules.specs.Numbers.{most, writes};
 ghost use Rattle.kept_resources.specs.Views.{records_of};
-ghost use Rattle.rules.specs.Month.{sum, greatest, every, length_in, listed_kind, good-feed};
+ghost use Rattle.rules.specs.Month.{sum, greatest, every, length_in, listed_kind, good_feed};
 ghost use Rattle.month_totals.specs.Views.{totals_in, Feeds};
 ghost use Rattle.month_feed.specs.Views.{finished, within, good_error, only, place_of};
 
@@ -110,7 +110,7 @@ fn largest(records: &Records, count: usize) -> u64
 
 // Whether none of the four causes of 10 holds. No row is read where there are too many.
 fn is_good(error: u32, count: u32, records: &Records) -> bool
-    ensures { result ≡ good-feed (finished error 0 count records.now) }
+    ensures { result ≡ good_feed (finished error 0 count records.now) }
 {
     if error != 0 {
         if error < FIRST_ERROR {

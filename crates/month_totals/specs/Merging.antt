@@ -31,8 +31,8 @@ abbrev pub sums_of : List ℕ → List ℕ → List ℕ
 sums_of a b = added (take 25 a) (take 25 b)
 
 -- whether the sums from i on are below 2^64
-unfoldable pub fit-from : List ℕ → List ℕ → ℕ → Bool
-fit-from a b i = every small (drop i (sums_of a b))
+unfoldable pub fit_from : List ℕ → List ℕ → ℕ → Bool
+fit_from a b i = every small (drop i (sums_of a b))
 
 module _ (a b : List ℕ) (long : length a ≡ 26) (long-b : length b ≡ 26) where
   front-a : length (take 25 a) ≡ 25
@@ -50,39 +50,39 @@ module _ (a b : List ℕ) (long : length a ≡ 26) (long-b : length b ≡ 26) wh
       let q : length (take 25 b) ≡ 25 = front-b in
       get_or-added (take 25 a) (take 25 b) i (omega arith) (omega arith) ∙ rw (get_or-take 25 a i 0 h, get_or-take 25 b i 0 h)
 
-  pub fit_next : (i : ℕ) → i < 25 → (t : Bool) → t ≡ not (small (get_or a i 0 + get_or b i 0)) → t ≡ false → fit-from a b i ≡ fit-from a b (i + 1)
-  unfolding fit-from
+  pub fit_next : (i : ℕ) → i < 25 → (t : Bool) → t ≡ not (small (get_or a i 0 + get_or b i 0)) → t ≡ false → fit_from a b i ≡ fit_from a b (i + 1)
+  unfolding fit_from
   fit_next i h t p w =
       let g : get_or a i 0 + get_or b i 0 < 18446744073709551616 = ltb-true (get_or a i 0 + get_or b i 0) 18446744073709551616 (not-false (small (get_or a i 0 + get_or b i 0)) (sym p ∙ w)) in
       let n : length (sums_of a b) ≡ 25 = length-sums in
       let e : get_or (sums_of a b) i 0 ≡ get_or a i 0 + get_or b i 0 = sum-at i h in
       every-next small (sums_of a b) i 0 (omega arith) (lt-ltb (get_or (sums_of a b) i 0) 18446744073709551616 (omega arith))
 
-  pub fit-not : (i : ℕ) → i < 25 → (t : Bool) → t ≡ not (small (get_or a i 0 + get_or b i 0)) → t ≡ true → fit-from a b i ≡ false
-  unfolding fit-from
+  pub fit-not : (i : ℕ) → i < 25 → (t : Bool) → t ≡ not (small (get_or a i 0 + get_or b i 0)) → t ≡ true → fit_from a b i ≡ false
+  unfolding fit_from
   fit-not i h t p w =
       let g : 18446744073709551616 ≤ get_or a i 0 + get_or b i 0 = ltb-false (get_or a i 0 + get_or b i 0) 18446744073709551616 (not-true (small (get_or a i 0 + get_or b i 0)) (sym p ∙ w)) in
       let n : length (sums_of a b) ≡ 25 = length-sums in
       let e : get_or (sums_of a b) i 0 ≡ get_or a i 0 + get_or b i 0 = sum-at i h in
       every-not small (sums_of a b) i 0 (omega arith) (le-ltb (get_or (sums_of a b) i 0) 18446744073709551616 (omega arith))
 
-  pub fit-end : (i : ℕ) → 25 ≤ i → fit-from a b i ≡ true
-  unfolding fit-from
+  pub fit-end : (i : ℕ) → 25 ≤ i → fit_from a b i ≡ true
+  unfolding fit_from
   fit-end i h = every-end small (sums_of a b) i (rw length-sums h)
 
   -- ---- the loop that tests
 
-  pub fit-whole : fit-from a b 0 ≡ below (joined (totals_in a) (totals_in b))
-  unfolding fit-from
+  pub fit-whole : fit_from a b 0 ≡ below (joined (totals_in a) (totals_in b))
+  unfolding fit_from
   fit-whole = refl
 
-  pub fit-no : (i : ℕ) → fit-from a b 0 ≡ fit-from a b i → i < 25 → (t : Bool) → t ≡ not (small (get_or a i 0 + get_or b i 0)) → t ≡ true → false ≡ below (joined (totals_in a) (totals_in b))
+  pub fit-no : (i : ℕ) → fit_from a b 0 ≡ fit_from a b i → i < 25 → (t : Bool) → t ≡ not (small (get_or a i 0 + get_or b i 0)) → t ≡ true → false ≡ below (joined (totals_in a) (totals_in b))
   fit-no i e h t p w = sym (sym fit-whole ∙ e ∙ fit-not i h t p w)
 
-  pub fit_on : (i : ℕ) → fit-from a b 0 ≡ fit-from a b i → i < 25 → (t : Bool) → t ≡ not (small (get_or a i 0 + get_or b i 0)) → t ≡ false → fit-from a b 0 ≡ fit-from a b (i + 1)
+  pub fit_on : (i : ℕ) → fit_from a b 0 ≡ fit_from a b i → i < 25 → (t : Bool) → t ≡ not (small (get_or a i 0 + get_or b i 0)) → t ≡ false → fit_from a b 0 ≡ fit_from a b (i + 1)
   fit_on i e h t p w = e ∙ fit_next i h t p w
 
-  pub fit-yes : (i : ℕ) → fit-from a b 0 ≡ fit-from a b i → 25 ≤ i → true ≡ below (joined (totals_in a) (totals_in b))
+  pub fit-yes : (i : ℕ) → fit_from a b 0 ≡ fit_from a b i → 25 ≤ i → true ≡ below (joined (totals_in a) (totals_in b))
   fit-yes i e h = sym (sym fit-whole ∙ e ∙ fit-end i h)
 
   -- ---- the loop that adds

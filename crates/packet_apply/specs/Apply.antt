@@ -6,7 +6,7 @@ use Rattle.std.proofs.Common.{subst, ◌∙◌, arith, rules}
 use mathlib.Core.List.{List}
 use Rattle.machine.specs.Machine.{pick}
 use Rattle.rules.specs.Numbers.{bad_state, most}
-use Rattle.rules.specs.Packets.{Holdings, Outcome, Passed, if-fine, passed, on-buffer-packet, on-texture-packet, on-destroy-packet, on-dirty-packet, on-copy-packet, on-target-packet, on-viewport-packet, on-scissor-packet, on-clear-packet, apply, target-after, tokens-after, pass}
+use Rattle.rules.specs.Packets.{Holdings, Outcome, Passed, if-fine, passed, on_buffer_packet, on_texture_packet, on_destroy_packet, on_dirty_packet, on_copy_packet, on_target_packet, on_viewport_packet, on_scissor_packet, on_clear_packet, apply, target_after, tokens_after, pass}
 use Rattle.rules.specs.declared.Entry.{Entry}
 use Rattle.rules.specs.declared.CreateBuffer.{CreateBuffer}
 use Rattle.rules.specs.declared.CreateTexture.{CreateTexture}
@@ -90,13 +90,13 @@ applied-leaves o a copied t r h l c x is there p =
 
 module _ (n : ℕ) (e r h h₁ c : List ℕ) (k : Held) (same : resources_of k.live h₁ ≡ resources_of k.live (pick (own_in k.copied) h r)) (a : Applied) (x : Changed) (h' c' : List ℕ) where
   pub makes-buffer : (b : CreateBuffer) → x ≡ changed_of a 1 k.target
-      → Applies (on-buffer-packet (entries_of n e) (holdings_of k.live h₁ k.made c) b) a h' c'
-      → Leaves (on-buffer-packet (entries_of n e) (holdings_held k r h c) b) k.target r x h' c'
+      → Applies (on_buffer_packet (entries_of n e) (holdings_of k.live h₁ k.made c) b) a h' c'
+      → Leaves (on_buffer_packet (entries_of n e) (holdings_held k r h c) b) k.target r x h' c'
   makes-buffer b is p = rw (← same) (applied-leaves _ a 1 k.target r h' h' c' x is refl p)
 
   pub makes-texture : (b : CreateTexture) → x ≡ changed_of a 1 k.target
-      → Applies (on-texture-packet (entries_of n e) (holdings_of k.live h₁ k.made c) b) a h' c'
-      → Leaves (on-texture-packet (entries_of n e) (holdings_held k r h c) b) k.target r x h' c'
+      → Applies (on_texture_packet (entries_of n e) (holdings_of k.live h₁ k.made c) b) a h' c'
+      → Leaves (on_texture_packet (entries_of n e) (holdings_held k r h c) b) k.target r x h' c'
   makes-texture b is p = rw (← same) (applied-leaves _ a 1 k.target r h' h' c' x is refl p)
 
 pub ruleset changing = (makes-buffer, makes-texture, rules)
@@ -104,24 +104,24 @@ pub ruleset changing = (makes-buffer, makes-texture, rules)
 -- ---- dirty, copy, aim, cut: on the table that has the resources
 
 module _ (n : ℕ) (e r h l c : List ℕ) (k : Held) (here : l ≡ pick (own_in k.copied) h r) (a : Applied) (x : Changed) where
-  pub dirties : (b : DirtyRange) (c' : List ℕ) → x ≡ changed_of a k.copied k.target → Applies (on-dirty-packet (entries_of n e) (holdings_of k.live l k.made c) b) a l c'
-      → Leaves (on-dirty-packet (entries_of n e) (holdings_held k r h c) b) k.target r x h c'
+  pub dirties : (b : DirtyRange) (c' : List ℕ) → x ≡ changed_of a k.copied k.target → Applies (on_dirty_packet (entries_of n e) (holdings_of k.live l k.made c) b) a l c'
+      → Leaves (on_dirty_packet (entries_of n e) (holdings_held k r h c) b) k.target r x h c'
   dirties b c' is p = rw (← here) (applied-leaves _ a k.copied k.target r h l c' x is (sym here) p)
 
-  pub copies : (b : CopyBuffer) (c' : List ℕ) → x ≡ changed_of a k.copied k.target → Applies (on-copy-packet (entries_of n e) (holdings_of k.live l k.made c) b) a l c'
-      → Leaves (on-copy-packet (entries_of n e) (holdings_held k r h c) b) k.target r x h c'
+  pub copies : (b : CopyBuffer) (c' : List ℕ) → x ≡ changed_of a k.copied k.target → Applies (on_copy_packet (entries_of n e) (holdings_of k.live l k.made c) b) a l c'
+      → Leaves (on_copy_packet (entries_of n e) (holdings_held k r h c) b) k.target r x h c'
   copies b c' is p = rw (← here) (applied-leaves _ a k.copied k.target r h l c' x is (sym here) p)
 
-  pub cuts : (b : SetScissor) (c' : List ℕ) → x ≡ changed_of a k.copied k.target → Applies (on-scissor-packet k.target (holdings_of k.live l k.made c) b) a l c'
-      → Leaves (on-scissor-packet k.target (holdings_held k r h c) b) k.target r x h c'
+  pub cuts : (b : SetScissor) (c' : List ℕ) → x ≡ changed_of a k.copied k.target → Applies (on_scissor_packet k.target (holdings_of k.live l k.made c) b) a l c'
+      → Leaves (on_scissor_packet k.target (holdings_held k r h c) b) k.target r x h c'
   cuts b c' is p = rw (← here) (applied-leaves _ a k.copied k.target r h l c' x is (sym here) p)
 
   pub aims : (b : SetTarget) (t : ℕ) → t ≡ if-fine a.verdict b.handle k.target → x ≡ changed_of a k.copied t → Targets b k.live k.made l a
-      → Leaves (on-target-packet (holdings_held k r h c) b) (target-after (Target b) (on-target-packet (holdings_held k r h c) b).verdict k.target) r x h c
-  unfolding target-after
+      → Leaves (on_target_packet (holdings_held k r h c) b) (target_after (Target b) (on_target_packet (holdings_held k r h c) b).verdict k.target) r x h c
+  unfolding target_after
   aims b t j is p =
-      let v : a.verdict ≡ (on-target-packet (holdings_of k.live l k.made c) b).verdict = ap (λ (w : Outcome). w.verdict) (p.applies c).outcome in
-      let aimed : t ≡ if-fine (on-target-packet (holdings_of k.live l k.made c) b).verdict b.handle k.target = rw (← v) j in
+      let v : a.verdict ≡ (on_target_packet (holdings_of k.live l k.made c) b).verdict = ap (λ (w : Outcome). w.verdict) (p.applies c).outcome in
+      let aimed : t ≡ if-fine (on_target_packet (holdings_of k.live l k.made c) b).verdict b.handle k.target = rw (← v) j in
       rw (← here, ← aimed) (applied-leaves _ a k.copied t r h l c x is (sym here) (p.applies c))
 
 pub ruleset reading_resources = (dirties, copies, cuts, aims, rules)
@@ -131,17 +131,17 @@ pub ruleset reading_resources = (dirties, copies, cuts, aims, rules)
 -- by other rows that have what is held
 leaves-passed : (es : List Entry) (p : Packet) (k : Held) (r h c h' c' : List ℕ) (held : Holdings) → holdings_held k r h c ≡ held → (o : Holdings → Outcome) (t : ℕ) (x : Changed)
     → ((ts : List Token) → pass es (held_of k r h c ts) p ≡ passed p (held_of k r h c ts) (o (holdings_held k r h c)))
-    → Leaves (o held) t r x h' c' → t ≡ target-after p (o held).verdict k.target → ((ts : List Token) → tokens-after p (o held).verdict held ts ≡ ts)
+    → Leaves (o held) t r x h' c' → t ≡ target_after p (o held).verdict k.target → ((ts : List Token) → tokens_after p (o held).verdict held ts ≡ ts)
     → Takes es k r h c p (plainly x) h' c'
 leaves-passed es p k r h c h' c' held same o t x is =
     subst
-    (λ (w : Holdings). Leaves (o w) t r x h' c' → t ≡ target-after p (o w).verdict k.target → ((ts : List Token) → tokens-after p (o w).verdict w ts ≡ ts)
+    (λ (w : Holdings). Leaves (o w) t r x h' c' → t ≡ target_after p (o w).verdict k.target → ((ts : List Token) → tokens_after p (o w).verdict w ts ≡ ts)
     → Takes es k r h c p (plainly x) h' c') same here
   where
     o₀ : Outcome
     o₀ = o (holdings_held k r h c)
 
-    here : Leaves o₀ t r x h' c' → t ≡ target-after p o₀.verdict k.target → ((ts : List Token) → tokens-after p o₀.verdict (holdings_held k r h c) ts ≡ ts)
+    here : Leaves o₀ t r x h' c' → t ≡ target_after p o₀.verdict k.target → ((ts : List Token) → tokens_after p o₀.verdict (holdings_held k r h c) ts ≡ ts)
         → Takes es k r h c p (plainly x) h' c'
     here l aimed stay =
         record {
@@ -149,7 +149,7 @@ leaves-passed es p k r h c h' c' held same o t x is =
             why = λ ts. rw (is ts) l.why;
             held = λ ts.
                 rw (is ts, l.target, stay ts, aimed)
-                (ap (λ (w : Holdings). record { holdings = w; target = target-after p o₀.verdict k.target; tokens = ts }) l.held);
+                (ap (λ (w : Holdings). record { holdings = w; target = target_after p o₀.verdict k.target; tokens = ts }) l.held);
           };
           left = λ z. absurd (omega arith);
           live = l.live;
@@ -178,19 +178,19 @@ module _ (r h h₁ c h' : List ℕ) (k : Held) (b : DestroyResource) (m : Destro
       → after ≡ pick (eqb b.handle k.target) 0 k.target → t ≡ if-fine m.applied.verdict after k.target
       → y ≡ changed_of m.applied 1 t → x ≡ plainly y
       → TakesDestroy k r h c b x h' c
-  unfolding pass apply target-after
+  unfolding pass apply target_after
   destroys-done after t y x f i j is plain =
       let all = d.done f in
-      let o : Outcome = on-destroy-packet (holdings_of k.live h₁ k.made c) b in
+      let o : Outcome = on_destroy_packet (holdings_of k.live h₁ k.made c) b in
       let v : m.applied.verdict ≡ o.verdict = ap (λ (w : Outcome). w.verdict) (all.applies c).outcome in
       let aimed : t ≡ if-fine o.verdict (pick (eqb b.handle k.target) 0 k.target) k.target = rw (← v, ← i) j in
-      let stay : (ts : List Token) → tokens-after (Destroy b) o.verdict (holdings_of k.live h₁ k.made c) ts ≡ ts =
+      let stay : (ts : List Token) → tokens_after (Destroy b) o.verdict (holdings_of k.live h₁ k.made c) ts ≡ ts =
       λ ts. sym (rw (← v) ((all.rebinds c).tokens ts)) ∙ rebind-same 0 ts in
       let rows : holdings_held k r h c ≡ holdings_of k.live h₁ k.made c = rw same in
       rw plain
       (record {
         takes = λ es.
-            leaves-passed es (Destroy b) k r h c h' c (holdings_of k.live h₁ k.made c) rows (λ w. on-destroy-packet w b) t y (λ ts. refl) (applied-leaves o m.applied 1 t r h' h' c y is refl (all.applies c)) aimed stay;
+            leaves-passed es (Destroy b) k r h c h' c (holdings_of k.live h₁ k.made c) rows (λ w. on_destroy_packet w b) t y (λ ts. refl) (applied-leaves o m.applied 1 t r h' h' c y is refl (all.applies c)) aimed stay;
       })
 
 pub ruleset destroying = (destroys-left, destroys-done, rules)
@@ -198,52 +198,52 @@ pub ruleset destroying = (destroys-left, destroys-done, rules)
 -- ---- apply_packet
 
 module _ (n : ℕ) (e r h c h' c' : List ℕ) (k : Held) (p : Packet) (y : Changed) (x : Taken) (is : x ≡ plainly y) where
-  pub buffer-applied : (b : CreateBuffer) → p ≡ Buffer b → Leaves (on-buffer-packet (entries_of n e) (holdings_held k r h c) b) k.target r y h' c'
+  pub buffer-applied : (b : CreateBuffer) → p ≡ Buffer b → Leaves (on_buffer_packet (entries_of n e) (holdings_held k r h c) b) k.target r y h' c'
       → Takes (entries_of n e) k r h c p x h' c'
-  unfolding pass apply target-after tokens-after
-  buffer-applied b q i = rw (q, is) (leaves-passed (entries_of n e) (Buffer b) k r h c h' c' (holdings_held k r h c) refl (λ w. on-buffer-packet (entries_of n e) w b) k.target y (λ ts. refl) i refl (λ ts. refl))
+  unfolding pass apply target_after tokens_after
+  buffer-applied b q i = rw (q, is) (leaves-passed (entries_of n e) (Buffer b) k r h c h' c' (holdings_held k r h c) refl (λ w. on_buffer_packet (entries_of n e) w b) k.target y (λ ts. refl) i refl (λ ts. refl))
 
-  pub texture-applied : (b : CreateTexture) → p ≡ Texture b → Leaves (on-texture-packet (entries_of n e) (holdings_held k r h c) b) k.target r y h' c'
+  pub texture-applied : (b : CreateTexture) → p ≡ Texture b → Leaves (on_texture_packet (entries_of n e) (holdings_held k r h c) b) k.target r y h' c'
       → Takes (entries_of n e) k r h c p x h' c'
-  unfolding pass apply target-after tokens-after
-  texture-applied b q i = rw (q, is) (leaves-passed (entries_of n e) (Texture b) k r h c h' c' (holdings_held k r h c) refl (λ w. on-texture-packet (entries_of n e) w b) k.target y (λ ts. refl) i refl (λ ts. refl))
+  unfolding pass apply target_after tokens_after
+  texture-applied b q i = rw (q, is) (leaves-passed (entries_of n e) (Texture b) k r h c h' c' (holdings_held k r h c) refl (λ w. on_texture_packet (entries_of n e) w b) k.target y (λ ts. refl) i refl (λ ts. refl))
 
-  pub dirty-applied : (b : DirtyRange) → p ≡ Dirty b → Leaves (on-dirty-packet (entries_of n e) (holdings_held k r h c) b) k.target r y h' c'
+  pub dirty-applied : (b : DirtyRange) → p ≡ Dirty b → Leaves (on_dirty_packet (entries_of n e) (holdings_held k r h c) b) k.target r y h' c'
       → Takes (entries_of n e) k r h c p x h' c'
-  unfolding pass apply target-after tokens-after
-  dirty-applied b q i = rw (q, is) (leaves-passed (entries_of n e) (Dirty b) k r h c h' c' (holdings_held k r h c) refl (λ w. on-dirty-packet (entries_of n e) w b) k.target y (λ ts. refl) i refl (λ ts. refl))
+  unfolding pass apply target_after tokens_after
+  dirty-applied b q i = rw (q, is) (leaves-passed (entries_of n e) (Dirty b) k r h c h' c' (holdings_held k r h c) refl (λ w. on_dirty_packet (entries_of n e) w b) k.target y (λ ts. refl) i refl (λ ts. refl))
 
-  pub copy-applied : (b : CopyBuffer) → p ≡ Copy b → Leaves (on-copy-packet (entries_of n e) (holdings_held k r h c) b) k.target r y h' c'
+  pub copy-applied : (b : CopyBuffer) → p ≡ Copy b → Leaves (on_copy_packet (entries_of n e) (holdings_held k r h c) b) k.target r y h' c'
       → Takes (entries_of n e) k r h c p x h' c'
-  unfolding pass apply target-after tokens-after
-  copy-applied b q i = rw (q, is) (leaves-passed (entries_of n e) (Copy b) k r h c h' c' (holdings_held k r h c) refl (λ w. on-copy-packet (entries_of n e) w b) k.target y (λ ts. refl) i refl (λ ts. refl))
+  unfolding pass apply target_after tokens_after
+  copy-applied b q i = rw (q, is) (leaves-passed (entries_of n e) (Copy b) k r h c h' c' (holdings_held k r h c) refl (λ w. on_copy_packet (entries_of n e) w b) k.target y (λ ts. refl) i refl (λ ts. refl))
 
   pub target-applied : (b : SetTarget) → p ≡ Target b
-      → Leaves (on-target-packet (holdings_held k r h c) b) (target-after (Target b) (on-target-packet (holdings_held k r h c) b).verdict k.target) r y h' c'
+      → Leaves (on_target_packet (holdings_held k r h c) b) (target_after (Target b) (on_target_packet (holdings_held k r h c) b).verdict k.target) r y h' c'
       → Takes (entries_of n e) k r h c p x h' c'
-  unfolding pass apply tokens-after
-  target-applied b q i = rw (q, is) (leaves-passed (entries_of n e) (Target b) k r h c h' c' (holdings_held k r h c) refl (λ w. on-target-packet w b) _ y (λ ts. refl) i refl (λ ts. refl))
+  unfolding pass apply tokens_after
+  target-applied b q i = rw (q, is) (leaves-passed (entries_of n e) (Target b) k r h c h' c' (holdings_held k r h c) refl (λ w. on_target_packet w b) _ y (λ ts. refl) i refl (λ ts. refl))
 
-  pub scissor-applied : (b : SetScissor) → p ≡ Scissor b → Leaves (on-scissor-packet k.target (holdings_held k r h c) b) k.target r y h' c'
+  pub scissor-applied : (b : SetScissor) → p ≡ Scissor b → Leaves (on_scissor_packet k.target (holdings_held k r h c) b) k.target r y h' c'
       → Takes (entries_of n e) k r h c p x h' c'
-  unfolding pass apply target-after tokens-after
-  scissor-applied b q i = rw (q, is) (leaves-passed (entries_of n e) (Scissor b) k r h c h' c' (holdings_held k r h c) refl (λ w. on-scissor-packet k.target w b) k.target y (λ ts. refl) i refl (λ ts. refl))
+  unfolding pass apply target_after tokens_after
+  scissor-applied b q i = rw (q, is) (leaves-passed (entries_of n e) (Scissor b) k r h c h' c' (holdings_held k r h c) refl (λ w. on_scissor_packet k.target w b) k.target y (λ ts. refl) i refl (λ ts. refl))
 
 module _ (n : ℕ) (e r h c : List ℕ) (k : Held) (p : Packet) (a : Applied) (y : Changed) (x : Taken) (was : y ≡ changed_of a k.copied k.target) (is : x ≡ plainly y) where
   pub viewport-applied : (b : SetViewport) → p ≡ Viewport b → Views b k.live k.made a → Takes (entries_of n e) k r h c p x h c
-  unfolding pass apply target-after tokens-after
+  unfolding pass apply target_after tokens_after
   viewport-applied b q d =
       rw (q, is)
-      (leaves-passed (entries_of n e) (Viewport b) k r h c h c (holdings_held k r h c) refl (λ w. on-viewport-packet w b) k.target y (λ ts. refl) (applied-leaves _ a k.copied k.target r h (pick (own_in k.copied) h r) c y was refl (d.applies (pick (own_in k.copied) h r) c)) refl (λ ts. refl))
+      (leaves-passed (entries_of n e) (Viewport b) k r h c h c (holdings_held k r h c) refl (λ w. on_viewport_packet w b) k.target y (λ ts. refl) (applied-leaves _ a k.copied k.target r h (pick (own_in k.copied) h r) c y was refl (d.applies (pick (own_in k.copied) h r) c)) refl (λ ts. refl))
 
   pub clear-applied : (b : ClearValues) → p ≡ Clear b → Clears b k.live k.made a → Takes (entries_of n e) k r h c p x h c
-  unfolding pass apply target-after tokens-after
+  unfolding pass apply target_after tokens_after
   clear-applied b q d =
       rw (q, is)
-      (leaves-passed (entries_of n e) (Clear b) k r h c h c (holdings_held k r h c) refl (λ w. on-clear-packet w b) k.target y (λ ts. refl) (applied-leaves _ a k.copied k.target r h (pick (own_in k.copied) h r) c y was refl (d.applies (pick (own_in k.copied) h r) c)) refl (λ ts. refl))
+      (leaves-passed (entries_of n e) (Clear b) k r h c h c (holdings_held k r h c) refl (λ w. on_clear_packet w b) k.target y (λ ts. refl) (applied-leaves _ a k.copied k.target r h (pick (own_in k.copied) h r) c y was refl (d.applies (pick (own_in k.copied) h r) c)) refl (λ ts. refl))
 
   pub nan-applied : RowsExist n k.live k.made → p ≡ NotANumber → a ≡ refused_with bad_state k.live k.made → Takes (entries_of n e) k r h c p x h c
-  unfolding pass apply target-after tokens-after
+  unfolding pass apply target_after tokens_after
   nan-applied room q j =
       rw (q, is, was, j)
       (record {
@@ -255,7 +255,7 @@ module _ (n : ℕ) (e r h c : List ℕ) (k : Held) (p : Packet) (a : Applied) (y
 
 module _ (n : ℕ) (e r h c : List ℕ) (k : Held) (p : Packet) (room : RowsExist n k.live k.made) where
   pub unknown-applied : p ≡ Unknown → Takes (entries_of n e) k r h c p (record { changed = record { why = 0; held = k }; what = 1; left = Nothing }) h c
-  unfolding pass apply target-after tokens-after
+  unfolding pass apply target_after tokens_after
   unknown-applied q =
       rw q
       (record {

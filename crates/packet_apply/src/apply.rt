@@ -1,7 +1,7 @@
 // What each packet does to what a submission holds: resources, records and target, by the crate of its kind. A packet that needs tokens is left.
 ghost use Rattle.std.specs.Prelude.{◌≡◌, ◌≤◌};
 ghost use Rattle.rules.specs.Numbers.{most};
-ghost use Rattle.rules.specs.Packets.{on-buffer-packet, on-texture-packet, on-dirty-packet, on-copy-packet, on-target-packet, on-scissor-packet, target-after};
+ghost use Rattle.rules.specs.Packets.{on_buffer_packet, on_texture_packet, on_dirty_packet, on_copy_packet, on_target_packet, on_scissor_packet, target_after};
 ghost use Rattle.rules.specs.declared.Packet.TheVariants.{Target};
 ghost use Rattle.kept_entries.specs.Views.{entries_of};
 ghost use Rattle.packet_ranges.specs.Views.{RowsExist};
@@ -75,7 +75,7 @@ fn make_buffer(
     c: CreateBuffer,
 ) -> Changed
     requires { RowsExist kept h.live h.made }
-    ensures { Leaves (on-buffer-packet (entries_of kept entries.now)
+    ensures { Leaves (on_buffer_packet (entries_of kept entries.now)
         (holdings_held h resources.now own.old records.old) c) h.target
         resources.now result own.new records.new }
 {
@@ -94,7 +94,7 @@ fn make_texture(
     c: CreateTexture,
 ) -> Changed
     requires { RowsExist kept h.live h.made }
-    ensures { Leaves (on-texture-packet (entries_of kept entries.now)
+    ensures { Leaves (on_texture_packet (entries_of kept entries.now)
         (holdings_held h resources.now own.old records.old) c) h.target
         resources.now result own.new records.new }
 {
@@ -140,7 +140,7 @@ fn dirty<'a>(
     c: DirtyRange,
 ) -> Changed
     requires { RowsExist kept h.live h.made }
-    ensures { Leaves (on-dirty-packet (entries_of kept entries.now)
+    ensures { Leaves (on_dirty_packet (entries_of kept entries.now)
         (holdings_held h resources.now own.now records.old) c) h.target
         resources.now result own.now records.new }
 {
@@ -159,7 +159,7 @@ fn copy<'a>(
     c: CopyBuffer,
 ) -> Changed
     requires { RowsExist kept h.live h.made }
-    ensures { Leaves (on-copy-packet (entries_of kept entries.now)
+    ensures { Leaves (on_copy_packet (entries_of kept entries.now)
         (holdings_held h resources.now own.now records.old) c) h.target
         resources.now result own.now records.new }
 {
@@ -176,8 +176,8 @@ fn aim<'a>(
     c: SetTarget,
 ) -> Changed
     requires { (h.live ≤ most) × (h.made ≤ most) }
-    ensures { Leaves (on-target-packet (holdings_held h resources.now own.now records.now) c)
-        (target-after (Target c) (on-target-packet (holdings_held h resources.now own.now records.now) c).verdict h.target) resources.now result own.now records.now }
+    ensures { Leaves (on_target_packet (holdings_held h resources.now own.now records.now) c)
+        (target_after (Target c) (on_target_packet (holdings_held h resources.now own.now records.now) c).verdict h.target) resources.now result own.now records.now }
 {
     let table = chosen(resources, own, h.copied);
     let a = on_target(table, h.live, h.made, c);
@@ -194,7 +194,7 @@ fn cut<'a>(
     c: SetScissor,
 ) -> Changed
     requires { (h.live ≤ most) × (h.made ≤ most) }
-    ensures { Leaves (on-scissor-packet h.target
+    ensures { Leaves (on_scissor_packet h.target
         (holdings_held h resources.now own.now records.old) c) h.target
         resources.now result own.now records.new }
 {

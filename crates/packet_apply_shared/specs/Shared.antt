@@ -7,7 +7,7 @@ use mathlib.Core.List.{List, [], ◌∷◌}
 use Prim.Native.Nat.{ℕ, ◌≤◌, ◌<◌}
 use Rattle.machine.specs.Machine.{pick}
 use Rattle.rules.specs.Numbers.{most, most_tokens}
-use Rattle.rules.specs.Packets.{Holdings, Outcome, if-fine, passed, on-destroy-packet, on-export-packet, on-import-packet, on-release-packet, apply, target-after, tokens-after, pass}
+use Rattle.rules.specs.Packets.{Holdings, Outcome, if-fine, passed, on_destroy_packet, on_export_packet, on_import_packet, on_release_packet, apply, target_after, tokens_after, pass}
 use Rattle.rules.specs.Lists.{over, pushed}
 use Rattle.rules.specs.Names.{rebind}
 use Rattle.rules.specs.declared.Entry.{Entry}
@@ -57,8 +57,8 @@ passes : (p : Packet) (k : Held) (u : HeldTokens) (r h dt ot h' ot' : List ℕ) 
     → (o : Holdings → Outcome) (a : Applied) (copied : ℕ) (l : List ℕ) (t : ℕ) (y : HeldTokens) (x : Shared)
     → ((es : List Entry) (c : List ℕ) → pass es (held_of k r h c (tokens_held u dt ot)) p ≡ passed p (held_of k r h c (tokens_held u dt ot)) (o (holdings_held k r h c)))
     → x ≡ shared_of (changed_of a copied t) y → pick (own_in copied) h' r ≡ l → ((c : List ℕ) → Applies (o (held c)) a l c)
-    → ((c : List ℕ) → t ≡ target-after p (o (held c)).verdict k.target)
-    → ((c : List ℕ) → tokens_held y dt ot' ≡ tokens-after p (o (held c)).verdict (held c) (tokens_held u dt ot)) → y.used ≤ most_tokens
+    → ((c : List ℕ) → t ≡ target_after p (o (held c)).verdict k.target)
+    → ((c : List ℕ) → tokens_held y dt ot' ≡ tokens_after p (o (held c)).verdict (held c) (tokens_held u dt ot)) → y.used ≤ most_tokens
     → Shares k u r h dt ot p x h' ot'
 passes p k u r h dt ot h' ot' held same o a copied l t y x passed-as is there q aimed z room =
     rw is
@@ -66,7 +66,7 @@ passes p k u r h dt ot h' ot' held same o a copied l t y x passed-as is there q 
       why = λ es c. rw (passed-as es c, same c) (ap (λ (w : Outcome). number_of w.verdict) (q c).outcome);
       held = λ es c.
           rw (passed-as es c, same c, there, z c, aimed c)
-          (ap (λ (w : Outcome). record { holdings = w.held; target = target-after p (o (held c)).verdict k.target; tokens = tokens-after p (o (held c)).verdict (held c) (tokens_held u dt ot) }) (q c).outcome);
+          (ap (λ (w : Outcome). record { holdings = w.held; target = target_after p (o (held c)).verdict k.target; tokens = tokens_after p (o (held c)).verdict (held c) (tokens_held u dt ot) }) (q c).outcome);
       live = (q []).live;
       made = (q []).made;
       tokens = room;
@@ -81,12 +81,12 @@ pub destroys : (r h h₁ dt ot h' ot' : List ℕ) (k : Held) (u : HeldTokens) (b
     → after ≡ pick (eqb b.handle k.target) 0 k.target → t ≡ if-fine m.applied.verdict after k.target
     → w ≡ changed_of m.applied 1 t → x ≡ shared_of w y
     → Shares k u r h dt ot (Destroy b) x h' ot'
-unfolding pass apply target-after
+unfolding pass apply target_after
 destroys r h h₁ dt ot h' ot' k u b m y after t w x same d z i j came is =
-    let o : List ℕ → Outcome = λ c. on-destroy-packet (holdings_of k.live h₁ k.made c) b in
+    let o : List ℕ → Outcome = λ c. on_destroy_packet (holdings_of k.live h₁ k.made c) b in
     let v : (c : List ℕ) → m.applied.verdict ≡ (o c).verdict = λ c. ap (λ (n : Outcome). n.verdict) (d.applies c).outcome in
     let rows : (c : List ℕ) → holdings_held k r h c ≡ holdings_of k.live h₁ k.made c = λ c. rw same in
-    passes (Destroy b) k u r h dt ot h' ot' (λ c. holdings_of k.live h₁ k.made c) rows (λ n. on-destroy-packet n b) m.applied 1 h' t y x (λ es c. refl) (rw came at is) refl (λ c. d.applies c)
+    passes (Destroy b) k u r h dt ot h' ot' (λ c. holdings_of k.live h₁ k.made c) rows (λ n. on_destroy_packet n b) m.applied 1 h' t y x (λ es c. refl) (rw came at is) refl (λ c. d.applies c)
     (λ c. rw (← v c, ← i) j) (λ c. z.tokens ∙ rw (← v c) ((d.rebinds c).tokens (tokens_held u dt ot))) z.room
 
 pub ruleset destroying = (destroys, rules)
@@ -113,12 +113,12 @@ pub imports : (r h h₁ dt ot h' ot' : List ℕ) (k : Held) (u : HeldTokens) (b 
     → Retokened dt (rebind m.old m.new (tokens_held u dt ot)) y ot'
     → w ≡ changed_of m.applied 1 k.target → x ≡ shared_of w y
     → Shares k u r h dt ot (Import b) x h' ot'
-unfolding pass apply target-after
+unfolding pass apply target_after
 imports r h h₁ dt ot h' ot' k u b m y w x same d z came is =
-    let o : List ℕ → Outcome = λ c. on-import-packet (tokens_held u dt ot) (holdings_of k.live h₁ k.made c) b in
+    let o : List ℕ → Outcome = λ c. on_import_packet (tokens_held u dt ot) (holdings_of k.live h₁ k.made c) b in
     let v : (c : List ℕ) → m.applied.verdict ≡ (o c).verdict = λ c. ap (λ (n : Outcome). n.verdict) (d.applies c).outcome in
     let rows : (c : List ℕ) → holdings_held k r h c ≡ holdings_of k.live h₁ k.made c = λ c. rw same in
-    passes (Import b) k u r h dt ot h' ot' (λ c. holdings_of k.live h₁ k.made c) rows (λ n. on-import-packet (tokens_held u dt ot) n b) m.applied 1 h' k.target y x (λ es c. refl) (rw came at is) refl (λ c. d.applies c)
+    passes (Import b) k u r h dt ot h' ot' (λ c. holdings_of k.live h₁ k.made c) rows (λ n. on_import_packet (tokens_held u dt ot) n b) m.applied 1 h' k.target y x (λ es c. refl) (rw came at is) refl (λ c. d.applies c)
     (λ c. refl) (λ c. z.tokens ∙ rw (← v c) (d.rebinds c)) z.room
 
 pub ruleset importing = (imports, rules)
@@ -133,21 +133,21 @@ module _ (r h l dt ot ot' : List ℕ) (k : Held) (u : HeldTokens) (here : l ≡ 
       → Retokened dt (pick m.added (pushed (tokens_held u dt ot) (record { name = m.name; token = b.token })) (tokens_held u dt ot)) y ot'
       → w ≡ changed_of m.applied k.copied k.target
       → Shares k u r h dt ot (Export b) x h ot'
-  unfolding pass apply target-after
+  unfolding pass apply target_after
   exports b m d z came =
-      let o : List ℕ → Outcome = λ c. on-export-packet (tokens_held u dt ot) (holdings_of k.live l k.made c) b in
+      let o : List ℕ → Outcome = λ c. on_export_packet (tokens_held u dt ot) (holdings_of k.live l k.made c) b in
       let v : (c : List ℕ) → m.applied.verdict ≡ (o c).verdict = λ c. ap (λ (n : Outcome). n.verdict) (d.applies c).outcome in
-      passes (Export b) k u r h dt ot h ot' (λ c. holdings_of k.live l k.made c) rows-here (λ n. on-export-packet (tokens_held u dt ot) n b) m.applied k.copied l k.target y x (λ es c. refl) (rw came at is) (sym here) (λ c. d.applies c)
+      passes (Export b) k u r h dt ot h ot' (λ c. holdings_of k.live l k.made c) rows-here (λ n. on_export_packet (tokens_held u dt ot) n b) m.applied k.copied l k.target y x (λ es c. refl) (rw came at is) (sym here) (λ c. d.applies c)
       (λ c. refl) (λ c. z.tokens ∙ sym (rw (← v c) (d.tokens c))) z.room
 
   module _ (b : ReleaseToken) (m : Released) (d : Releases b k.live k.made u.used l (pick (own_in u.copied) ot dt) m) (came : w ≡ changed_of m.applied k.copied k.target) where
     released-as : (ts : List Token) → if-fine m.applied.verdict (over m.place (spent_at (pick (own_in u.copied) ot dt) m.place ∷ []) (tokens_held u dt ot)) (tokens_held u dt ot) ≡ ts
         → Retokened dt ts y ot' → Shares k u r h dt ot (Release b) x h ot'
-    unfolding pass apply target-after
+    unfolding pass apply target_after
     released-as ts e z =
-        let o : List ℕ → Outcome = λ c. on-release-packet (tokens_held u dt ot) (holdings_of k.live l k.made c) b in
+        let o : List ℕ → Outcome = λ c. on_release_packet (tokens_held u dt ot) (holdings_of k.live l k.made c) b in
         let v : (c : List ℕ) → m.applied.verdict ≡ (o c).verdict = λ c. ap (λ (n : Outcome). n.verdict) (d.applies c).outcome in
-        passes (Release b) k u r h dt ot h ot' (λ c. holdings_of k.live l k.made c) rows-here (λ n. on-release-packet (tokens_held u dt ot) n b) m.applied k.copied l k.target y x (λ es c. refl) (rw came at is) (sym here) (λ c. d.applies c)
+        passes (Release b) k u r h dt ot h ot' (λ c. holdings_of k.live l k.made c) rows-here (λ n. on_release_packet (tokens_held u dt ot) n b) m.applied k.copied l k.target y x (λ es c. refl) (rw came at is) (sym here) (λ c. d.applies c)
         (λ c. refl) (λ c. z.tokens ∙ sym (rw (← v c) (d.spends c ∙ e))) z.room
 
     pub releases : m.applied.verdict ≡ Fine
@@ -188,7 +188,7 @@ module _ (r h dt ot h' ot' : List ℕ) (k : Held) (u : HeldTokens) (p : SharedPa
 
 pub nothing-shared : (r h dt ot : List ℕ) (k : Held) (u : HeldTokens) (p : SharedPacket) (x : Shared) → ((k.live ≤ most) × (k.made ≤ most)) × (u.used ≤ most_tokens) → p ≡ Nothing
     → x ≡ shared_of (record { why = 0; held = k }) u → Shares k u r h dt ot (packet_of p) x h ot
-unfolding pass apply target-after tokens-after
+unfolding pass apply target_after tokens_after
 nothing-shared r h dt ot k u p x room q is =
     rw (q, is) (record { why = λ es c. refl; held = λ es c. refl; live = room.0.0; made = room.0.1; tokens = room.1 })
 

@@ -7,7 +7,7 @@ use Rattle.rules.specs.Numbers.{bad_handle, not_in_table, past_entry, read_only,
 use Rattle.rules.specs.Lists.{Found, index_of, lookup}
 use Rattle.rules.specs.Lists.Found.{none, found}
 use Rattle.rules.specs.Table.{matching}
-use Rattle.rules.specs.Packets.{Holdings, Outcome, accepted, refused, refuse, handle_of, on_buffer, on_kind, hand-out, write-back, on-copy-packet}
+use Rattle.rules.specs.Packets.{Holdings, Outcome, accepted, refused, refuse, handle_of, on_buffer, on_kind, hand_out, write_back, on_copy_packet}
 use Rattle.rules.specs.declared.Entry.{Entry}
 use Rattle.rules.specs.declared.Resource.{Resource}
 use Rattle.rules.specs.declared.Shape.{Shape}
@@ -20,7 +20,7 @@ use Rattle.kept_entries.specs.Views.{entries_of}
 use Rattle.kept_resources.specs.Views.{resource_of_row, resources_of, holdings_of}
 use Rattle.kept_resources.specs.Resources.{resource-found, resource-missing}
 use Rattle.packet_ranges.specs.Views.{Applies, RowsExist, refused_with}
-use Rattle.packet_ranges.specs.Handout.{HandsOut, accepted_with, judged, resolvedOf, entry-judged, refused-applies, refused-hands}
+use Rattle.packet_ranges.specs.Handout.{HandsOut, accepted_with, judged, resolved_of, entry-judged, refused-applies, refused-hands}
 use Rattle.packet_ranges.specs.declared.applied.Applied.{Applied}
 use Rattle.packet_ranges.specs.declared.handout.Resolved.{Resolved}
 use Rattle.packet_ranges.specs.declared.handout.Resolved.TheVariants.{Missing, Past, Inside}
@@ -34,25 +34,25 @@ kind_sought r Buffer = Live r
 kind_sought r (Texture s) = NoBuffer
 
 -- what a handle names, by the live resource that has it
-unfoldable pub bufferOf : Found Resource → Sought
-bufferOf none = NoBuffer
-bufferOf (found r) = kind_sought r r.kind
+unfoldable pub buffer_of : Found Resource → Sought
+buffer_of none = NoBuffer
+buffer_of (found r) = kind_sought r r.kind
 
 module _ (live i k : ℕ) (l : List ℕ) (place : i ≡ index_of handle_of k (resources_of live l)) where
-  pub seeks-nothing : live ≤ i → NoBuffer ≡ bufferOf (lookup handle_of k (resources_of live l))
-  unfolding bufferOf
+  pub seeks-nothing : live ≤ i → NoBuffer ≡ buffer_of (lookup handle_of k (resources_of live l))
+  unfolding buffer_of
   seeks-nothing p = rw (resource-missing live i k l place p)
 
   module _ (p : i < live) (r : Resource) (row : r ≡ resource_of_row (row_at 12 l i)) where
     here : lookup handle_of k (resources_of live l) ≡ found r
     here = resource-found live i k l place p ∙ ap found (sym row)
 
-    pub seeks-buffer : r.kind ≡ Buffer → Live r ≡ bufferOf (lookup handle_of k (resources_of live l))
-    unfolding bufferOf
+    pub seeks-buffer : r.kind ≡ Buffer → Live r ≡ buffer_of (lookup handle_of k (resources_of live l))
+    unfolding buffer_of
     seeks-buffer e = rw (here, e)
 
-    pub seeks-texture : (s : Shape) → r.kind ≡ Texture s → NoBuffer ≡ bufferOf (lookup handle_of k (resources_of live l))
-    unfolding bufferOf
+    pub seeks-texture : (s : Shape) → r.kind ≡ Texture s → NoBuffer ≡ buffer_of (lookup handle_of k (resources_of live l))
+    unfolding buffer_of
     seeks-texture s e = rw (here, e)
 
 pub ruleset seeking = (seeks-nothing, seeks-buffer, seeks-texture, rules)
@@ -65,8 +65,8 @@ kind-refused : (r : Resource) (k : Kind) (h : Holdings) (later : Outcome) → ki
 kind-refused r Buffer h later e = absurd (live-not-none r (sym e))
 kind-refused r (Texture s) h later e = refl
 
-no_buffer : (f : Found Resource) (h : Holdings) (later : Resource → Outcome) → bufferOf f ≡ NoBuffer → on_buffer f h later ≡ refused bad_handle h
-unfolding bufferOf
+no_buffer : (f : Found Resource) (h : Holdings) (later : Resource → Outcome) → buffer_of f ≡ NoBuffer → on_buffer f h later ≡ refused bad_handle h
+unfolding buffer_of
 no_buffer none h later e = refl
 no_buffer (found r) h later e = kind-refused r r.kind h (later r) e
 
@@ -74,8 +74,8 @@ kind-then : (r d : Resource) (k : Kind) (h : Holdings) (later : Resource → Out
 kind-then r d Buffer h later e = let same : r ≡ d = cc in rw same
 kind-then r d (Texture s) h later e = absurd (live-not-none d e)
 
-buffer-then : (f : Found Resource) (d : Resource) (h : Holdings) (later : Resource → Outcome) → bufferOf f ≡ Live d → on_buffer f h later ≡ later d
-unfolding bufferOf
+buffer-then : (f : Found Resource) (d : Resource) (h : Holdings) (later : Resource → Outcome) → buffer_of f ≡ Live d → on_buffer f h later ≡ later d
+unfolding buffer_of
 buffer-then none d h later e = absurd (live-not-none d e)
 buffer-then (found r) d h later e = kind-then r d r.kind h later e
 
@@ -83,19 +83,19 @@ buffer-then (found r) d h later e = kind-then r d r.kind h later e
 
 -- the rule, with what is held as its last argument
 unfoldable pub written_back : List Entry → CopyBuffer → Resource → Holdings → Outcome
-written_back es c d h = write-back es h c d
+written_back es c d h = write_back es h c d
 
 module _ (n : ℕ) (entries : List ℕ) (live made : ℕ) (records : List ℕ) (c : CopyBuffer) (d : Resource) (room : RowsExist n live made) where
   pub writes-hosted : (a : Applied) → d.backing ≡ 0 → a ≡ refused_with host_backed live made → HandsOut (written_back (entries_of n entries) c d) live made records a records
-  unfolding written_back write-back
+  unfolding written_back write_back
   writes-hosted a q e = refused-hands host_backed n live made records a room e _ (λ h. rw (eq-eqb _ _ q))
 
-  module _ (q : d.backing ≡ 0 → ⊥) (x : Resolved) (resolved : x ≡ resolvedOf writes d c.dstoffset c.size (matching d.backing (entries_of n entries))) where
+  module _ (q : d.backing ≡ 0 → ⊥) (x : Resolved) (resolved : x ≡ resolved_of writes d c.dstoffset c.size (matching d.backing (entries_of n entries))) where
     abbrev then : Holdings → ℕ → Record → Outcome
-    then h flags range = refuse read_only (eqb (flags % 2) 1) h (hand-out range h)
+    then h flags range = refuse read_only (eqb (flags % 2) 1) h (hand_out range h)
 
     judges : (h : Holdings) → written_back (entries_of n entries) c d h ≡ judged x h (then h)
-    unfolding written_back write-back
+    unfolding written_back write_back
     judges h =
         rw (ne_eqb _ _ q, resolved)
         (entry-judged writes d c.dstoffset c.size (matching d.backing (entries_of n entries)) h (then h))
@@ -110,7 +110,7 @@ module _ (n : ℕ) (entries : List ℕ) (live made : ℕ) (records : List ℕ) (
       pub writes-read-only : (a : Applied) → flags % 2 ≡ 1 → a ≡ refused_with read_only live made → HandsOut (written_back (entries_of n entries) c d) live made records a records
       writes-read-only a t e = refused-hands read_only n live made records a room e _ (λ h. judges h ∙ rw (told, eq-eqb _ _ t))
 
-      pub writes-range : (a : Applied) (after : List ℕ) → (flags % 2 ≡ 1 → ⊥) → HandsOut (hand-out range) live made records a after
+      pub writes-range : (a : Applied) (after : List ℕ) → (flags % 2 ≡ 1 → ⊥) → HandsOut (hand_out range) live made records a after
           → HandsOut (written_back (entries_of n entries) c d) live made records a after
       writes-range a after t hands =
           record { applies = λ resources. rw (judges (holdings_of live resources made records), told, ne_eqb _ _ t) (hands.applies resources) }
@@ -126,7 +126,7 @@ between es c d s h =
     refuse bad_copy (eqb c.dst c.src || ltb 1 c.flags) h
     (refuse past_resource (ltb d.bytes (c.dstoffset + c.size)) h
     (refuse past_resource (ltb s.bytes (c.srcoffset + c.size)) h
-    (pick (eqb c.flags 1) (write-back es h c d) (accepted h))))
+    (pick (eqb c.flags 1) (write_back es h c d) (accepted h))))
 
 module _ (n : ℕ) (entries : List ℕ) (live made : ℕ) (records : List ℕ) (c : CopyBuffer) (d s : Resource) (room : RowsExist n live made) where
   pub copies-onto-itself : (a : Applied) → c.dst ≡ c.src → a ≡ refused_with bad_copy live made → HandsOut (between (entries_of n entries) c d s) live made records a records
@@ -169,25 +169,25 @@ pub ruleset copying_between =
 
 abbrev Copies : ℕ → List ℕ → ℕ → List ℕ → ℕ → List ℕ → CopyBuffer → Applied → List ℕ → Type 0
 Copies n entries live resources made records c a after =
-    Applies (on-copy-packet (entries_of n entries) (holdings_of live resources made records) c) a resources after
+    Applies (on_copy_packet (entries_of n entries) (holdings_of live resources made records) c) a resources after
 
 module _ (n : ℕ) (entries : List ℕ) (live : ℕ) (resources : List ℕ) (made : ℕ) (records : List ℕ) (c : CopyBuffer) (room : RowsExist n live made)
-    (x : Sought) (dst : x ≡ bufferOf (lookup handle_of c.dst (resources_of live resources))) where
+    (x : Sought) (dst : x ≡ buffer_of (lookup handle_of c.dst (resources_of live resources))) where
   pub copies-no-dst : (a : Applied) → x ≡ NoBuffer → a ≡ refused_with bad_handle live made → Copies n entries live resources made records c a records
-  unfolding on-copy-packet
+  unfolding on_copy_packet
   copies-no-dst a told e =
       refused-applies bad_handle n live made records a room e _ resources (no_buffer _ _ _ (sym dst ∙ told))
 
-  module _ (d : Resource) (told : x ≡ Live d) (y : Sought) (src : y ≡ bufferOf (lookup handle_of c.src (resources_of live resources))) where
+  module _ (d : Resource) (told : x ≡ Live d) (y : Sought) (src : y ≡ buffer_of (lookup handle_of c.src (resources_of live resources))) where
     pub copies-no-src : (a : Applied) → y ≡ NoBuffer → a ≡ refused_with bad_handle live made → Copies n entries live resources made records c a records
-    unfolding on-copy-packet
+    unfolding on_copy_packet
     copies-no-src a gone e =
         refused-applies bad_handle n live made records a room e _ resources (buffer-then _ d _ _ (sym dst ∙ told) ∙ no_buffer _ _ _ (sym src ∙ gone))
 
     module _ (s : Resource) (some : y ≡ Live s) where
-      both-live : on-copy-packet (entries_of n entries) (holdings_of live resources made records) c
+      both-live : on_copy_packet (entries_of n entries) (holdings_of live resources made records) c
           ≡ between (entries_of n entries) c d s (holdings_of live resources made records)
-      unfolding on-copy-packet between
+      unfolding on_copy_packet between
       both-live = buffer-then _ d _ _ (sym dst ∙ told) ∙ buffer-then _ s _ _ (sym src ∙ some)
 
       pub copies-between : (a : Applied) (after : List ℕ) → HandsOut (between (entries_of n entries) c d s) live made records a after

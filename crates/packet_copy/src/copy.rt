@@ -2,12 +2,12 @@
 ghost use Rattle.std.specs.Prelude.{◌≡◌, ◌≤◌};
 ghost use Rattle.rules.specs.Numbers.{most};
 ghost use Rattle.rules.specs.Lists.{lookup};
-ghost use Rattle.rules.specs.Packets.{handle_of, on-copy-packet};
+ghost use Rattle.rules.specs.Packets.{handle_of, on_copy_packet};
 ghost use Rattle.kept_entries.specs.Views.{entries_of};
 ghost use Rattle.kept_resources.specs.Views.{resources_of, holdings_of};
 ghost use Rattle.packet_ranges.specs.Views.{Applies, RowsExist};
 ghost use Rattle.packet_ranges.specs.Handout.{HandsOut};
-ghost use Rattle.packet_copy.specs.Copy.{bufferOf, written_back, between};
+ghost use Rattle.packet_copy.specs.Copy.{buffer_of, written_back, between};
 
 use kept_entries::Entries;
 use kept_records::Records;
@@ -33,7 +33,7 @@ enum Sought {
 // Looks for the live buffer that has a handle.
 fn live_buffer(resources: &Resources, live: usize, handle: u32) -> Sought
     requires { live ≤ most }
-    ensures { result ≡ bufferOf (lookup handle_of handle (resources_of live resources.now)) }
+    ensures { result ≡ buffer_of (lookup handle_of handle (resources_of live resources.now)) }
 {
     let place = find_resource(resources, live, handle);
     if place >= live {
@@ -122,7 +122,7 @@ pub fn on_copy(
     c: CopyBuffer,
 ) -> Applied
     requires { RowsExist kept live made }
-    ensures { Applies (on-copy-packet (entries_of kept entries.now)
+    ensures { Applies (on_copy_packet (entries_of kept entries.now)
         (holdings_of live resources.now made records.old) c)
         result resources.now records.new }
 {

@@ -2,7 +2,7 @@
 // The handle is looked up by one scan, the entry by another; nothing is copied.
 ghost use Rattle.std.specs.Prelude.{◌≡◌};
 ghost use Rattle.machine.specs.Machine.{pick};
-ghost use Rattle.rules.specs.Packets.{backed, on-buffer-packet, on-texture-packet};
+ghost use Rattle.rules.specs.Packets.{backed, on_buffer_packet, on_texture_packet};
 ghost use Rattle.kept_entries.specs.Views.{entries_of};
 ghost use Rattle.kept_resources.specs.Views.{holdings_of};
 ghost use Rattle.packet_ranges.specs.Views.{Applies, RowsExist};
@@ -33,7 +33,7 @@ pub fn on_buffer(
     c: CreateBuffer,
 ) -> Applied
     requires { RowsExist kept live made }
-    ensures { Applies (on-buffer-packet (entries_of kept entries.now)
+    ensures { Applies (on_buffer_packet (entries_of kept entries.now)
         (holdings_of live own.old made records.old) c)
         result own.new records.new }
 {
@@ -86,7 +86,7 @@ pub fn on_texture(
     c: CreateTexture,
 ) -> Applied
     requires { RowsExist kept live made }
-    ensures { Applies (on-texture-packet (entries_of kept entries.now)
+    ensures { Applies (on_texture_packet (entries_of kept entries.now)
         (holdings_of live own.old made records.old) c)
         result own.new records.new }
 {

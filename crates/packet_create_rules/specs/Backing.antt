@@ -6,7 +6,7 @@ use Rattle.rules.specs.Numbers.{bad_handle, too_many, bad_shape, not_in_table, p
 use Rattle.rules.specs.Lists.{pushed, index_of}
 use Rattle.rules.specs.Lists.Found.{found}
 use Rattle.rules.specs.Table.{entry_id, matching}
-use Rattle.rules.specs.Packets.{Holdings, Outcome, accepted, refused, refuse, full, handle_of, range_of, recorded, stored, create-hosted, create-backed, create}
+use Rattle.rules.specs.Packets.{Holdings, Outcome, accepted, refused, refuse, full, handle_of, range_of, recorded, stored, create_hosted, create_backed, create}
 use Rattle.rules.specs.declared.Entry.{Entry}
 use Rattle.rules.specs.declared.Resource.{Resource}
 use Rattle.rules.specs.declared.Record.{Record}
@@ -29,14 +29,14 @@ stays live made code resources records o a p q e r =
 
 module _ (live made : ℕ) (resources : List ℕ) (r : Resource) (room : (live ≤ most) × (made ≤ most)) where
   pub hosted-full : (a : Applied) → most ≤ live → a ≡ refused_with too_many live made
-      → (l : List ℕ) → Applies (create-hosted (holdings_of live resources made l) r) a resources l
-  unfolding create-hosted
+      → (l : List ℕ) → Applies (create_hosted (holdings_of live resources made l) r) a resources l
+  unfolding create_hosted
   hosted-full a h e l =
       stays live made too_many resources l _ a room.0 room.1 e (rw (length-table resource_of_row 12 live resources, le-leb _ _ h))
 
   pub hosted-stored : (m : List ℕ) → live < most → resources_of (live + 1) m ≡ pushed (resources_of live resources) r
-      → (l : List ℕ) → Applies (create-hosted (holdings_of live resources made l) r) (record { verdict = Fine; live = live + 1; made = made }) m l
-  unfolding create-hosted
+      → (l : List ℕ) → Applies (create_hosted (holdings_of live resources made l) r) (record { verdict = Fine; live = live + 1; made = made }) m l
+  unfolding create_hosted
   hosted-stored m h e l =
       record { outcome = rw (length-table resource_of_row 12 live resources, lt-leb _ _ h, e); live = omega arith; made = room.1 }
 
@@ -45,30 +45,30 @@ pub ruleset hosting = (hosted-full, hosted-stored, rules)
 -- ---- store_backed
 
 -- what the rules ask of a backed resource that lies inside its entry, and what they then do
-unfoldable pub store-backed : Holdings → Resource → Record → Outcome
-store-backed h r c =
+unfoldable pub store_backed : Holdings → Resource → Record → Outcome
+store_backed h r c =
     refuse too_many (full h.resources) h
     (refuse too_many (full h.records) h
     (accepted (recorded c (stored r h))))
 
 module _ (live made : ℕ) (resources records : List ℕ) (r : Resource) (c : Record) (room : (live ≤ most) × (made ≤ most)) where
   pub no_room : (a : Applied) → most ≤ live → a ≡ refused_with too_many live made
-      → Applies (store-backed (holdings_of live resources made records) r c) a resources records
-  unfolding store-backed
+      → Applies (store_backed (holdings_of live resources made records) r c) a resources records
+  unfolding store_backed
   no_room a h told =
       stays live made too_many resources records _ a room.0 room.1 told (rw (length-table resource_of_row 12 live resources, le-leb _ _ h))
 
   module _ (h : live < most) where
     pub no-record-room : (a : Applied) → most ≤ made → a ≡ refused_with too_many live made
-        → Applies (store-backed (holdings_of live resources made records) r c) a resources records
-    unfolding store-backed
+        → Applies (store_backed (holdings_of live resources made records) r c) a resources records
+    unfolding store_backed
     no-record-room a p told =
         stays live made too_many resources records _ a room.0 room.1 told
         (rw (length-table resource_of_row 12 live resources, lt-leb _ _ h, length-table record_of 5 made records, le-leb _ _ p))
 
     pub both_stored : (resources' records' : List ℕ) → made < most → resources_of (live + 1) resources' ≡ pushed (resources_of live resources) r → records_of (made + 1) records' ≡ pushed (records_of made records) c
-        → Applies (store-backed (holdings_of live resources made records) r c) (record { verdict = Fine; live = live + 1; made = made + 1 }) resources' records'
-    unfolding store-backed
+        → Applies (store_backed (holdings_of live resources made records) r c) (record { verdict = Fine; live = live + 1; made = made + 1 }) resources' records'
+    unfolding store_backed
     both_stored resources' records' p s t =
         record {
           outcome = rw (length-table resource_of_row 12 live resources, lt-leb _ _ h, length-table record_of 5 made records, lt-leb _ _ p, s, t);
@@ -82,8 +82,8 @@ pub ruleset storing = (no_room, no-record-room, both_stored, rules)
 
 module _ (n live made : ℕ) (es resources records : List ℕ) (r : Resource) (room : RowsExist n live made) (i : ℕ) (place : i ≡ index_of entry_id r.backing (entries_of n es)) where
   pub backed-nowhere : (a : Applied) → n ≤ i → a ≡ refused_with not_in_table live made
-      → Applies (create-backed (entries_of n es) (holdings_of live resources made records) r) a resources records
-  unfolding create-backed
+      → Applies (create_backed (entries_of n es) (holdings_of live resources made records) r) a resources records
+  unfolding create_backed
   backed-nowhere a h told =
       stays live made not_in_table resources records _ a room.live room.made told (rw (entry-missing n i r.backing es place h))
 
@@ -92,15 +92,15 @@ module _ (n live made : ℕ) (es resources records : List ℕ) (r : Resource) (r
     matched = entry_found n i r.backing es place h ∙ ap found (sym read.entry)
 
     -- what the rules ask once the entry is found
-    in_entry : create-backed (entries_of n es) (holdings_of live resources made records) r
+    in_entry : create_backed (entries_of n es) (holdings_of live resources made records) r
         ≡ refuse past_entry (ltb e.size (r.offset + r.bytes)) (holdings_of live resources made records)
-        (store-backed (holdings_of live resources made records) r (range_of backs r e 0 r.bytes))
-    unfolding create-backed store-backed
+        (store_backed (holdings_of live resources made records) r (range_of backs r e 0 r.bytes))
+    unfolding create_backed store_backed
     in_entry = rw matched
 
     module _ (b : Bool) (is : b ≡ ltb e.size (r.offset + r.bytes)) where
       pub backed-past : (a : Applied) → b ≡ true → a ≡ refused_with past_entry live made
-          → Applies (create-backed (entries_of n es) (holdings_of live resources made records) r) a resources records
+          → Applies (create_backed (entries_of n es) (holdings_of live resources made records) r) a resources records
       backed-past a t told =
           stays live made past_entry resources records _ a room.live room.made told (rw (in_entry, ← is, t))
 
@@ -110,8 +110,8 @@ module _ (n live made : ℕ) (es resources records : List ℕ) (r : Resource) (r
         backed-fits = omega (arith, read.ends, ltb-false e.size (r.offset + r.bytes) (sym is ∙ t))
 
         pub backed-inside : (a : Applied) (resources' records' : List ℕ)
-            → Applies (store-backed (holdings_of live resources made records) r (record { kind = backs; handle = r.handle; id = r.backing; gpa = e.gpa + r.offset; length = r.bytes })) a resources' records'
-            → Applies (create-backed (entries_of n es) (holdings_of live resources made records) r) a resources' records'
+            → Applies (store_backed (holdings_of live resources made records) r (record { kind = backs; handle = r.handle; id = r.backing; gpa = e.gpa + r.offset; length = r.bytes })) a resources' records'
+            → Applies (create_backed (entries_of n es) (holdings_of live resources made records) r) a resources' records'
         backed-inside a resources' records' s = rw (in_entry, ← is, t, add-zero) s
 
 pub ruleset backing = (backed-nowhere, backed-past, backed-fits, backed-inside, rules)
@@ -142,12 +142,12 @@ module _ (n live made : ℕ) (es resources records : List ℕ) (good : Bool) (r 
           (rw (ne_eqb _ _ h, resource-missing live i r.handle resources place p, q))
 
       module _ (q : not good ≡ false) (a : Applied) (resources' : List ℕ) where
-        pub create-host : r.backing ≡ 0 → ((l : List ℕ) → Applies (create-hosted (holdings_of live resources made l) r) a resources' l)
+        pub create-host : r.backing ≡ 0 → ((l : List ℕ) → Applies (create_hosted (holdings_of live resources made l) r) a resources' l)
             → Applies (create (entries_of n es) (holdings_of live resources made records) good r) a resources' records
         unfolding create
         create-host s e = rw (ne_eqb _ _ h, resource-missing live i r.handle resources place p, q, eq-eqb _ _ s) (e records)
 
-        pub create-back : (records' : List ℕ) → (r.backing ≡ 0 → ⊥) → Applies (create-backed (entries_of n es) (holdings_of live resources made records) r) a resources' records'
+        pub create-back : (records' : List ℕ) → (r.backing ≡ 0 → ⊥) → Applies (create_backed (entries_of n es) (holdings_of live resources made records) r) a resources' records'
             → Applies (create (entries_of n es) (holdings_of live resources made records) good r) a resources' records'
         unfolding create
         create-back records' s e = rw (ne_eqb _ _ h, resource-missing live i r.handle resources place p, q, ne_eqb _ _ s) e

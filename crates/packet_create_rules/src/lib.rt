@@ -1,11 +1,11 @@
 // A resource is created: its handle, its backing and its range are judged in the order of the rules, then it is stored.
 ghost use Rattle.std.specs.Prelude.{List, ℕ, ◌≤◌};
 ghost use Rattle.rules.specs.Numbers.{most};
-ghost use Rattle.rules.specs.Packets.{backed, create-hosted, create-backed, create as create-rules};
+ghost use Rattle.rules.specs.Packets.{backed, create_hosted, create_backed, create as create-rules};
 ghost use Rattle.kept_entries.specs.Views.{entries_of};
 ghost use Rattle.kept_resources.specs.Views.{holdings_of};
 ghost use Rattle.packet_ranges.specs.Views.{Applies, RowsExist};
-ghost use Rattle.packet_create_rules.specs.Backing.{store-backed};
+ghost use Rattle.packet_create_rules.specs.Backing.{store_backed};
 
 use kept_entries::{Entries, entry_row, find_entry};
 use kept_records::{Records, push_record};
@@ -19,7 +19,7 @@ use widths::beyond;
 // A host-backed resource asks for a row only. It makes no record, so any records stay as they are.
 fn create_hosted(own: &mut Resources, live: usize, made: usize, r: Resource) -> Applied
     requires { (live ≤ most) × (made ≤ most) }
-    ensures { (l : List ℕ) → Applies (create-hosted (holdings_of live own.old made l) r) result own.new l }
+    ensures { (l : List ℕ) → Applies (create_hosted (holdings_of live own.old made l) r) result own.new l }
 {
     if live >= MOST_ROWS {
         return refuse(TOO_MANY, live, made);
@@ -42,7 +42,7 @@ fn store_backed(
     c: Record,
 ) -> Applied
     requires { (live ≤ most) × (made ≤ most) }
-    ensures { Applies (store-backed (holdings_of live own.old made records.old) r c) result own.new records.new }
+    ensures { Applies (store_backed (holdings_of live own.old made records.old) r c) result own.new records.new }
 {
     if live >= MOST_ROWS {
         return refuse(TOO_MANY, live, made);
@@ -70,7 +70,7 @@ fn create_backed(
     r: Resource,
 ) -> Applied
     requires { RowsExist kept live made }
-    ensures { Applies (create-backed (entries_of kept entries.now)
+    ensures { Applies (create_backed (entries_of kept entries.now)
         (holdings_of live own.old made records.old) r)
         result own.new records.new }
 {

@@ -8,7 +8,7 @@ use Rattle.rules.specs.Numbers.{bad_handle, most}
 use Rattle.rules.specs.Lists.{index_of, lookup, removed}
 use Rattle.rules.specs.Lists.Found.{found}
 use Rattle.rules.specs.Names.{shareable}
-use Rattle.rules.specs.Packets.{handle_of, on-destroy-packet, tokens-after}
+use Rattle.rules.specs.Packets.{handle_of, on_destroy_packet, tokens_after}
 use Rattle.rules.specs.declared.DestroyResource.{DestroyResource}
 use Rattle.rules.specs.declared.Packet.TheVariants.{Destroy}
 use Rattle.rules.specs.declared.Resource.{Resource}
@@ -24,12 +24,12 @@ use Rattle.packet_destroy.specs.declared.destroy.Destroyed.{Destroyed}
 
 -- the records and the tokens are not lent: the answer is the rules' outcome, and says how tokens follow, whatever they are
 pub record Destroys (c : DestroyResource) (live made : ℕ) (before : List ℕ) (x : Renamed) (after : List ℕ) : Type 0 where
-  pub applies : (records : List ℕ) → Applies (on-destroy-packet (holdings_of live before made records) c) x.applied after records
-  pub rebinds : (records : List ℕ) → Rebinds (λ ts. tokens-after (Destroy c) x.applied.verdict (holdings_of live before made records) ts) x
+  pub applies : (records : List ℕ) → Applies (on_destroy_packet (holdings_of live before made records) c) x.applied after records
+  pub rebinds : (records : List ℕ) → Rebinds (λ ts. tokens_after (Destroy c) x.applied.verdict (holdings_of live before made records) ts) x
 
 module _ (c : DestroyResource) (live made i : ℕ) (l : List ℕ) (room : (live ≤ most) × (made ≤ most)) (place : i ≡ index_of handle_of c.handle (resources_of live l)) where
   pub destroys-nothing : (x : Renamed) → live ≤ i → x ≡ renamed_nothing (refused_with bad_handle live made) → Destroys c live made l x l
-  unfolding on-destroy-packet tokens-after
+  unfolding on_destroy_packet tokens_after
   destroys-nothing x p e =
       rw e
       (record {
@@ -42,7 +42,7 @@ module _ (c : DestroyResource) (live made i : ℕ) (l : List ℕ) (room : (live 
     here = resource-found live i c.handle l place p ∙ ap found (sym row)
 
     pub destroys-one : not b ≡ true → Destroys c live made l (renamed_nothing (accepted_with (live - 1) made)) m
-    unfolding on-destroy-packet tokens-after
+    unfolding on_destroy_packet tokens_after
     destroys-one t =
         let unshared : shareable r.kind ≡ false = sym is ∙ not-true _ t in
         record {
@@ -52,7 +52,7 @@ module _ (c : DestroyResource) (live made i : ℕ) (l : List ℕ) (room : (live 
 
     pub destroys-name : not b ≡ false → (new : ℕ) (k : List ℕ) → RenamesLeft (live - 1) r.lowest m new k
         → Destroys c live made l (record { applied = accepted_with (live - 1) made; old = r.lowest; new = new }) k
-    unfolding on-destroy-packet tokens-after
+    unfolding on_destroy_packet tokens_after
     destroys-name t new k left =
         let shared : shareable r.kind ≡ true = sym is ∙ not-false _ t in
         record {

@@ -6,7 +6,7 @@ use Rattle.rules.specs.Numbers.{bad_handle, not_in_table, past_entry, past_resou
 use Rattle.rules.specs.Lists.{index_of, lookup}
 use Rattle.rules.specs.Lists.Found.{found}
 use Rattle.rules.specs.Table.{matching}
-use Rattle.rules.specs.Packets.{handle_of, hand-out, on-dirty-packet}
+use Rattle.rules.specs.Packets.{handle_of, hand_out, on_dirty_packet}
 use Rattle.rules.specs.declared.Resource.{Resource}
 use Rattle.rules.specs.declared.Record.{Record}
 use Rattle.rules.specs.declared.DirtyRange.{DirtyRange}
@@ -15,19 +15,19 @@ use Rattle.kept_entries.specs.Views.{entries_of}
 use Rattle.kept_resources.specs.Views.{resource_of_row, resources_of, holdings_of}
 use Rattle.kept_resources.specs.Resources.{resource-found, resource-missing}
 use Rattle.packet_ranges.specs.Views.{Applies, RowsExist, refused_with}
-use Rattle.packet_ranges.specs.Handout.{HandsOut, judged, resolvedOf, entry-judged, refused-applies}
+use Rattle.packet_ranges.specs.Handout.{HandsOut, judged, resolved_of, entry-judged, refused-applies}
 use Rattle.packet_ranges.specs.declared.applied.Applied.{Applied}
 use Rattle.packet_ranges.specs.declared.handout.Resolved.{Resolved}
 use Rattle.packet_ranges.specs.declared.handout.Resolved.TheVariants.{Missing, Past, Inside}
 
 abbrev Dirties : ℕ → List ℕ → ℕ → List ℕ → ℕ → List ℕ → DirtyRange → Applied → List ℕ → Type 0
 Dirties n entries live resources made records c a after =
-    Applies (on-dirty-packet (entries_of n entries) (holdings_of live resources made records) c) a resources after
+    Applies (on_dirty_packet (entries_of n entries) (holdings_of live resources made records) c) a resources after
 
 module _ (n : ℕ) (entries : List ℕ) (live : ℕ) (resources : List ℕ) (made : ℕ) (records : List ℕ) (c : DirtyRange) (room : RowsExist n live made)
     (i : ℕ) (place : i ≡ index_of handle_of c.handle (resources_of live resources)) where
   pub dirties-not-live : (a : Applied) → live ≤ i → a ≡ refused_with bad_handle live made → Dirties n entries live resources made records c a records
-  unfolding on-dirty-packet
+  unfolding on_dirty_packet
   dirties-not-live a p e =
       refused-applies bad_handle n live made records a room e _ resources (rw (resource-missing live i c.handle resources place p))
 
@@ -36,24 +36,24 @@ module _ (n : ℕ) (entries : List ℕ) (live : ℕ) (resources : List ℕ) (mad
     here = resource-found live i c.handle resources place p ∙ ap found (sym row)
 
     pub dirties-hosted : (a : Applied) → r.backing ≡ 0 → a ≡ refused_with host_backed live made → Dirties n entries live resources made records c a records
-    unfolding on-dirty-packet
+    unfolding on_dirty_packet
     dirties-hosted a q e =
         refused-applies host_backed n live made records a room e _ resources (rw (here, eq-eqb _ _ q))
 
     module _ (q : r.backing ≡ 0 → ⊥) (b : Bool) (is : b ≡ ltb r.bytes (c.offset + c.size)) where
       pub dirties-past : (a : Applied) → b ≡ true → a ≡ refused_with past_resource live made → Dirties n entries live resources made records c a records
-      unfolding on-dirty-packet
+      unfolding on_dirty_packet
       dirties-past a t e =
           refused-applies past_resource n live made records a room e _ resources (rw (here, ne_eqb _ _ q, ← is, t))
 
       module _ (t : b ≡ false) where
-        module _ (x : Resolved) (resolved : x ≡ resolvedOf reads r c.offset c.size (matching r.backing (entries_of n entries))) where
-          judges : on-dirty-packet (entries_of n entries) (holdings_of live resources made records) c
-              ≡ judged x (holdings_of live resources made records) (λ _ range. hand-out range (holdings_of live resources made records))
-          unfolding on-dirty-packet
+        module _ (x : Resolved) (resolved : x ≡ resolved_of reads r c.offset c.size (matching r.backing (entries_of n entries))) where
+          judges : on_dirty_packet (entries_of n entries) (holdings_of live resources made records) c
+              ≡ judged x (holdings_of live resources made records) (λ _ range. hand_out range (holdings_of live resources made records))
+          unfolding on_dirty_packet
           judges =
               rw (here, ne_eqb _ _ q, ← is, t, resolved)
-              (entry-judged reads r c.offset c.size (matching r.backing (entries_of n entries)) (holdings_of live resources made records) (λ _ range. hand-out range (holdings_of live resources made records)))
+              (entry-judged reads r c.offset c.size (matching r.backing (entries_of n entries)) (holdings_of live resources made records) (λ _ range. hand_out range (holdings_of live resources made records)))
 
           pub dirties-missing : (a : Applied) → x ≡ Missing → a ≡ refused_with not_in_table live made → Dirties n entries live resources made records c a records
           dirties-missing a told e =
@@ -63,7 +63,7 @@ module _ (n : ℕ) (entries : List ℕ) (live : ℕ) (resources : List ℕ) (mad
           dirties-past-entry a told e =
               refused-applies past_entry n live made records a room e _ resources (judges ∙ rw told)
 
-          pub dirties-inside : (flags : ℕ) (range : Record) (a : Applied) (after : List ℕ) → x ≡ Inside flags range → HandsOut (hand-out range) live made records a after
+          pub dirties-inside : (flags : ℕ) (range : Record) (a : Applied) (after : List ℕ) → x ≡ Inside flags range → HandsOut (hand_out range) live made records a after
               → Dirties n entries live resources made records c a after
           dirties-inside flags range a after told hands = rw (judges, told) (hands.applies resources)
 

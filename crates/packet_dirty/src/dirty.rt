@@ -1,5 +1,5 @@
 // The dirty packet: a range of a backed resource that the host is to read again.
-ghost use Rattle.rules.specs.Packets.{on-dirty-packet};
+ghost use Rattle.rules.specs.Packets.{on_dirty_packet};
 ghost use Rattle.kept_entries.specs.Views.{entries_of};
 ghost use Rattle.kept_resources.specs.Views.{holdings_of};
 ghost use Rattle.packet_ranges.specs.Views.{Applies, RowsExist};
@@ -24,7 +24,7 @@ pub fn on_dirty(
     c: DirtyRange,
 ) -> Applied
     requires { RowsExist kept live made }
-    ensures { Applies (on-dirty-packet (entries_of kept entries.now)
+    ensures { Applies (on_dirty_packet (entries_of kept entries.now)
         (holdings_of live resources.now made records.old) c)
         result resources.now records.new }
 {

@@ -9,7 +9,7 @@ use Rattle.rules.specs.Numbers.{bad_handle, bad_shape, bad_token, too_many, most
 use Rattle.rules.specs.Lists.{index_of, lookup, pushed}
 use Rattle.rules.specs.Lists.Found.{none, found}
 use Rattle.rules.specs.Names.{token_of, shareable, of_another, is_new, with_token}
-use Rattle.rules.specs.Packets.{Holdings, Outcome, handle_of, accepted, refuse, if-fine, on-export-packet, tokens-after}
+use Rattle.rules.specs.Packets.{Holdings, Outcome, handle_of, accepted, refuse, if-fine, on_export_packet, tokens_after}
 use Rattle.rules.specs.declared.ExportSurface.{ExportSurface}
 use Rattle.rules.specs.declared.Packet.TheVariants.{Export}
 use Rattle.rules.specs.declared.Resource.{Resource}
@@ -103,9 +103,9 @@ pub ruleset bindings = (binds-nothing, binds-another, binds-again, binds-too-man
 
 -- the answer is the rules' outcome; a new token is one more, under the name that the answer has, and there is room for it
 pub record Exports (c : ExportSurface) (live made used : ℕ) (l t : List ℕ) (x : Exported) : Type 0 where
-  pub applies : (records : List ℕ) → Applies (on-export-packet (tokens_of used t) (holdings_of live l made records) c) x.applied l records
+  pub applies : (records : List ℕ) → Applies (on_export_packet (tokens_of used t) (holdings_of live l made records) c) x.applied l records
   pub tokens : (records : List ℕ)
-      → tokens-after (Export c) x.applied.verdict (holdings_of live l made records) (tokens_of used t)
+      → tokens_after (Export c) x.applied.verdict (holdings_of live l made records) (tokens_of used t)
       ≡ pick x.added (pushed (tokens_of used t) (record { name = x.name; token = c.token })) (tokens_of used t)
   pub room : x.added ≡ true → used < most_tokens
 
@@ -115,7 +115,7 @@ exported-room c live made used l t x e p = e.room p
 
 module _ (c : ExportSurface) (live made used i : ℕ) (l t : List ℕ) (room : ((live ≤ most) × (made ≤ most)) × (used ≤ most_tokens)) (place : i ≡ index_of handle_of c.handle (resources_of live l)) where
   pub exports-nothing : (x : Exported) → live ≤ i → x ≡ exported_nothing bad_handle live made → Exports c live made used l t x
-  unfolding on-export-packet tokens-after
+  unfolding on_export_packet tokens_after
   exports-nothing x p e =
       rw e
       (record {
@@ -129,7 +129,7 @@ module _ (c : ExportSurface) (live made used i : ℕ) (l t : List ℕ) (room : (
     here = resource-found live i c.handle l place p ∙ ap found (sym row)
 
     pub exports-no-texture : not b ≡ true → (x : Exported) → x ≡ exported_nothing bad_shape live made → Exports c live made used l t x
-    unfolding on-export-packet tokens-after
+    unfolding on_export_packet tokens_after
     exports-no-texture s x e =
         let unshared : shareable r.kind ≡ false = sym is ∙ not-true _ s in
         rw e
@@ -140,7 +140,7 @@ module _ (c : ExportSurface) (live made used i : ℕ) (l t : List ℕ) (room : (
         })
 
     pub exports-one : not b ≡ false → (x : Exported) → Binds r.lowest c.token live made used t x → Exports c live made used l t x
-    unfolding on-export-packet tokens-after
+    unfolding on_export_packet tokens_after
     exports-one s x b' =
         let shared : shareable r.kind ≡ true = sym is ∙ not-false _ s in
         record {

@@ -9,7 +9,7 @@ use Rattle.rules.specs.Numbers.{too_many, not_in_table, past_entry, most}
 use Rattle.rules.specs.Lists.{Found, index_of, pushed}
 use Rattle.rules.specs.Lists.Found.{none, found}
 use Rattle.rules.specs.Table.{entry_id, matching}
-use Rattle.rules.specs.Packets.{Holdings, Outcome, refused, refuse, on_entry, range_of, hand-out}
+use Rattle.rules.specs.Packets.{Holdings, Outcome, refused, refuse, on_entry, range_of, hand_out}
 use Rattle.rules.specs.declared.Entry.{Entry}
 use Rattle.rules.specs.declared.Resource.{Resource}
 use Rattle.rules.specs.declared.Record.{Record}
@@ -38,9 +38,9 @@ pub ruleset moving_range = (moved-long, moved-short, rules)
 -- ---- resolve
 
 -- what a range comes to, by the entry that has its backing id
-unfoldable pub resolvedOf : ℕ → Resource → ℕ → ℕ → Found Entry → Resolved
-resolvedOf kind r from size none = Missing
-resolvedOf kind r from size (found e) = pick (ltb e.size (r.offset + (from + size))) Past (Inside e.flags (range_of kind r e from size))
+unfoldable pub resolved_of : ℕ → Resource → ℕ → ℕ → Found Entry → Resolved
+resolved_of kind r from size none = Missing
+resolved_of kind r from size (found e) = pick (ltb e.size (r.offset + (from + size))) Past (Inside e.flags (range_of kind r e from size))
 
 -- "21 ..; 22 ..", and then what follows for an entry's flags and a range inside it
 abbrev pub judged : Resolved → Holdings → (ℕ → Record → Outcome) → Outcome
@@ -56,27 +56,27 @@ module _ (kind : ℕ) (r : Resource) (from size : ℕ) where
 
   pub entry-judged : (f : Found Entry) (h : Holdings) (later : ℕ → Record → Outcome)
       → on_entry f h (λ e. refuse past_entry (ltb e.size (r.offset + (from + size))) h (later e.flags (range_of kind r e from size)))
-      ≡ judged (resolvedOf kind r from size f) h later
-  unfolding resolvedOf
+      ≡ judged (resolved_of kind r from size f) h later
+  unfolding resolved_of
   entry-judged none h later = refl
   entry-judged (found e) h later =
       within-judged (ltb e.size (r.offset + (from + size))) e.flags (range_of kind r e from size) h later
 
   module _ (n i : ℕ) (l : List ℕ) (place : i ≡ index_of entry_id r.backing (entries_of n l)) where
-    pub resolves-missing : n ≤ i → Missing ≡ resolvedOf kind r from size (matching r.backing (entries_of n l))
-    unfolding resolvedOf
+    pub resolves-missing : n ≤ i → Missing ≡ resolved_of kind r from size (matching r.backing (entries_of n l))
+    unfolding resolved_of
     resolves-missing p = rw (entry-missing n i r.backing l place p)
 
     module _ (p : i < n) (e : Entry) (row : RowRead (row_at 4 l i) e) (b : Bool) (is : b ≡ ltb e.size (r.offset + (from + size))) where
       found_here : matching r.backing (entries_of n l) ≡ found e
       found_here = entry_found n i r.backing l place p ∙ ap found (sym row.entry)
 
-      pub resolves-past : b ≡ true → Past ≡ resolvedOf kind r from size (matching r.backing (entries_of n l))
-      unfolding resolvedOf
+      pub resolves-past : b ≡ true → Past ≡ resolved_of kind r from size (matching r.backing (entries_of n l))
+      unfolding resolved_of
       resolves-past t = rw (found_here, ← is, t)
 
-      pub resolves-inside : b ≡ false → Inside e.flags (range_of kind r e from size) ≡ resolvedOf kind r from size (matching r.backing (entries_of n l))
-      unfolding resolvedOf
+      pub resolves-inside : b ≡ false → Inside e.flags (range_of kind r e from size) ≡ resolved_of kind r from size (matching r.backing (entries_of n l))
+      unfolding resolved_of
       resolves-inside t = rw (found_here, ← is, t)
 
       -- a range inside its entry begins at a number of eight bytes
@@ -106,19 +106,19 @@ module _ (code n live made : ℕ) (records : List ℕ) (a : Applied) (room : Row
   refused-hands o f = record { applies = λ resources. refused-applies _ resources (f (holdings_of live resources made records)) }
 
 module _ (c : Record) (live made : ℕ) (l : List ℕ) (room : (live ≤ most) × (made ≤ most)) where
-  pub hands-nothing : c.length ≡ 0 → HandsOut (hand-out c) live made l (accepted_with live made) l
-  unfolding hand-out
+  pub hands-nothing : c.length ≡ 0 → HandsOut (hand_out c) live made l (accepted_with live made) l
+  unfolding hand_out
   hands-nothing p = record { applies = λ resources. record { outcome = rw (eq-eqb _ _ p); live = room.0; made = room.1 } }
 
   module _ (p : c.length ≡ 0 → ⊥) where
-    pub hands-too-many : (a : Applied) → most ≤ made → a ≡ refused_with too_many live made → HandsOut (hand-out c) live made l a l
-    unfolding hand-out
+    pub hands-too-many : (a : Applied) → most ≤ made → a ≡ refused_with too_many live made → HandsOut (hand_out c) live made l a l
+    unfolding hand_out
     hands-too-many a q e =
         rw e
         (record { applies = λ resources. record { outcome = rw (ne_eqb _ _ p, length-table record_of 5 made l, le-leb _ _ q); live = room.0; made = room.1 } })
 
-    pub hands-record : (m : List ℕ) → made < most → records_of (made + 1) m ≡ pushed (records_of made l) c → HandsOut (hand-out c) live made l (accepted_with live (made + 1)) m
-    unfolding hand-out
+    pub hands-record : (m : List ℕ) → made < most → records_of (made + 1) m ≡ pushed (records_of made l) c → HandsOut (hand_out c) live made l (accepted_with live (made + 1)) m
+    unfolding hand_out
     hands-record m q e =
         record { applies = λ resources. record { outcome = rw (ne_eqb _ _ p, length-table record_of 5 made l, lt-leb _ _ q, e); live = room.0; made = omega arith } }
 

@@ -3,9 +3,9 @@
 ghost use Rattle.std.specs.Prelude.{◌≡◌, ◌+◌, ◌≤◌, ltb};
 ghost use Rattle.rules.specs.Numbers.{most};
 ghost use Rattle.rules.specs.Table.{matching};
-ghost use Rattle.rules.specs.Packets.{hand-out};
+ghost use Rattle.rules.specs.Packets.{hand_out};
 ghost use Rattle.kept_entries.specs.Views.{entries_of};
-ghost use Rattle.packet_ranges.specs.Handout.{HandsOut, resolvedOf};
+ghost use Rattle.packet_ranges.specs.Handout.{HandsOut, resolved_of};
 
 use crate::applied::{Applied, refuse};
 use kept_entries::{Entries, entry_row, find_entry};
@@ -45,7 +45,7 @@ pub fn resolve(
     size: u64,
 ) -> Resolved
     requires { kept ≤ most }
-    ensures { result ≡ resolvedOf kind r from size (matching r.backing (entries_of kept entries.now)) }
+    ensures { result ≡ resolved_of kind r from size (matching r.backing (entries_of kept entries.now)) }
 {
     let i = find_entry(entries, kept, r.backing);
     if i >= kept {
@@ -69,7 +69,7 @@ pub fn resolve(
 // Hands a range to the host, if it has bytes: one record more, for which there must be room.
 pub fn hand_out(records: &mut Records, made: usize, live: usize, c: Record) -> Applied
     requires { (live ≤ most) × (made ≤ most) }
-    ensures { HandsOut (hand-out c) live made records.old result records.new }
+    ensures { HandsOut (hand_out c) live made records.old result records.new }
 {
     if c.length == 0 {
         return Applied {

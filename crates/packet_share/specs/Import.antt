@@ -7,7 +7,7 @@ use Rattle.rules.specs.Numbers.{bad_handle, unbound_token, too_many, most, most_
 use Rattle.rules.specs.Lists.{index_of, lookup, pushed}
 use Rattle.rules.specs.Lists.Found.{found}
 use Rattle.rules.specs.Names.{token_of, lower, under, rename, rebind, names_with}
-use Rattle.rules.specs.Packets.{handle_of, is_live, refused, bound, on-import-packet, tokens-after}
+use Rattle.rules.specs.Packets.{handle_of, is_live, refused, bound, on_import_packet, tokens_after}
 use Rattle.rules.specs.declared.ImportSurface.{ImportSurface}
 use Rattle.rules.specs.declared.Packet.TheVariants.{Import}
 use Rattle.rules.specs.declared.Resource.{Resource}
@@ -76,14 +76,14 @@ pub ruleset adding = (adds-higher, adds-lower, rules)
 
 -- the answer is the rules' outcome, and its two names say how the tokens follow
 pub record Imports (c : ImportSurface) (live made used : ℕ) (before t : List ℕ) (x : Renamed) (after : List ℕ) : Type 0 where
-  pub applies : (records : List ℕ) → Applies (on-import-packet (tokens_of used t) (holdings_of live before made records) c) x.applied after records
+  pub applies : (records : List ℕ) → Applies (on_import_packet (tokens_of used t) (holdings_of live before made records) c) x.applied after records
   pub rebinds : (records : List ℕ)
-      → rebind x.old x.new (tokens_of used t) ≡ tokens-after (Import c) x.applied.verdict (holdings_of live before made records) (tokens_of used t)
+      → rebind x.old x.new (tokens_of used t) ≡ tokens_after (Import c) x.applied.verdict (holdings_of live before made records) (tokens_of used t)
 
 module _ (c : ImportSurface) (live made used : ℕ) (l t : List ℕ) (room : ((live ≤ most) × (made ≤ most)) × (used ≤ most_tokens)) where
   refusal-imports : (code : ℕ) (x : Renamed) → x ≡ renamed_nothing (refused_with code live made)
-      → ((records : List ℕ) → on-import-packet (tokens_of used t) (holdings_of live l made records) c ≡ refused code (holdings_of live l made records)) → Imports c live made used l t x l
-  unfolding tokens-after
+      → ((records : List ℕ) → on_import_packet (tokens_of used t) (holdings_of live l made records) c ≡ refused code (holdings_of live l made records)) → Imports c live made used l t x l
+  unfolding tokens_after
   refusal-imports code x e f =
       rw e
       (record {
@@ -93,22 +93,22 @@ module _ (c : ImportSurface) (live made used : ℕ) (l t : List ℕ) (room : ((l
 
   module _ (b : Bool) (is : b ≡ taken_in c.handle (resources_of live l)) where
     pub imports-taken : (x : Renamed) → b ≡ true → x ≡ renamed_nothing (refused_with bad_handle live made) → Imports c live made used l t x l
-    unfolding on-import-packet
+    unfolding on_import_packet
     imports-taken x q e = refusal-imports bad_handle x e (λ records. rw (← is, q))
 
     module _ (q : b ≡ false) (i r : ℕ) (place : i ≡ index_of token_of c.token (tokens_of used t)) (at : BoundAt live l used t i r) where
       pub imports-unbound : (x : Renamed) → live ≤ r → x ≡ renamed_nothing (refused_with unbound_token live made) → Imports c live made used l t x l
-      unfolding on-import-packet
+      unfolding on_import_packet
       imports-unbound x h e = refusal-imports unbound_token x e (λ records. rw (← is, q, at.missing c.token place h))
 
       module _ (h : r < live) where
         pub imports-too-many : (x : Renamed) → most ≤ live → x ≡ renamed_nothing (refused_with too_many live made) → Imports c live made used l t x l
-        unfolding on-import-packet
+        unfolding on_import_packet
         imports-too-many x s e =
             refusal-imports too_many x e (λ records. rw (← is, q, at.here c.token place h, length-table resource_of_row 12 live l, le-leb _ _ s))
 
         pub imports-one : live < most → (o : Resource) → o ≡ resource_of_row (row_at 12 l r) → (x : Renamed) (m : List ℕ) → AddsName live made c.handle o l x m → Imports c live made used l t x m
-        unfolding on-import-packet tokens-after
+        unfolding on_import_packet tokens_after
         imports-one s o row x m named =
             let of : bound c.token (tokens_of used t) (resources_of live l) ≡ found o = at.here c.token place h ∙ ap found (sym row) in
             record {

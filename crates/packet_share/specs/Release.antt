@@ -4,7 +4,7 @@ use Rattle.std.proofs.Common.{ap, arith, rules}
 use Rattle.rules.specs.Numbers.{unbound_token, most, most_tokens}
 use Rattle.rules.specs.Lists.{index_of, over}
 use Rattle.rules.specs.Names.{token_of}
-use Rattle.rules.specs.Packets.{if-fine, on-release-packet, tokens-after}
+use Rattle.rules.specs.Packets.{if-fine, on_release_packet, tokens_after}
 use Rattle.rules.specs.declared.Packet.TheVariants.{Release}
 use Rattle.rules.specs.declared.ReleaseToken.{ReleaseToken}
 use Rattle.rules.specs.declared.Verdict.{Verdict}
@@ -20,10 +20,10 @@ use Rattle.packet_share.specs.declared.release.Released.{Released}
 
 -- the answer is the rules' outcome; where the packet is accepted, the token at the place is the one that is spent
 pub record Releases (c : ReleaseToken) (live made used : ℕ) (l t : List ℕ) (x : Released) : Type 0 where
-  pub applies : (records : List ℕ) → Applies (on-release-packet (tokens_of used t) (holdings_of live l made records) c) x.applied l records
+  pub applies : (records : List ℕ) → Applies (on_release_packet (tokens_of used t) (holdings_of live l made records) c) x.applied l records
   pub place : x.applied.verdict ≡ Fine → x.place < used
   pub spends : (records : List ℕ)
-      → tokens-after (Release c) x.applied.verdict (holdings_of live l made records) (tokens_of used t)
+      → tokens_after (Release c) x.applied.verdict (holdings_of live l made records) (tokens_of used t)
       ≡ if-fine x.applied.verdict (over x.place (spent_at t x.place ∷ []) (tokens_of used t)) (tokens_of used t)
 
 -- the place that an accepted packet names is one of the tokens
@@ -35,7 +35,7 @@ broken-not-fine x y e f = let z : ◌≡◌ {A = ℕ} 0 1 = cc in omega arith
 
 module _ (c : ReleaseToken) (live made used i r : ℕ) (l t : List ℕ) (room : ((live ≤ most) × (made ≤ most)) × (used ≤ most_tokens)) (place : i ≡ index_of token_of c.token (tokens_of used t)) (at : BoundAt live l used t i r) where
   pub releases-nothing : (a : Applied) → live ≤ r → a ≡ refused_with unbound_token live made → Releases c live made used l t (record { applied = a; place = 0 })
-  unfolding on-release-packet tokens-after
+  unfolding on_release_packet tokens_after
   releases-nothing a p e =
       record {
         applies = λ records. rw e (record { outcome = rw (at.missing c.token place p); live = room.0.0; made = room.0.1 });
@@ -44,7 +44,7 @@ module _ (c : ReleaseToken) (live made used i r : ℕ) (l t : List ℕ) (room : 
       }
 
   pub releases-one : r < live → Releases c live made used l t (record { applied = accepted_with live made; place = i })
-  unfolding on-release-packet tokens-after
+  unfolding on_release_packet tokens_after
   releases-one p =
       record {
         applies = λ records. record { outcome = rw (at.here c.token place p); live = room.0.0; made = room.0.1 };

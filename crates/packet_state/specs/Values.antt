@@ -4,8 +4,8 @@ use Rattle.std.proofs.Common.{sym, ap, ◌∙◌, arith, rules}
 use borrow.Author.Tests.{ltb-true, ltb-false, leb-true, leb-false, lt-ltb, le-ltb, le-leb, lt-leb}
 use Rattle.rules.specs.Numbers.{bad_state, most, most_flags}
 use Rattle.rules.specs.Floats.{bits_of, not_finite, sign_bit, infinity, key, below, float_zero, float_one, outside}
-use Rattle.rules.specs.StatePackets.{bad-bounds, bad-viewport, bad-values, bad-clear}
-use Rattle.rules.specs.Packets.{on-viewport-packet, on-clear-packet}
+use Rattle.rules.specs.StatePackets.{bad_bounds, bad_viewport, bad_values, bad_clear}
+use Rattle.rules.specs.Packets.{on_viewport_packet, on_clear_packet}
 use Rattle.rules.specs.declared.SetViewport.{SetViewport}
 use Rattle.rules.specs.declared.ClearValues.{ClearValues}
 use Rattle.floats.specs.Bits.{key-up, key-down}
@@ -113,13 +113,13 @@ module _ (x y width height near far : ℕ) where
       || ((side_tests width || side_tests height)
       || ((not_finite near || not_finite far) || (below far near || (outside near || outside far))))
 
-  pub bounds-told : (r : Bool) → r ≡ bounds_tests → r ≡ bad-bounds x y width height near far
-  unfolding bad-bounds
+  pub bounds-told : (r : Bool) → r ≡ bounds_tests → r ≡ bad_bounds x y width height near far
+  unfolding bad_bounds
   bounds-told r e = e ∙ rw sides_apart (simp or_assoc)
 
   pub viewport-told : (v : SetViewport) (r : Bool) → x ≡ bits_of v.x → y ≡ bits_of v.y → width ≡ bits_of v.width → height ≡ bits_of v.height
-      → near ≡ bits_of v.near → far ≡ bits_of v.far → r ≡ bad-bounds x y width height near far → r ≡ bad-viewport v
-  unfolding bad-viewport
+      → near ≡ bits_of v.near → far ≡ bits_of v.far → r ≡ bad_bounds x y width height near far → r ≡ bad_viewport v
+  unfolding bad_viewport
   viewport-told v r a b c d f g e = rw (← a, ← b, ← c, ← d, ← f, ← g) e
 
 -- ---- bad_values, bad_clear
@@ -130,13 +130,13 @@ module _ (flags red green blue alpha depth : ℕ) where
       (not_finite red || not_finite green)
       || ((not_finite blue || not_finite alpha) || ((not_finite depth || outside depth) || ltb most_flags flags))
 
-  pub values-told : (r : Bool) → r ≡ values_tests → r ≡ bad-values flags red green blue alpha depth
-  unfolding bad-values
+  pub values-told : (r : Bool) → r ≡ values_tests → r ≡ bad_values flags red green blue alpha depth
+  unfolding bad_values
   values-told r e = e ∙ simp or_assoc
 
   pub clear_told : (c : ClearValues) (r : Bool) → flags ≡ c.flags → red ≡ bits_of c.red → green ≡ bits_of c.green → blue ≡ bits_of c.blue
-      → alpha ≡ bits_of c.alpha → depth ≡ bits_of c.depth → r ≡ bad-values flags red green blue alpha depth → r ≡ bad-clear c
-  unfolding bad-clear
+      → alpha ≡ bits_of c.alpha → depth ≡ bits_of c.depth → r ≡ bad_values flags red green blue alpha depth → r ≡ bad_clear c
+  unfolding bad_clear
   clear_told c r a b d f g h e = rw (← a, ← b, ← d, ← f, ← g, ← h) e
 
 pub ruleset judging = (bounds-told, values-told, deciding)
@@ -147,29 +147,29 @@ pub ruleset reading_floats = (viewport-told, clear_told, rules)
 
 -- neither resources nor records are lent: the answer is the rules' outcome, whatever they are
 pub record Views (v : SetViewport) (live made : ℕ) (a : Applied) : Type 0 where
-  pub applies : (resources records : List ℕ) → Applies (on-viewport-packet (holdings_of live resources made records) v) a resources records
+  pub applies : (resources records : List ℕ) → Applies (on_viewport_packet (holdings_of live resources made records) v) a resources records
 
 pub record Clears (c : ClearValues) (live made : ℕ) (a : Applied) : Type 0 where
-  pub applies : (resources records : List ℕ) → Applies (on-clear-packet (holdings_of live resources made records) c) a resources records
+  pub applies : (resources records : List ℕ) → Applies (on_clear_packet (holdings_of live resources made records) c) a resources records
 
 module _ (live made : ℕ) (room : (live ≤ most) × (made ≤ most)) (a : Applied) (b : Bool) where
-  pub views-badly : (v : SetViewport) → b ≡ bad-viewport v → b ≡ true → a ≡ refused_with bad_state live made → Views v live made a
-  unfolding on-viewport-packet
+  pub views-badly : (v : SetViewport) → b ≡ bad_viewport v → b ≡ true → a ≡ refused_with bad_state live made → Views v live made a
+  unfolding on_viewport_packet
   views-badly v is t e =
       rw e (record { applies = λ resources records. record { outcome = rw (← is, t); live = room.0; made = room.1 } })
 
-  pub clears-badly : (c : ClearValues) → b ≡ bad-clear c → b ≡ true → a ≡ refused_with bad_state live made → Clears c live made a
-  unfolding on-clear-packet
+  pub clears-badly : (c : ClearValues) → b ≡ bad_clear c → b ≡ true → a ≡ refused_with bad_state live made → Clears c live made a
+  unfolding on_clear_packet
   clears-badly c is t e =
       rw e (record { applies = λ resources records. record { outcome = rw (← is, t); live = room.0; made = room.1 } })
 
 module _ (live made : ℕ) (room : (live ≤ most) × (made ≤ most)) (b : Bool) where
-  pub views-well : (v : SetViewport) → b ≡ bad-viewport v → b ≡ false → Views v live made (accepted_with live made)
-  unfolding on-viewport-packet
+  pub views-well : (v : SetViewport) → b ≡ bad_viewport v → b ≡ false → Views v live made (accepted_with live made)
+  unfolding on_viewport_packet
   views-well v is t = record { applies = λ resources records. record { outcome = rw (← is, t); live = room.0; made = room.1 } }
 
-  pub clears-well : (c : ClearValues) → b ≡ bad-clear c → b ≡ false → Clears c live made (accepted_with live made)
-  unfolding on-clear-packet
+  pub clears-well : (c : ClearValues) → b ≡ bad_clear c → b ≡ false → Clears c live made (accepted_with live made)
+  unfolding on_clear_packet
   clears-well c is t = record { applies = λ resources records. record { outcome = rw (← is, t); live = room.0; made = room.1 } }
 
 pub ruleset applying_values = (views-badly, views-well, clears-badly, clears-well, rules)

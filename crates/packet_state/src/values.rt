@@ -3,7 +3,7 @@
 ghost use Rattle.std.specs.Prelude.{◌≡◌, not, ◌||◌, ◌≤◌};
 ghost use Rattle.rules.specs.Numbers.{most};
 ghost use Rattle.rules.specs.Floats.{not_finite, outside as is-outside, below as is_below, float_zero};
-ghost use Rattle.rules.specs.StatePackets.{bad-bounds, bad-viewport, bad-values, bad-clear};
+ghost use Rattle.rules.specs.StatePackets.{bad_bounds, bad_viewport, bad_values, bad_clear};
 ghost use Rattle.packet_state.specs.Values.{Views, Clears};
 
 use floats::{below, bits_of, not_finite, outside};
@@ -88,7 +88,7 @@ fn bad_depth(depth: u32) -> bool
 
 // Whether the bits of a viewport's floats are bad.
 fn bad_bounds(x: u32, y: u32, width: u32, height: u32, near: u32, far: u32) -> bool
-    ensures { result ≡ bad-bounds x y width height near far }
+    ensures { result ≡ bad_bounds x y width height near far }
 {
     if either_not_finite(x, y) {
         return true;
@@ -101,7 +101,7 @@ fn bad_bounds(x: u32, y: u32, width: u32, height: u32, near: u32, far: u32) -> b
 
 // Whether a viewport is bad.
 fn bad_viewport(v: SetViewport) -> bool
-    ensures { result ≡ bad-viewport v }
+    ensures { result ≡ bad_viewport v }
 {
     bad_bounds(
         bits_of(v.x),
@@ -130,7 +130,7 @@ pub fn on_viewport(live: usize, made: usize, v: SetViewport) -> Applied
 
 // Whether the bits of a clear's values are bad.
 fn bad_values(flags: u32, red: u32, green: u32, blue: u32, alpha: u32, depth: u32) -> bool
-    ensures { result ≡ bad-values flags red green blue alpha depth }
+    ensures { result ≡ bad_values flags red green blue alpha depth }
 {
     if either_not_finite(red, green) {
         return true;
@@ -146,7 +146,7 @@ fn bad_values(flags: u32, red: u32, green: u32, blue: u32, alpha: u32, depth: u3
 
 // Whether a clear is bad.
 fn bad_clear(c: ClearValues) -> bool
-    ensures { result ≡ bad-clear c }
+    ensures { result ≡ bad_clear c }
 {
     bad_values(
         c.flags,

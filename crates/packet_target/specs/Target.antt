@@ -10,8 +10,8 @@ use Rattle.std.proofs.lemmas.Int.{to_z-of_z}
 use Rattle.rules.specs.Numbers.{bad_handle, bad_state, too_many, most, clips}
 use Rattle.rules.specs.Lists.{Found, index_of, lookup, pushed}
 use Rattle.rules.specs.Lists.Found.{none, found}
-use Rattle.rules.specs.StatePackets.{negative, bad-sides, begins, common, rectangle, clip-of}
-use Rattle.rules.specs.Packets.{Holdings, Outcome, refuse, accepted, full, recorded, handle_of, live-texture, on-target-packet, on-scissor-packet}
+use Rattle.rules.specs.StatePackets.{negative, bad_sides, begins, common, rectangle, clip_of}
+use Rattle.rules.specs.Packets.{Holdings, Outcome, refuse, accepted, full, recorded, handle_of, live_texture, on_target_packet, on_scissor_packet}
 use Rattle.rules.specs.declared.Kind.TheVariants.{Buffer, Texture}
 use Rattle.rules.specs.declared.Resource.{Resource}
 use Rattle.rules.specs.declared.Record.{Record}
@@ -35,25 +35,25 @@ aimed_of none = Nothing
 aimed_of (found s) = At s
 
 module _ (live k : ℕ) (l : List ℕ) where
-  pub aims-at-zero : k ≡ 0 → Nothing ≡ aimed_of (live-texture k (holdings_of live l 0 []))
-  unfolding live-texture
+  pub aims-at-zero : k ≡ 0 → Nothing ≡ aimed_of (live_texture k (holdings_of live l 0 []))
+  unfolding live_texture
   aims-at-zero e = rw (eq-eqb _ _ e)
 
   module _ (n : k ≡ 0 → ⊥) (i : ℕ) (place : i ≡ index_of handle_of k (resources_of live l)) where
-    pub aims-at-nothing : live ≤ i → Nothing ≡ aimed_of (live-texture k (holdings_of live l 0 []))
-    unfolding live-texture
+    pub aims-at-nothing : live ≤ i → Nothing ≡ aimed_of (live_texture k (holdings_of live l 0 []))
+    unfolding live_texture
     aims-at-nothing p = rw (ne_eqb _ _ n, resource-missing live i k l place p)
 
     module _ (p : i < live) (r : Resource) (row : r ≡ resource_of_row (row_at 12 l i)) where
       here : lookup handle_of k (resources_of live l) ≡ found r
       here = resource-found live i k l place p ∙ ap found (sym row)
 
-      pub aims-at-buffer : r.kind ≡ Buffer → Nothing ≡ aimed_of (live-texture k (holdings_of live l 0 []))
-      unfolding live-texture
+      pub aims-at-buffer : r.kind ≡ Buffer → Nothing ≡ aimed_of (live_texture k (holdings_of live l 0 []))
+      unfolding live_texture
       aims-at-buffer e = rw (ne_eqb _ _ n, here, e)
 
-      pub aims-at-texture : (s : Shape) → r.kind ≡ Texture s → At s ≡ aimed_of (live-texture k (holdings_of live l 0 []))
-      unfolding live-texture
+      pub aims-at-texture : (s : Shape) → r.kind ≡ Texture s → At s ≡ aimed_of (live_texture k (holdings_of live l 0 []))
+      unfolding live_texture
       aims-at-texture s e = rw (ne_eqb _ _ n, here, e)
 
 pub ruleset aiming = (aims-at-zero, aims-at-nothing, aims-at-buffer, aims-at-texture, rules)
@@ -67,31 +67,31 @@ aimed-found none s e = cc
 aimed-found (found r) s e = cc
 
 -- which texture is live, whatever the records are
-module _ (live k : ℕ) (resources : List ℕ) (x : Aimed) (is : x ≡ aimed_of (live-texture k (holdings_of live resources 0 []))) (made : ℕ) (records : List ℕ) where
-  no-texture : x ≡ Nothing → live-texture k (holdings_of live resources made records) ≡ none
-  unfolding live-texture
+module _ (live k : ℕ) (resources : List ℕ) (x : Aimed) (is : x ≡ aimed_of (live_texture k (holdings_of live resources 0 []))) (made : ℕ) (records : List ℕ) where
+  no-texture : x ≡ Nothing → live_texture k (holdings_of live resources made records) ≡ none
+  unfolding live_texture
   no-texture told = aimed-none _ (sym is ∙ told)
 
-  this-texture : (s : Shape) → x ≡ At s → live-texture k (holdings_of live resources made records) ≡ found s
-  unfolding live-texture
+  this-texture : (s : Shape) → x ≡ At s → live_texture k (holdings_of live resources made records) ≡ found s
+  unfolding live_texture
   this-texture s told = aimed-found _ s (sym is ∙ told)
 
 -- ---- on_target
 
 -- the records are not lent: the answer is the rules' outcome, whatever they are
 pub record Targets (c : SetTarget) (live made : ℕ) (resources : List ℕ) (a : Applied) : Type 0 where
-  pub applies : (records : List ℕ) → Applies (on-target-packet (holdings_of live resources made records) c) a resources records
+  pub applies : (records : List ℕ) → Applies (on_target_packet (holdings_of live resources made records) c) a resources records
 
 module _ (c : SetTarget) (live made : ℕ) (resources : List ℕ) (room : (live ≤ most) × (made ≤ most))
-    (x : Aimed) (is : x ≡ aimed_of (live-texture c.handle (holdings_of live resources 0 []))) where
+    (x : Aimed) (is : x ≡ aimed_of (live_texture c.handle (holdings_of live resources 0 []))) where
   pub targets-nothing : (a : Applied) → x ≡ Nothing → a ≡ refused_with bad_handle live made → Targets c live made resources a
-  unfolding on-target-packet
+  unfolding on_target_packet
   targets-nothing a told e =
       rw e
       (record { applies = λ records. record { outcome = rw (no-texture live c.handle resources x is made records told); live = room.0; made = room.1 } })
 
   pub targets-texture : (s : Shape) → x ≡ At s → Targets c live made resources (accepted_with live made)
-  unfolding on-target-packet
+  unfolding on_target_packet
   targets-texture s told =
       record { applies = λ records. record { outcome = rw (this-texture live c.handle resources x is made records s told); live = room.0; made = room.1 } }
 
@@ -107,12 +107,12 @@ held-is : (x : ℤ) → mag x < 2 ^ 31 → held x ≡ x
 held-is x f = to_z-of_z w32 x (record { sfits = f })
 
 module _ (c : SetScissor) (b : Bool) (is : b ≡ negative (held c.width)) (f : mag c.width < 2 ^ 31) where
-  pub negative-width : b ≡ true → true ≡ bad-sides c
-  unfolding bad-sides
+  pub negative-width : b ≡ true → true ≡ bad_sides c
+  unfolding bad_sides
   negative-width t = rw (← held-is c.width f, ← is, t)
 
-  pub only-height : (e : Bool) → b ≡ false → e ≡ negative (held c.height) → mag c.height < 2 ^ 31 → e ≡ bad-sides c
-  unfolding bad-sides
+  pub only-height : (e : Bool) → b ≡ false → e ≡ negative (held c.height) → mag c.height < 2 ^ 31 → e ≡ bad_sides c
+  unfolding bad_sides
   only-height e t is' g = rw (← held-is c.width f, ← is, t) (is' ∙ ap negative (held-is c.height g))
 
 pub rectangle-made : (left top width height w h : ℕ) → w ≡ width → h ≡ height → record { kind = clips; handle = left; id = top; gpa = w; length = h } ≡ rectangle left top width height
@@ -123,8 +123,8 @@ module _ (s : Shape) (c : SetScissor) (w : ℕ) (wide : w ≡ common (held c.x) 
   width_is : common c.x (nat_abs c.width) s.width ≡ w
   width_is = sym (rw (held-is c.x fx, held-is c.width fw) at wide)
 
-  pub clip-of-no-width : (r : Record) → w ≡ 0 → r ≡ rectangle 0 0 0 0 → r ≡ clip-of s c
-  unfolding clip-of
+  pub clip-of-no-width : (r : Record) → w ≡ 0 → r ≡ rectangle 0 0 0 0 → r ≡ clip_of s c
+  unfolding clip_of
   clip-of-no-width r z e = rw (e, width_is, eq-eqb _ _ z)
 
   module _ (nw : w ≡ 0 → ⊥) (h : ℕ) (high : h ≡ common (held c.y) (nat_abs (held c.height)) s.height)
@@ -132,12 +132,12 @@ module _ (s : Shape) (c : SetScissor) (w : ℕ) (wide : w ≡ common (held c.x) 
     height-is : common c.y (nat_abs c.height) s.height ≡ h
     height-is = sym (rw (held-is c.y fy, held-is c.height fh) at high)
 
-    pub clip-of-no-height : (r : Record) → h ≡ 0 → r ≡ rectangle 0 0 0 0 → r ≡ clip-of s c
-    unfolding clip-of
+    pub clip-of-no-height : (r : Record) → h ≡ 0 → r ≡ rectangle 0 0 0 0 → r ≡ clip_of s c
+    unfolding clip_of
     clip-of-no-height r z e = rw (e, width_is, ne_eqb _ _ nw, height-is, eq-eqb _ _ z)
 
-    pub clip-of-some : (r : Record) (left top : ℕ) → (h ≡ 0 → ⊥) → left ≡ begins (held c.x) → top ≡ begins (held c.y) → r ≡ rectangle left top w h → r ≡ clip-of s c
-    unfolding clip-of
+    pub clip-of-some : (r : Record) (left top : ℕ) → (h ≡ 0 → ⊥) → left ≡ begins (held c.x) → top ≡ begins (held c.y) → r ≡ rectangle left top w h → r ≡ clip_of s c
+    unfolding clip_of
     clip-of-some r left top nh p q e =
         rw (e, width_is, ne_eqb _ _ nw, height-is, ne_eqb _ _ nh, p, q, held-is c.x fx, held-is c.y fy)
 
@@ -147,9 +147,9 @@ pub ruleset measuring = (negative-width, only-height, rectangle-made, clip-of-no
 
 -- the rules for a scissor once there is a target, with what is held as their last argument
 unfoldable pub clipped : Shape → SetScissor → Holdings → Outcome
-clipped s c h = refuse bad_state (bad-sides c) h (refuse too_many (full h.records) h (accepted (recorded (clip-of s c) h)))
+clipped s c h = refuse bad_state (bad_sides c) h (refuse too_many (full h.records) h (accepted (recorded (clip_of s c) h)))
 
-module _ (s : Shape) (c : SetScissor) (live made : ℕ) (l : List ℕ) (room : (live ≤ most) × (made ≤ most)) (b : Bool) (is : b ≡ bad-sides c) where
+module _ (s : Shape) (c : SetScissor) (live made : ℕ) (l : List ℕ) (room : (live ≤ most) × (made ≤ most)) (b : Bool) (is : b ≡ bad_sides c) where
   pub clips-badly : (a : Applied) → b ≡ true → a ≡ refused_with bad_state live made → HandsOut (clipped s c) live made l a l
   unfolding clipped
   clips-badly a t e =
@@ -162,7 +162,7 @@ module _ (s : Shape) (c : SetScissor) (live made : ℕ) (l : List ℕ) (room : (
         rw e
         (record { applies = λ resources. record { outcome = rw (← is, t, length-table record_of 5 made l, le-leb _ _ q); live = room.0; made = room.1 } })
 
-    pub clips-one : (m : List ℕ) (r : Record) → made < most → r ≡ clip-of s c → records_of (made + 1) m ≡ pushed (records_of made l) r
+    pub clips-one : (m : List ℕ) (r : Record) → made < most → r ≡ clip_of s c → records_of (made + 1) m ≡ pushed (records_of made l) r
         → HandsOut (clipped s c) live made l (accepted_with live (made + 1)) m
     unfolding clipped
     clips-one m r q f e =
@@ -173,17 +173,17 @@ pub ruleset clipping = (clips-badly, clips-too-many, clips-one, rules)
 -- ---- on_scissor
 
 module _ (live : ℕ) (resources : List ℕ) (made : ℕ) (records : List ℕ) (target : ℕ) (c : SetScissor) (room : (live ≤ most) × (made ≤ most))
-    (x : Aimed) (is : x ≡ aimed_of (live-texture target (holdings_of live resources 0 []))) where
+    (x : Aimed) (is : x ≡ aimed_of (live_texture target (holdings_of live resources 0 []))) where
   pub cuts_nothing : (a : Applied) → x ≡ Nothing → a ≡ refused_with bad_state live made
-      → Applies (on-scissor-packet target (holdings_of live resources made records) c) a resources records
-  unfolding on-scissor-packet
+      → Applies (on_scissor_packet target (holdings_of live resources made records) c) a resources records
+  unfolding on_scissor_packet
   cuts_nothing a told e =
       rw e
       (record { outcome = rw (no-texture live target resources x is made records told); live = room.0; made = room.1 })
 
   pub cuts-texture : (s : Shape) (a : Applied) (after : List ℕ) → x ≡ At s → HandsOut (clipped s c) live made records a after
-      → Applies (on-scissor-packet target (holdings_of live resources made records) c) a resources after
-  unfolding on-scissor-packet clipped
+      → Applies (on_scissor_packet target (holdings_of live resources made records) c) a resources after
+  unfolding on_scissor_packet clipped
   cuts-texture s a after told hands =
       rw (this-texture live target resources x is made records s told) (hands.applies resources)
 

@@ -1,8 +1,8 @@
 // The target, a live texture, and the scissor, which is clipped to it and handed to the host as a record.
 ghost use Rattle.std.specs.Prelude.{◌≡◌, [], ◌≤◌};
 ghost use Rattle.rules.specs.Numbers.{most};
-ghost use Rattle.rules.specs.StatePackets.{bad-sides, rectangle, clip-of};
-ghost use Rattle.rules.specs.Packets.{live-texture, on-scissor-packet};
+ghost use Rattle.rules.specs.StatePackets.{bad_sides, rectangle, clip_of};
+ghost use Rattle.rules.specs.Packets.{live_texture, on_scissor_packet};
 ghost use Rattle.kept_resources.specs.Views.{holdings_of};
 ghost use Rattle.packet_ranges.specs.Views.{Applies};
 ghost use Rattle.packet_ranges.specs.Handout.{HandsOut};
@@ -26,7 +26,7 @@ enum Aimed {
 // Looks for the live texture that has a handle. Handle 0 is not live.
 fn live_texture(resources: &Resources, live: usize, handle: u32) -> Aimed
     requires { live ≤ most }
-    ensures { result ≡ aimed_of (live-texture handle (holdings_of live resources.now 0 [])) }
+    ensures { result ≡ aimed_of (live_texture handle (holdings_of live resources.now 0 [])) }
 {
     if handle == 0 {
         return Aimed::Nothing;
@@ -60,7 +60,7 @@ pub fn on_target(resources: &Resources, live: usize, made: usize, c: SetTarget) 
 
 // Whether a scissor has a negative side.
 fn bad_sides(c: SetScissor) -> bool
-    ensures { result ≡ bad-sides c }
+    ensures { result ≡ bad_sides c }
 {
     if is_negative(c.width) {
         return true;
@@ -83,7 +83,7 @@ fn rectangle(left: u32, top: u32, width: u32, height: u32) -> Record
 
 // What a scissor leaves of a texture's first mip: all 0 where it leaves nothing.
 fn clip_of(shape: Shape, c: SetScissor) -> Record
-    ensures { result ≡ clip-of shape c }
+    ensures { result ≡ clip_of shape c }
 {
     let width = common(c.x, c.width, shape.width);
     if width == 0 {
@@ -126,7 +126,7 @@ pub fn on_scissor(
     c: SetScissor,
 ) -> Applied
     requires { (live ≤ most) × (made ≤ most) }
-    ensures { Applies (on-scissor-packet target (holdings_of live resources.now made records.old) c)
+    ensures { Applies (on_scissor_packet target (holdings_of live resources.now made records.old) c)
         result resources.now records.new }
 {
     match live_texture(resources, live, target) {

@@ -2,7 +2,7 @@
 ghost use Rattle.std.specs.Prelude.{◌≡◌, ◌*◌, ◌≤◌, length};
 ghost use Rattle.rules.specs.Numbers.{most};
 ghost use Rattle.kept_resources.specs.Views.{records_of};
-ghost use Rattle.program_month.specs.Input.{records-in};
+ghost use Rattle.program_month.specs.Input.{records_in};
 
 use kept_records::{Records, push_record};
 use rules::Record;
@@ -17,7 +17,7 @@ const LONGEST: usize = 768;
 // Stores the records in these bytes as rows of a table.
 fn put_records(bytes: &[u8], count: usize, records: &mut Records)
     requires { (count ≤ most) × (12 * count ≤ length bytes.now) }
-    ensures { records_of count records.new ≡ records-in bytes.now count }
+    ensures { records_of count records.new ≡ records_in bytes.now count }
 {
     let mut i: usize = 0;
     while i < count {

@@ -11,7 +11,7 @@ use Rattle.rules.specs.declared.Registers.{Registers}
 use Rattle.promises_of_submissions.specs.Whole.{midst, Course}
 use Rattle.promises_of_units.specs.Writes.{resets, registers_written}
 use Rattle.promises_of_submissions.specs.Night.{Clear}
-use Rattle.promises_of_units.specs.Acts.{Act, units_in, answers-in, registers-after}
+use Rattle.promises_of_units.specs.Acts.{Act, units_in, answers_in, registers_after}
 use Rattle.promises_of_units.specs.Acts.Act.{unit, write, answer}
 
 -- what the unsliced rules give of a submission that is opened with w's registers and settled with the registers q
@@ -26,20 +26,20 @@ pub data Span : List Act → Type 0 where
 
 -- from w, in the midst of a submission, these acts lead to v, in the midst of the same one
 pub record Into (w : World) (xs : List Act) (v : World) : Type 0 where
-  pub takes-nothing : answers-in xs ≡ []
+  pub takes-nothing : answers_in xs ≡ []
   pub inside : midst v.state.work ≡ true
   -- with any registers that enable, one run of as many units does the same work
   pub units : (q : Registers) → q.enabled ≡ true → Course (units_in xs) (registering q w) (registering q v)
   -- memory, resources and tokens stay, and the registers are what the writes made of them
-  pub only : v ≡ registering (registers-after xs w.state.regs) (working v.state.work w)
+  pub only : v ≡ registering (registers_after xs w.state.regs) (working v.state.work w)
 
 -- from w, these acts lead to v, the end of what was in the midst at w
 pub data Rest (w : World) : List Act → World → Type 0 where
   -- nothing was
   none_left : Clear w → Rest w [] w
   -- it ends where one run of as many units ends with the registers that stand at the last unit
-  ends : {xs : List Act} {v : World} → midst w.state.work ≡ true → Span xs → (registers-after xs w.state.regs).enabled ≡ true
-      → Course (units_in xs) (registering (registers-after xs w.state.regs) w) v → Clear v → Rest w xs v
+  ends : {xs : List Act} {v : World} → midst w.state.work ≡ true → Span xs → (registers_after xs w.state.regs).enabled ≡ true
+      → Course (units_in xs) (registering (registers_after xs w.state.regs) w) v → Clear v → Rest w xs v
 
 -- whole submissions of the unsliced rules, and writes and answers between them, lead from w to v
 pub data Served : World → List Act → World → Type 0 where
@@ -47,9 +47,9 @@ pub data Served : World → List Act → World → Type 0 where
   -- from its opening at w to its last unit, with writes between its units: the unsliced rules' end, settled with the registers that
   -- stand at the last unit, after the unsliced rules' count of units
   submission : {w v : World} {during xs : List Act} → w.state.work ≡ resting → go w ≡ true → Span (unit ∷ during)
-      → (registers-after during w.state.regs).enabled ≡ true
-      → suc (units_in during) ≡ (submitted_under (registers-after during w.state.regs) w).units
-      → Served (submitted_under (registers-after during w.state.regs) w).state xs v → Served w ((unit ∷ during) ++ xs) v
+      → (registers_after during w.state.regs).enabled ≡ true
+      → suc (units_in during) ≡ (submitted_under (registers_after during w.state.regs) w).units
+      → Served (submitted_under (registers_after during w.state.regs) w).state xs v → Served w ((unit ∷ during) ++ xs) v
   -- a write between submissions changes registers alone
   written : {w v : World} {xs : List Act} (offset n : ℕ) → Clear w → resets offset n ≡ false
       → Served (registering (registers_written offset n w.state.regs) w) xs v → Served w (write offset n ∷ xs) v
@@ -74,7 +74,7 @@ pub data Stands (w : World) (xs : List Act) (v : World) : Type 0 where
 -- the units that the unsliced rules count
 unfoldable pub counted : {w v : World} {xs : List Act} → Served w xs v → ℕ
 counted begun = 0
-counted (submission {w = w} {during = during} rest g s on n later) = (submitted_under (registers-after during w.state.regs) w).units + counted later
+counted (submission {w = w} {during = during} rest g s on n later) = (submitted_under (registers_after during w.state.regs) w).units + counted later
 counted (written offset n c h later) = counted later
 counted (answers good h later) = counted later
 

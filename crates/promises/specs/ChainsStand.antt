@@ -14,8 +14,8 @@ use Rattle.rule_laws.specs.Fine.{both_left}
 use Rattle.promises_of_submissions.specs.Whole.{midst, Course, course_none}
 use Rattle.promises_of_units.specs.Writes.{resets, registers_written}
 use Rattle.promises_of_submissions.specs.Night.{Clear, rests, waits-clear, answered-clear}
-use Rattle.promises_of_units.specs.Called.{Call, after-all, units-of-all, taken-by-all}
-use Rattle.promises_of_units.specs.Acts.{Act, acts-of-all, units_in, answers-in, registers-after, units-in-both, answers-in-both, acts-units, acts-answers, Led, NoReset, calls_lead}
+use Rattle.promises_of_units.specs.Called.{Call, after_all, units_of_all, taken_by_all}
+use Rattle.promises_of_units.specs.Acts.{Act, acts_of_all, units_in, answers_in, registers_after, units-in-both, answers-in-both, acts-units, acts-answers, Led, NoReset, calls_lead}
 use Rattle.promises_of_units.specs.Acts.Act.{unit, write, answer}
 use Rattle.promises_of_units.specs.Acts.Led.{stays, spends, writes_one, takes}
 use Rattle.promises.specs.Courses.{clash, unit-alone, course_one, course_next, course-unique, course-shorter, Opens, opens, opening-ends}
@@ -53,10 +53,10 @@ module _ (w : World) (rest : w.state.work ≡ resting) (g : go w ≡ true) (m : 
 
   -- all of it, and what came after
   through : {xs first night next : List Act} {x y v : World} → xs ≡ first ++ (night ++ next) → Span first
-      → (registers-after first w.state.regs).enabled ≡ true → Course (units_in first) (registering (registers-after first w.state.regs) (step w)) x
+      → (registers_after first w.state.regs).enabled ≡ true → Course (units_in first) (registering (registers_after first w.state.regs) (step w)) x
       → Clear x → Served x night y → Next y next v → Stands w (unit ∷ xs) v
   through {xs} {first} {night} {next} {x} {y} e span on k c s n =
-      let q : Registers = registers-after first w.state.regs in
+      let q : Registers = registers_after first w.state.regs in
       let o : Opens w q (submitted_under q w) = opens w rest m q on in
       let same : (units_in first ≡ o.count) × (x ≡ (submitted_under q w).state) = course-unique k c o.course o.clear in
       past-the-first {first = []} {night = (unit ∷ first) ++ night} (ap (λ l. unit ∷ l) (e ∙ sym (append_assoc first night next))) (none_left (ap midst rest))
@@ -67,15 +67,15 @@ module _ (w : World) (rest : w.state.work ≡ resting) (g : go w ≡ true) (m : 
   unit-opens (past-the-first e (none_left c) s n) = clash m c
   unit-opens (past-the-first {first = first} e (ends {v = x} h span on k c) s n) =
       let same : (step w).state.regs ≡ w.state.regs = ap (λ (z : World). z.state.regs) own.alone in
-      through e span (subst (λ (r : Registers). (registers-after first r).enabled ≡ true) same on)
-      (subst (λ (r : Registers). Course (units_in first) (registering (registers-after first r) (step w)) x) same k) c s n
+      through e span (subst (λ (r : Registers). (registers_after first r).enabled ≡ true) same on)
+      (subst (λ (r : Registers). Course (units_in first) (registering (registers_after first r) (step w)) x) same k) c s n
 
 -- in the midst
 module _ (w : World) (m : midst w.state.work ≡ true) where
   -- a write
   write-inside : {xs : List Act} {v : World} (offset n : ℕ) → resets offset n ≡ false
       → Stands (registering (registers_written offset n w.state.regs) w) xs v → Stands w (write offset n ∷ xs) v
-  unfolding units_in answers-in registers-after
+  unfolding units_in answers_in registers_after
   write-inside offset n h (in-the-first l i) = in-the-first m (record { takes-nothing = i.takes-nothing; inside = i.inside; units = i.units; only = i.only })
   write-inside offset n h (past-the-first e (none_left c) s k) = clash m c
   write-inside offset n h (past-the-first {first = first} e (ends l span on k c) s t) =
@@ -84,7 +84,7 @@ module _ (w : World) (m : midst w.state.work ≡ true) where
   module _ (on : w.state.regs.enabled ≡ true) where
     -- the last unit of what was in work
     unit_ends : {xs : List Act} {v : World} → Clear (step w) → Stands (step w) xs v → Stands w (unit ∷ xs) v
-    unfolding units_in registers-after
+    unfolding units_in registers_after
     unit_ends c (in-the-first l i) = clash l c
     unit_ends c (past-the-first e (none_left d) s n) = past-the-first {first = unit ∷ []} (ap (λ l. unit ∷ l) e) (ends m last on (course_one w on m) c) s n
     unit_ends c (past-the-first e (ends l span h k d) s n) = clash l c
@@ -99,28 +99,28 @@ module _ (w : World) (m : midst w.state.work ≡ true) where
 
     -- another unit
     unit-inside : {xs : List Act} {v : World} → Stands (step w) xs v → Stands w (unit ∷ xs) v
-    unfolding units_in answers-in registers-after
+    unfolding units_in answers_in registers_after
     unit-inside {xs} {v} (in-the-first h i) =
         in-the-first m
         (record {
           takes-nothing = i.takes-nothing;
           inside = i.inside;
           units = λ q on. one_further q on (i.units q on);
-          only = i.only ∙ ap (λ (x : World). registering (registers-after xs x.state.regs) (working v.state.work x)) alone;
+          only = i.only ∙ ap (λ (x : World). registering (registers_after xs x.state.regs) (working v.state.work x)) alone;
         })
     unit-inside (past-the-first e (none_left c) s n) = clash l c
     unit-inside (past-the-first {first = first} e (ends {v = x} h span on k c) s n) =
         let same : (step w).state.regs ≡ w.state.regs = ap (λ (z : World). z.state.regs) alone in
-        let q : Registers = registers-after first w.state.regs in
-        let on' : q.enabled ≡ true = subst (λ (r : Registers). (registers-after first r).enabled ≡ true) same on in
+        let q : Registers = registers_after first w.state.regs in
+        let on' : q.enabled ≡ true = subst (λ (r : Registers). (registers_after first r).enabled ≡ true) same on in
         past-the-first {first = unit ∷ first} (ap (λ l. unit ∷ l) e)
         (ends m (spending span) on'
-        (one_further q on' (subst (λ (r : Registers). Course (units_in first) (registering (registers-after first r) (step w)) x) same k)) c) s n
+        (one_further q on' (subst (λ (r : Registers). Course (units_in first) (registering (registers_after first r) (step w)) x) same k)) c) s n
 
 -- ---- any acts
 
 led-stands : {w v : World} {xs : List Act} → Led w xs v → Stands w xs v
-unfolding units_in answers-in registers-after answered go submitted
+unfolding units_in answers_in registers_after answered go submitted
 led-stands {w} stays = by_test (midst w.state.work) refl
   where
     by_test : (b : Bool) → midst w.state.work ≡ b → Stands w [] w
@@ -148,7 +148,7 @@ led-stands {w} (takes good h later) =
 
 -- from any world, whatever is in work there, calls of which none is a reset stand in the midst of what was in work at the start; or at its
 -- end, and whole submissions of the unsliced rules after it, and some units into the next one
-pub calls-stand : (cs : List Call) (w : World) → NoReset cs → Stands w (acts-of-all cs w) (after-all cs w)
+pub calls-stand : (cs : List Call) (w : World) → NoReset cs → Stands w (acts_of_all cs w) (after_all cs w)
 calls-stand cs w n = led-stands (calls_lead cs w n)
 
 -- ---- from a clear world to a clear one
@@ -161,7 +161,7 @@ clear_served (past-the-first e (ends m span on k l) s n) c d = clash m c
 
 -- wherever calls that began with nothing in the midst stand so again, whole submissions of the unsliced rules have led there, each settled
 -- with the registers that stood at its last unit, and writes and answers between them
-pub clear_calls_are_unsliced : (cs : List Call) (w : World) → NoReset cs → Clear w → Clear (after-all cs w) → Served w (acts-of-all cs w) (after-all cs w)
+pub clear_calls_are_unsliced : (cs : List Call) (w : World) → NoReset cs → Clear w → Clear (after_all cs w) → Served w (acts_of_all cs w) (after_all cs w)
 clear_calls_are_unsliced cs w n c d = clear_served (calls-stand cs w n) c d
 
 -- ---- the units and answers that calls report
@@ -173,45 +173,45 @@ served-units (submission {during = during} {xs = xs} rest g span on n later) = u
 served-units (written offset n c h later) = served-units later
 served-units (answers good h later) = served-units later
 
-span-takes-nothing : {xs : List Act} → Span xs → answers-in xs ≡ []
-unfolding answers-in
+span-takes-nothing : {xs : List Act} → Span xs → answers_in xs ≡ []
+unfolding answers_in
 span-takes-nothing last = refl
 span-takes-nothing (spending s) = span-takes-nothing s
 span-takes-nothing (writing offset n h s) = span-takes-nothing s
 
-served-answers : {w v : World} {xs : List Act} (s : Served w xs v) → answers-in xs ≡ given s
-unfolding answers-in given
+served-answers : {w v : World} {xs : List Act} (s : Served w xs v) → answers_in xs ≡ given s
+unfolding answers_in given
 served-answers begun = refl
 served-answers (submission {during = during} {xs = xs} rest g span on n later) =
     answers-in-both (unit ∷ during) xs ∙ rw (span-takes-nothing span, served-answers later)
 served-answers (written offset n c h later) = served-answers later
 served-answers (answers good h later) = ap (λ l. good ∷ l) (served-answers later)
 
-rest-takes-nothing : {w x : World} {xs : List Act} → Rest w xs x → answers-in xs ≡ []
-unfolding answers-in
+rest-takes-nothing : {w x : World} {xs : List Act} → Rest w xs x → answers_in xs ≡ []
+unfolding answers_in
 rest-takes-nothing (none_left c) = refl
 rest-takes-nothing (ends m span on k c) = span-takes-nothing span
 
-next-takes-nothing : {y v : World} {xs : List Act} → Next y xs v → answers-in xs ≡ []
-unfolding answers-in
+next-takes-nothing : {y v : World} {xs : List Act} → Next y xs v → answers_in xs ≡ []
+unfolding answers_in
 next-takes-nothing none_begun = refl
 next-takes-nothing (opened rest g a i n) = i.takes-nothing
 
 -- however the acts of calls are split into the rest of what was in work, whole submissions, and the next
 module _ (cs : List Call) (w : World) {x y : World} (first next : List Act) {night : List Act}
-    (e : acts-of-all cs w ≡ first ++ (night ++ next)) (s : Served x night y) where
+    (e : acts_of_all cs w ≡ first ++ (night ++ next)) (s : Served x night y) where
   -- the units that calls report are those of the rest of what was in work, the unsliced rules' counts, and those of the next so far
-  pub units-add-up : units-of-all cs w ≡ units_in first + (counted s + units_in next)
+  pub units-add-up : units_of_all cs w ≡ units_in first + (counted s + units_in next)
   units-add-up =
       sym (acts-units cs w)
       ∙ (ap units_in e ∙ (units-in-both first (night ++ next)
       ∙ ap (λ k. units_in first + k) (units-in-both night next ∙ ap (λ k. k + units_in next) (served-units s))))
 
   -- and the answers that they took are those that were given between the whole submissions
-  pub answers-are-those-given : {v : World} → Rest w first x → Next y next v → taken-by-all cs w ≡ given s
+  pub answers-are-those-given : {v : World} → Rest w first x → Next y next v → taken_by_all cs w ≡ given s
   answers-are-those-given r t =
       sym (acts-answers cs w)
-      ∙ (ap answers-in e ∙ (answers-in-both first (night ++ next)
+      ∙ (ap answers_in e ∙ (answers-in-both first (night ++ next)
       ∙ rw (rest-takes-nothing r, answers-in-both night next, next-takes-nothing t, served-answers s, append-nil)))
 
 -- ---- two lists of calls
@@ -225,6 +225,6 @@ same-acts (takes good g p) (takes same h q) = same-acts p q
 
 -- two lists of calls from one world that spent the same units, wrote the same and took the same answers, in the same order, stand in the
 -- same world, however their runs were cut
-pub same-acts-same-world : (cs ds : List Call) (w : World) → NoReset cs → NoReset ds → acts-of-all cs w ≡ acts-of-all ds w
-    → after-all cs w ≡ after-all ds w
-same-acts-same-world cs ds w n k e = same-acts (subst (λ l. Led w l (after-all cs w)) e (calls_lead cs w n)) (calls_lead ds w k)
+pub same-acts-same-world : (cs ds : List Call) (w : World) → NoReset cs → NoReset ds → acts_of_all cs w ≡ acts_of_all ds w
+    → after_all cs w ≡ after_all ds w
+same-acts-same-world cs ds w n k e = same-acts (subst (λ l. Led w l (after_all cs w)) e (calls_lead cs w n)) (calls_lead ds w k)

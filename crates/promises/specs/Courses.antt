@@ -7,13 +7,13 @@ use Rattle.machine.specs.Machine.{Out, run_none, run-go}
 use Rattle.rules.specs.Judging.{Finding, at_place}
 use Rattle.rules.specs.Judging.Finding.{fine, broken}
 use Rattle.rules.specs.Ring.{opening_of}
-use Rattle.rules.specs.Table.{entries_of, take-entry}
+use Rattle.rules.specs.Table.{entries_of, take_entry}
 use Rattle.rules.specs.Stream.{left}
-use Rattle.rules.specs.Packets.{Progress, at_first, take-packet}
+use Rattle.rules.specs.Packets.{Progress, at_first, take_packet}
 use Rattle.rules.specs.State.{Work, World, working, registering}
 use Rattle.rules.specs.State.Work.{resting, entries, packets, waiting}
 use Rattle.rules.specs.Settle.{settled}
-use Rattle.rules.specs.Steps.{after_opening, open_step, after_entry, entry-step, after_packet, next_place, packet_step, step_on, step, go, run_for}
+use Rattle.rules.specs.Steps.{after_opening, open_step, after_entry, entry_step, after_packet, next_place, packet_step, step_on, step, go, run_for}
 use Rattle.rules.specs.Unsliced.{submission, submitted_on, submitted}
 use Rattle.rules.specs.declared.Entry.{Entry}
 use Rattle.rules.specs.declared.Job.{Job}
@@ -39,23 +39,23 @@ module _ (x : World) (q : Registers) where
   abbrev Heedless : World → World → Type 0
   Heedless y own = midst own.state.work ≡ true → y ≡ registering q (working own.state.work x)
 
-  entry-alone : (o : Opened) (kept : List Entry) (v : Finding) → Heedless (after_entry (registering q x) o kept v) (after_entry x o kept v)
+  entry_alone : (o : Opened) (kept : List Entry) (v : Finding) → Heedless (after_entry (registering q x) o kept v) (after_entry x o kept v)
   unfolding settled
-  entry-alone o kept fine h = refl
-  entry-alone o kept (broken f) h = clash h refl
+  entry_alone o kept fine h = refl
+  entry_alone o kept (broken f) h = clash h refl
 
-  packet-alone : (j : Job) (t : Stream) (next : ℕ) (es : List Entry) (held : Progress) (v : Finding)
+  packet_alone : (j : Job) (t : Stream) (next : ℕ) (es : List Entry) (held : Progress) (v : Finding)
       → Heedless (after_packet (registering q x) j t next es held v) (after_packet x j t next es held v)
   unfolding settled
-  packet-alone j t next es held fine h = refl
-  packet-alone j t next es held (broken f) h = clash h refl
+  packet_alone j t next es held fine h = refl
+  packet_alone j t next es held (broken f) h = clash h refl
 
   on-alone : (k : Work) → midst k ≡ true → Heedless (step_on (registering q x) k) (step_on x k)
-  unfolding entry-step packet_step
+  unfolding entry_step packet_step
   on-alone resting m h = clash m refl
-  on-alone (entries o kept) m h = entry-alone o (take-entry x.mem o.table kept).kept (at_place (length kept) (take-entry x.mem o.table kept).verdict) h
+  on-alone (entries o kept) m h = entry_alone o (take_entry x.mem o.table kept).kept (at_place (length kept) (take_entry x.mem o.table kept).verdict) h
   on-alone (packets j t at es held) m h =
-      packet-alone j t (next_place at (left x.mem t at)) es (take-packet es held (left x.mem t at)).held (at_place at (take-packet es held (left x.mem t at)).verdict) h
+      packet_alone j t (next_place at (left x.mem t at)) es (take_packet es held (left x.mem t at)).held (at_place at (take_packet es held (left x.mem t at)).verdict) h
   on-alone (waiting j es held) m h = clash m refl
 
   -- one that stays in the midst

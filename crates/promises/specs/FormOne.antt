@@ -8,7 +8,7 @@ use Rattle.rules.specs.Numbers.{in_work, not_in_form, too_short, done}
 use Rattle.rules.specs.Lists.{over}
 use Rattle.rules.specs.State.{State}
 use Rattle.rules.specs.Calls.{at_rest}
-use Rattle.rules.specs.Saved.{is_other_name, other-name-among, beyond-form-1, beyond, Saved, not_saved, saved, call-save}
+use Rattle.rules.specs.Saved.{is_other_name, other_name_among, beyond_form_1, beyond, Saved, not_saved, saved, call_save}
 use Rattle.rules.specs.declared.Form.TheVariants.{One}
 use Rattle.rules.specs.declared.Resource.{Resource}
 use Rattle.promises_of_packets.specs.Names.{true-not-false}
@@ -32,21 +32,21 @@ either : {A B : Type 0} (a b : Bool) → Exactly (a ≡ true) A → Exactly (b �
 either true b p q = (λ _. inl (p.0 refl), λ _. refl)
 either false b p q = (λ e. inr (q.0 e), λ h. ⊎_elim (λ x. absurd (true-not-false (sym (p.1 x)))) (λ y. q.1 y) h)
 
-other_name_exactly : (rs : List Resource) → Exactly (other-name-among rs ≡ true) (Some IsAnotherName rs)
-unfolding other-name-among Some
+other_name_exactly : (rs : List Resource) → Exactly (other_name_among rs ≡ true) (Some IsAnotherName rs)
+unfolding other_name_among Some
 other_name_exactly [] = (λ e. absurd (true-not-false (sym e)), λ n. absurd n)
-other_name_exactly (r ∷ rs) = either (is_other_name r) (other-name-among rs) (not_equal r.handle r.lowest) (other_name_exactly rs)
+other_name_exactly (r ∷ rs) = either (is_other_name r) (other_name_among rs) (not_equal r.handle r.lowest) (other_name_exactly rs)
 
 pub beyond_form_1_exactly : (s : State) → Exactly (beyond One s ≡ true) (BeyondForm1 s)
-unfolding beyond-form-1
+unfolding beyond_form_1
 beyond_form_1_exactly s =
     either (not (eqb (length s.belongings.tokens) 0)) _ (not_equal (length s.belongings.tokens) 0)
-    (either (other-name-among s.belongings.resources) _ (other_name_exactly s.belongings.resources) (not_equal s.regs.error.detail 0))
+    (either (other_name_among s.belongings.resources) _ (other_name_exactly s.belongings.resources) (not_equal s.regs.error.detail 0))
 
 -- ---- the call
 
-pub form-1-is-refused-with-8 : (s : State) (buffer : List ℕ) → Exactly ((call-save One s buffer).answer ≡ not_in_form) ((at_rest s.work ≡ true) × BeyondForm1 s)
-unfolding call-save
+pub form-1-is-refused-with-8 : (s : State) (buffer : List ℕ) → Exactly ((call_save One s buffer).answer ≡ not_in_form) ((at_rest s.work ≡ true) × BeyondForm1 s)
+unfolding call_save
 form-1-is-refused-with-8 s buffer = by_tests (at_rest s.work) (beyond One s) (ltb (length buffer) (length (saved One s))) (beyond_form_1_exactly s)
   where
     by_tests : (a b c : Bool) → Exactly (b ≡ true) (BeyondForm1 s)

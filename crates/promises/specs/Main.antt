@@ -8,11 +8,11 @@ use Rattle.std.specs.Float.Ieee.{lt}
 use Rattle.rules.specs.Numbers.{done, other_memory, no_register, nothing_waits, no_record, bad_ring, no_place, host_failed, clips, bad_handle, bad_state, too_many, most, set_target, set_viewport, set_scissor, clear as clear-opcode, export_surface, import_surface, release_token, bad_file, in_work, not_in_form, too_short}
 use Rattle.rules.specs.Ring.{opening_of}
 use Rattle.rules.specs.Table.{entries_of}
-use Rattle.rules.specs.Layouts.{stream_header_size, target-fields, viewport_floats, viewport-fields, scissor-fields, clear_floats, clear-fields, word, long, export-fields, import-fields, release-fields}
-use Rattle.rules.specs.Floats.{float_of, is-nan, nan_among, not_finite_among, below}
-use Rattle.rules.specs.Stream.{known, least_size, frame-of, packet-of}
-use Rattle.rules.specs.StatePackets.{bad-sides}
-use Rattle.rules.specs.Packets.{live, live-texture, Progress, at_first, pass, take-packet, left_by, bound}
+use Rattle.rules.specs.Layouts.{stream_header_size, target_fields, viewport_floats, viewport_fields, scissor_fields, clear_floats, clear_fields, word, long, export_fields, import_fields, release_fields}
+use Rattle.rules.specs.Floats.{float_of, is_nan_bits, nan_among, not_finite_among, below}
+use Rattle.rules.specs.Stream.{known, least_size, frame_of, packet_of}
+use Rattle.rules.specs.StatePackets.{bad_sides}
+use Rattle.rules.specs.Packets.{live, live_texture, Progress, at_first, pass, take_packet, left_by, bound}
 use Rattle.rules.specs.Judging.{refusal, Finding, without_place}
 use Rattle.rules.specs.Judging.Finding.{fine, broken}
 use Rattle.rules.specs.Registers.{Read, register}
@@ -21,7 +21,7 @@ use Rattle.rules.specs.State.Work.{resting, packets, waiting}
 use Rattle.rules.specs.Settle.{ring_refused, settled, settled_keeping}
 use Rattle.rules.specs.Steps.{go, step, run_for, waits_on, waits, answered}
 use Rattle.rules.specs.Unsliced.{Submission, submission, finished, submitted_on, submitted}
-use Rattle.rules.specs.Calls.{lent_another, ending, Ran, ran, Answered, valued, record_read, handed_out, no_range, call-write, call-read, call-run, call-record, answer-alone, call-answer, at_rest}
+use Rattle.rules.specs.Calls.{lent_another, ending, Ran, ran, Answered, valued, record_read, handed_out, no_range, call_write, call_read, call_run, call_record, answer_alone, call_answer, at_rest}
 use Rattle.rules.specs.Lists.{Found, nth, over}
 use Rattle.rules.specs.Lists.Found.{none, found}
 use Rattle.rules.specs.declared.Ended.TheVariants.{Idle, Paused}
@@ -48,9 +48,9 @@ use Rattle.rules.specs.declared.Registers.{Registers}
 use Rattle.rules.specs.declared.Opening.TheVariants.{BadRing, NoWork, Refused, Started}
 use Rattle.promises_of_units.specs.Refused.{refused-run-changes-nothing, refused-answer-changes-nothing, refused-write-changes-nothing}
 use Rattle.promises_of_units.specs.CallAnswers.{Exactly, NoneOf, writable_offsets, readable_offsets, records_waiting, run-is-refused-with-1, run-is-done, answer-is-refused-with-1, answer-is-refused-with-3, answer-is-done, write-is-refused-with-2, write-is-done, read-is-refused-with-2, read-is-done, record-is-refused-with-4, record-is-done}
-use Rattle.promises_of_units.specs.Called.{Call, after, after-all, units-of-all, taken-by-all, Called}
+use Rattle.promises_of_units.specs.Called.{Call, after, after_all, units_of_all, taken_by_all, Called}
 use Rattle.promises_of_units.specs.Called.Call.{writes, reads, runs, records, answers}
-use Rattle.promises_of_units.specs.Acts.{Act, acts-of-all, units_in, answers-in, registers-after, acts-answers, Led, NoReset, calls_lead}
+use Rattle.promises_of_units.specs.Acts.{Act, acts_of_all, units_in, answers_in, registers_after, acts-answers, Led, NoReset, calls_lead}
 use Rattle.promises_of_units.specs.Acts.Led.{stays, spends, writes_one, takes}
 use Rattle.promises.specs.Courses.{clash}
 use Rattle.promises_of_submissions.specs.Slices.{waiting-stands-still}
@@ -66,7 +66,7 @@ use Rattle.promises_of_units.specs.Changes.{told, Says, calls-say}
 use Rattle.promises_of_units.specs.Kept.{EachLent}
 use Rattle.promises_of_submissions.specs.LentBytes.{OfBytes}
 use Rattle.promises.specs.Places.{OfAnEntry, OfAPacket, sizes-fit, settling-tells, TellsWhere, each-settling-tells-where, bad-ring-has-no-place, failed-has-no-place, detail-is-read, detail-is-not-written}
-use Rattle.promises.specs.NightLog.{night-log, agree, night-log-holds}
+use Rattle.promises.specs.NightLog.{night_log, agree, night-log-holds}
 use Rattle.promises_of_submissions.specs.AppendedUnits.{SameAhead, SameOut, appended-bytes-same-run, appended-bytes-same-outcome}
 use Rattle.promises_of_submissions.specs.Whole.{midst}
 use Rattle.promises.specs.UnslicedPlaces.{unsliced-tells-where, ByTheCode, unsliced-by-the-code}
@@ -85,18 +85,18 @@ use Rattle.promises_of_sharing.specs.SharedPackets.{ExportPacket, ImportPacket, 
 use Rattle.promises_of_sharing.specs.TokensOverCalls.{tokens-go-on-between-resets, a-reset-forgets-the-tokens, a-failed-submission-leaves-the-tokens, at-most-256-tokens, shared-is-one-mip-one-layer, bound-is-one-mip-one-layer, what-is-held-is-sound}
 use Rattle.promises_of_sharing.specs.NamesKept.{KeepsNamesBut}
 use Rattle.promises_of_sharing.specs.NamesOverCalls.{names_since, a-bound-token-keeps-its-names-between-resets}
-use Rattle.promises_of_sharing.specs.PacketsTaken.{CalledOn, packets-since}
+use Rattle.promises_of_sharing.specs.PacketsTaken.{CalledOn, packets_since}
 use Rattle.promises_of_sharing.specs.TokenLives.{Some, Exports, Spends, TokensLive, tokens-live-between-resets, a-token-stays-bound-exactly, BoundIsFound, bound-exactly-if-found, ImportAccepted, a-later-import-is-accepted}
 use Rattle.promises_of_sharing.specs.TokenMeans.{TokensMean, tokens-mean-between-resets, NamesTheExported, a-later-import-names-the-exported}
 use Rattle.promises_of_sharing.specs.RecordHandles.{AddsUnderItsHandle, ranges-carry-the-packets-handle}
-use Rattle.promises_of_sharing.specs.SinceBegun.{asked-on, BetweenResetsAndLoads, whatever-is-asked, since-begun, BoundSince, bound-since-make-reset-or-load}
-use Rattle.promises_of_units.specs.Asked.{Asked, left-all, Change, Course, asked-have-changes, SaysAll, course-says, all_asked_called, NoResetOrLoad}
+use Rattle.promises_of_sharing.specs.SinceBegun.{asked_on, BetweenResetsAndLoads, whatever-is-asked, since-begun, BoundSince, bound-since-make-reset-or-load}
+use Rattle.promises_of_units.specs.Asked.{Asked, left_all, Change, Course, asked-have-changes, SaysAll, course-says, all_asked_called, NoResetOrLoad}
 use Rattle.promises_of_units.specs.FenceRises.{only-a-reset-or-a-load-lowers-the-fence}
 use Rattle.promises.specs.LowerFence.{the-fence-is-the-files, LowerAfterLoading, the_fence_may_be_lower_after_loading}
 use Rattle.promises_of_submissions.specs.Clipping.{Scissored, accepted-scissor-is-clipped}
 use Rattle.promises_of_submissions.specs.Locality.{lent, SameWhereRead, SameRun, run-of-one-reads-only}
-use Rattle.rules.specs.Saved.{not_saved, call-save, saved, beyond}
-use Rattle.rules.specs.Loaded.{Loaded, form_in, sections, file-rules, bad-place, loaded, call-load, call-move}
+use Rattle.rules.specs.Saved.{not_saved, call_save, saved, beyond}
+use Rattle.rules.specs.Loaded.{Loaded, form_in, sections, file_rules, bad_place, loaded, call_load, call_move}
 use Rattle.rules.specs.declared.Form.{Form}
 use Rattle.rules.specs.declared.Form.TheVariants.{One, Two}
 use Rattle.promises_of_units.specs.Called.Called.{loads}
@@ -114,14 +114,14 @@ use Rattle.promises_of_saving.specs.LoadOfSave.{LoadedBack, load-of-save}
 use Rattle.promises_of_saving.specs.GoesBack.{GoesBack}
 use Rattle.promises_of_saving.specs.MoveAnswers.{moved, LoadRefused, MoveNotInForm, MoveTooShort, MoveDone, move-refused-exactly, move-not-in-form-exactly, move-too-short-exactly, move-done-exactly, refused-move-leaves-the-buffer, done-move-keeps-later-bytes}
 use Rattle.promises_of_same_desks.specs.Desks.{SameDesk}
-use Rattle.promises_of_same_desks.specs.ForEver.{sound-is-savable, told-all, SameForEver, same-desks-for-ever, same-devices-for-ever, told-the-same-is-the-same, a-saved-desk-goes-on-elsewhere, a-moved-desk-goes-on-elsewhere}
+use Rattle.promises_of_same_desks.specs.ForEver.{sound-is-savable, told_all, SameForEver, same-desks-for-ever, same-devices-for-ever, told-the-same-is-the-same, a-saved-desk-goes-on-elsewhere, a-moved-desk-goes-on-elsewhere}
 use Rattle.promises_of_saving.specs.Moved.{form-1-is-never-refused-with-8, form-2-goes-back-exactly, move_wrote, load-of-moved, moves-there-and-back, form-1-moves-there-and-back}
-use Rattle.rules.specs.Listed.{Named, packet-layout, stream_listed, submission-listed, listed_at, listed}
+use Rattle.rules.specs.Listed.{Named, packet_layout, stream_listed, submission_listed, listed_at, listed}
 use Rattle.promises_of_submissions.specs.Reads.{AgreeOn, Ends}
 use Rattle.promises_of_submissions.specs.LocalWrites.{AgreeAt}
 use Rattle.promises_of_leftovers.specs.Course.{SameUnits}
 use Rattle.promises_of_leftovers.specs.Submissions.{openings}
-use Rattle.promises_of_leftovers.specs.Matter.{replies-of, as_it_is, AgreeOnListed, SameResults, bytes-not-listed-cannot-matter as only-the-listed}
+use Rattle.promises_of_leftovers.specs.Matter.{replies_of, as_it_is, AgreeOnListed, SameResults, bytes-not-listed-cannot-matter as only-the-listed}
 use Rattle.promises_of_leftovers.specs.AskedOver.{AgreeOnListedAsked, SameResultsAsked, whatever-is-asked-bytes-not-listed-cannot-matter as only-the-listed-asked, AskedAlike, SameResultsMoving, in-moving-memory-bytes-not-listed-cannot-matter}
 use Rattle.promises_of_leftovers.specs.Fixed.{listed-is-fixed-at}
 use Rattle.promises_of_leftovers.specs.UpTo.{Before, up-to-the-settling, while-it-is-in-work, each-unit, whole-submission}
@@ -131,27 +131,27 @@ use Rattle.promises_of_leftovers.specs.Spare.{Covered, Between, SpareBytes, agre
 -- ---- demand 1
 
 -- the answer that a call gives, of what it is lent
-unfoldable pub answer-of : Call → World → ℕ
-answer-of (writes offset v) w = (call-write w.state offset v).answer
-answer-of (reads offset) w = (call-read w.state offset).answer
-answer-of (runs n) w = (call-run w n).answer
-answer-of (records i) w = (call-record w.state i).answer
-answer-of (answers good n) w = (call-answer w good n).answer
+unfoldable pub answer_of : Call → World → ℕ
+answer_of (writes offset v) w = (call_write w.state offset v).answer
+answer_of (reads offset) w = (call_read w.state offset).answer
+answer_of (runs n) w = (call_run w n).answer
+answer_of (records i) w = (call_record w.state i).answer
+answer_of (answers good n) w = (call_answer w good n).answer
 
 -- "Call answer .. Given exactly when": 0 is done; 1 "lent memory has another length than at making"; 2 "no such register, or not readable/writable"; 3 "host
 -- answer, nothing waiting"; 4 "record index not below the count, or nothing waiting". "1 comes before 3."
 pub record GivenExactly (w : World) : Type 0 where
-  pub run-1 : (n : ℕ) → Exactly ((call-run w n).answer ≡ other_memory) (lent_another w ≡ true)
-  pub run-0 : (n : ℕ) → Exactly ((call-run w n).answer ≡ done) (lent_another w ≡ false)
-  pub answer-1 : (good : Bool) (n : ℕ) → Exactly ((call-answer w good n).answer ≡ other_memory) (lent_another w ≡ true)
-  pub answer-3 : (good : Bool) (n : ℕ) → Exactly ((call-answer w good n).answer ≡ nothing_waits) ((lent_another w ≡ false) × (waits w.state ≡ false))
-  pub answer-0 : (good : Bool) (n : ℕ) → Exactly ((call-answer w good n).answer ≡ done) ((lent_another w ≡ false) × (waits w.state ≡ true))
-  pub write-2 : (offset v : ℕ) → Exactly ((call-write w.state offset v).answer ≡ no_register) (NoneOf writable_offsets offset)
-  pub write-0 : (offset v : ℕ) → Exactly ((call-write w.state offset v).answer ≡ done) (NoneOf writable_offsets offset → ⊥)
-  pub read-2 : (offset : ℕ) → Exactly ((call-read w.state offset).answer ≡ no_register) (NoneOf readable_offsets offset)
-  pub read-0 : (offset : ℕ) → Exactly ((call-read w.state offset).answer ≡ done) (NoneOf readable_offsets offset → ⊥)
-  pub record-4 : (i : ℕ) → Exactly ((call-record w.state i).answer ≡ no_record) ((waits w.state ≡ false) ⊎ (length (records_waiting w.state) ≤ i))
-  pub record-0 : (i : ℕ) → Exactly ((call-record w.state i).answer ≡ done) ((waits w.state ≡ true) × (i < length (records_waiting w.state)))
+  pub run-1 : (n : ℕ) → Exactly ((call_run w n).answer ≡ other_memory) (lent_another w ≡ true)
+  pub run-0 : (n : ℕ) → Exactly ((call_run w n).answer ≡ done) (lent_another w ≡ false)
+  pub answer-1 : (good : Bool) (n : ℕ) → Exactly ((call_answer w good n).answer ≡ other_memory) (lent_another w ≡ true)
+  pub answer-3 : (good : Bool) (n : ℕ) → Exactly ((call_answer w good n).answer ≡ nothing_waits) ((lent_another w ≡ false) × (waits w.state ≡ false))
+  pub answer-0 : (good : Bool) (n : ℕ) → Exactly ((call_answer w good n).answer ≡ done) ((lent_another w ≡ false) × (waits w.state ≡ true))
+  pub write-2 : (offset v : ℕ) → Exactly ((call_write w.state offset v).answer ≡ no_register) (NoneOf writable_offsets offset)
+  pub write-0 : (offset v : ℕ) → Exactly ((call_write w.state offset v).answer ≡ done) (NoneOf writable_offsets offset → ⊥)
+  pub read-2 : (offset : ℕ) → Exactly ((call_read w.state offset).answer ≡ no_register) (NoneOf readable_offsets offset)
+  pub read-0 : (offset : ℕ) → Exactly ((call_read w.state offset).answer ≡ done) (NoneOf readable_offsets offset → ⊥)
+  pub record-4 : (i : ℕ) → Exactly ((call_record w.state i).answer ≡ no_record) ((waits w.state ≡ false) ⊎ (length (records_waiting w.state) ≤ i))
+  pub record-0 : (i : ℕ) → Exactly ((call_record w.state i).answer ≡ done) ((waits w.state ≡ true) × (i < length (records_waiting w.state)))
 
 pub each-answer-is-given-exactly-when-it-is-due : (w : World) → GivenExactly w
 each-answer-is-given-exactly-when-it-is-due w =
@@ -170,8 +170,8 @@ each-answer-is-given-exactly-when-it-is-due w =
     }
 
 -- 1. "A refused call gives its number and changes no state and no byte."
-pub refused-call-changes-nothing : (c : Call) (w : World) → (answer-of c w ≡ done → ⊥) → after c w ≡ w
-unfolding answer-of after
+pub refused-call-changes-nothing : (c : Call) (w : World) → (answer_of c w ≡ done → ⊥) → after c w ≡ w
+unfolding answer_of after
 refused-call-changes-nothing (writes offset v) w h = rw (refused-write-changes-nothing w.state offset v h)
 refused-call-changes-nothing (reads offset) w h = refl
 refused-call-changes-nothing (runs n) w h = refused-run-changes-nothing w n h
@@ -180,14 +180,14 @@ refused-call-changes-nothing (answers good n) w h = refused-answer-changes-nothi
 
 -- "a value returned beside them is zero (idle for run)"
 pub record SaysNothing (w : World) : Type 0 where
-  pub run : (n : ℕ) → ((call-run w n).answer ≡ done → ⊥) → ((call-run w n).units ≡ 0) × ((call-run w n).ended ≡ Idle)
-  pub read : (offset : ℕ) → ((call-read w.state offset).answer ≡ done → ⊥) → (call-read w.state offset).value ≡ 0
-  pub range : (i : ℕ) → ((call-record w.state i).answer ≡ done → ⊥) → (call-record w.state i).range ≡ no_range
+  pub run : (n : ℕ) → ((call_run w n).answer ≡ done → ⊥) → ((call_run w n).units ≡ 0) × ((call_run w n).ended ≡ Idle)
+  pub read : (offset : ℕ) → ((call_read w.state offset).answer ≡ done → ⊥) → (call_read w.state offset).value ≡ 0
+  pub range : (i : ℕ) → ((call_record w.state i).answer ≡ done → ⊥) → (call_record w.state i).range ≡ no_range
   -- wish 6: nothing was run
-  pub answer : (good : Bool) (n : ℕ) → ((call-answer w good n).answer ≡ done → ⊥) → ((call-answer w good n).units ≡ 0) × ((call-answer w good n).ended ≡ Idle)
+  pub answer : (good : Bool) (n : ℕ) → ((call_answer w good n).answer ≡ done → ⊥) → ((call_answer w good n).units ≡ 0) × ((call_answer w good n).ended ≡ Idle)
 
 pub refused-call-says-nothing : (w : World) → SaysNothing w
-unfolding call-read call-record
+unfolding call_read call_record
 refused-call-says-nothing w =
     record {
       run = λ n. of-run (λ (r : Ran). (r.answer ≡ done → ⊥) → (r.units ≡ 0) × (r.ended ≡ Idle)) w n (λ e h. (refl, refl)) (λ e h. absurd (h refl));
@@ -209,10 +209,10 @@ refused-call-says-nothing w =
 -- 2. "touches nothing outside what it was lent": of guest memory only the heads and the fence pages of submissions that settled are written.
 -- Every list of calls has a history, which says what settled, and memory after it is what those settlings write.
 pub only-heads-and-pages-change : (cs : List Call) (w : World)
-    → (es : List Event) × (History w cs es (after-all cs w) × WrittenBy w es (after-all cs w))
+    → (es : List Event) × (History w cs es (after_all cs w) × WrittenBy w es (after_all cs w))
 only-heads-and-pages-change cs w =
     let h = calls-have-events cs w in
-    (h.0, (h.1, calls-write w cs h.0 (after-all cs w) h.1))
+    (h.0, (h.1, calls-write w cs h.0 (after_all cs w) h.1))
 
 -- ---- demand 2
 
@@ -221,7 +221,7 @@ only-heads-and-pages-change cs w =
 -- end, through whole submissions, each from its opening to what the unsliced rules give, some units into the next. There is one such
 -- place, since the acts lead there one by one, each unit where one is due and each answer where one is awaited (`one_place`).
 pub submissions_go_by_the_rules : (cs : List Call) (w : World) → NoReset cs
-    → Led w (acts-of-all cs w) (after-all cs w) × Stands w (acts-of-all cs w) (after-all cs w)
+    → Led w (acts_of_all cs w) (after_all cs w) × Stands w (acts_of_all cs w) (after_all cs w)
 submissions_go_by_the_rules cs w n = (calls_lead cs w n, calls-stand cs w n)
 
 pub one_place : {w u v : World} {xs : List Act} → Led w xs u → Led w xs v → u ≡ v
@@ -235,18 +235,18 @@ refused-at-the-opening w q j r opened = rw opened
 
 -- "hands out nothing and keeps every resource as it was": of a submission that its opening refuses
 pub record RefusedAtItsOpening (w : World) (q : Registers) : Type 0 where
-  pub hands-out-nothing : (i : ℕ) → call-record (submitted_under q w).state.state i ≡ record { answer = no_record; range = no_range }
+  pub hands-out-nothing : (i : ℕ) → call_record (submitted_under q w).state.state i ≡ record { answer = no_record; range = no_range }
   pub keeps-belongings : (submitted_under q w).state.state.belongings ≡ w.state.belongings
 
 pub refused-at-the-opening-hands-out-nothing : (w : World) (q : Registers) (j : Job) (r : Refusal)
     → opening_of w.mem w.state.regs.ring w.state.regs.ringsize ≡ Refused j r → RefusedAtItsOpening w q
-unfolding settled call-record nth
+unfolding settled call_record nth
 refused-at-the-opening-hands-out-nothing w q j r opened =
     record { hands-out-nothing = λ i. rw (refused-at-the-opening w q j r opened); keeps-belongings = rw (refused-at-the-opening w q j r opened) }
 
 -- and of any submission while its units run: nothing is handed out before it waits, and no unit changes a resource or a token
 pub record WhileUnitsRun (w : World) : Type 0 where
-  pub hands-out-nothing : waits w.state ≡ false → (i : ℕ) → call-record w.state i ≡ record { answer = no_record; range = no_range }
+  pub hands-out-nothing : waits w.state ≡ false → (i : ℕ) → call_record w.state i ≡ record { answer = no_record; range = no_range }
   pub keeps-belongings : (n : ℕ) → (run_for n w).state.state.belongings ≡ w.state.belongings
 
 pub units-hand-out-nothing : (w : World) → WhileUnitsRun w
@@ -307,8 +307,8 @@ module _ (w : World) (q : Registers) (o : Opened) (opened : opening_of w.mem w.s
     the-number-tells-which b = unsliced-by-the-code w.mem w.state.regs.ring w.state.regs.ringsize o opened b (at_first w.state.belongings) f e
 
     -- "hands out nothing and keeps every resource as it was"
-    pub refused-hands-out-nothing : (i : ℕ) → call-record (submitted_under q w).state.state i ≡ record { answer = no_record; range = no_range }
-    unfolding settled call-record nth
+    pub refused-hands-out-nothing : (i : ℕ) → call_record (submitted_under q w).state.state i ≡ record { answer = no_record; range = no_range }
+    unfolding settled call_record nth
     refused-hands-out-nothing i = rw refused-completes
 
     pub refused-keeps-belongings : (submitted_under q w).state.state.belongings ≡ w.state.belongings
@@ -322,8 +322,8 @@ every-settling-tells-where s k b = each-settling-tells-where s k (sizes-fit s k 
 
 -- "Add a read_only register at offset 320 (hex), error detail": a read shows it, a write answers 2. "else 0": a bad ring, and the host's answer "failed"
 pub record ErrorDetail (w : World) : Type 0 where
-  pub read : call-read w.state 0x320 ≡ record { answer = done; value = w.state.regs.error.detail }
-  pub read_only : (v : ℕ) → call-write w.state 0x320 v ≡ record { answer = no_register; state = w.state }
+  pub read : call_read w.state 0x320 ≡ record { answer = done; value = w.state.regs.error.detail }
+  pub read_only : (v : ℕ) → call_write w.state 0x320 v ≡ record { answer = no_register; state = w.state }
   pub of-a-bad-ring : ((ring_refused w).state.regs.error.code ≡ bad_ring) × ((ring_refused w).state.regs.error.detail ≡ no_place)
   pub of-a-failed-one : (j : Job) (es : List Entry) (h : Progress) → w.state.work ≡ waiting j es h
       → ((answered false w).state.regs.error.code ≡ host_failed) × ((answered false w).state.regs.error.detail ≡ no_place)
@@ -333,13 +333,13 @@ the-error-detail-is-a-read-only-register w =
     record { read = detail-is-read w.state; read_only = detail-is-not-written w.state; of-a-bad-ring = bad-ring-has-no-place w; of-a-failed-one = failed-has-no-place w }
 
 -- it goes on waiting until an answer is taken, and only registers are written
-pub waits-until-answered : (cs : List Call) (w : World) → NoReset cs → waits w.state ≡ true → taken-by-all cs w ≡ []
-    → after-all cs w ≡ registering (registers-after (acts-of-all cs w) w.state.regs) w
-unfolding answers-in registers-after
+pub waits-until-answered : (cs : List Call) (w : World) → NoReset cs → waits w.state ≡ true → taken_by_all cs w ≡ []
+    → after_all cs w ≡ registering (registers_after (acts_of_all cs w) w.state.regs) w
+unfolding answers_in registers_after
 waits-until-answered cs w n k a = led-waits (calls_lead cs w n) k (acts-answers cs w ∙ a)
   where
-    led-waits : {w v : World} {xs : List Act} → Led w xs v → waits w.state ≡ true → answers-in xs ≡ []
-        → v ≡ registering (registers-after xs w.state.regs) w
+    led-waits : {w v : World} {xs : List Act} → Led w xs v → waits w.state ≡ true → answers_in xs ≡ []
+        → v ≡ registering (registers_after xs w.state.regs) w
     led-waits stays k a = refl
     led-waits {w = w} (spends g p) k a = clash g (waiting-stands-still w k)
     led-waits (writes_one offset v h p) k a = led-waits p k a
@@ -347,8 +347,8 @@ waits-until-answered cs w n k a = led-waits (calls_lead cs w n) k (acts-answers 
 
 -- an answer is taken and leads to v, with an allowance of 0; with any other, v is run from there
 pub record Settles (w : World) (good : Bool) (v : World) : Type 0 where
-  pub alone : call-answer w good 0 ≡ record { answer = done; units = 0; ended = ending v.state; world = v }
-  pub runs_on : (n : ℕ) → (call-answer w good n ≡ call-run v n) × ((call-answer w good n).answer ≡ done)
+  pub alone : call_answer w good 0 ≡ record { answer = done; units = 0; ended = ending v.state; world = v }
+  pub runs_on : (n : ℕ) → (call_answer w good n ≡ call_run v n) × ((call_answer w good n).answer ≡ done)
 
 -- and an answer that is lent the device's memory is taken: it settles the submission, with its resources and tokens or with error 27 and place 0
 pub an-answer-settles : (w : World) (j : Job) (es : List Entry) (h : Progress) → w.state.work ≡ waiting j es h → lent_another w ≡ false
@@ -357,74 +357,74 @@ an-answer-settles w j es h e l = (settles true _ (good-settles w j es h e), sett
   where
     settles : (good : Bool) (v : World) → answered good w ≡ v → Settles w good v
     settles good v is =
-        let old : answer-alone w good ≡ record { answer = done; world = answered good w } = taken-alone w good l (ap waits_on e) in
+        let old : answer_alone w good ≡ record { answer = done; world = answered good w } = taken-alone w good l (ap waits_on e) in
         record {
           alone = taken-and-run w good 0 l (ap waits_on e)
               ∙ (ap ran (run_none go step (answered good w)) ∙ ap {B = Ran} (λ (x : World). record { answer = done; units = 0; ended = ending x.state; world = x }) is);
           runs_on = λ n.
-              let both : (call-answer w good n ≡ call-run (answer-alone w good).world n) × ((call-answer w good n).answer ≡ done) =
+              let both : (call_answer w good n ≡ call_run (answer_alone w good).world n) × ((call_answer w good n).answer ≡ done) =
               (answer-and-run-is-both w good n).taken (ap (λ (a : Answered). a.answer) old) in
-              (both.0 ∙ ap (λ (x : World). call-run x n) (ap (λ (a : Answered). a.world) old ∙ is), both.1);
+              (both.0 ∙ ap (λ (x : World). call_run x n) (ap (λ (a : Answered). a.world) old ∙ is), both.1);
         }
 
 -- while it waits, each of its records is handed out
 pub each-record-is-handed-out : (s : State) (j : Job) (es : List Entry) (h : Progress) → s.work ≡ waiting j es h → (i : ℕ) (c : Record)
-    → nth h.holdings.records i ≡ found c → call-record s i ≡ record { answer = done; range = c }
-unfolding call-record
+    → nth h.holdings.records i ≡ found c → call_record s i ≡ record { answer = done; range = c }
+unfolding call_record
 each-record-is-handed-out s j es h e i c k = rw (e, k)
 
 -- 6. "Each range handed out lies inside the one matching entry of that submission's table": of any device made and called, over any memories.
 -- "Demand 2's ranges mean kinds 1 to 3" (wish 7)
-pub ranges-lie-in-their-one-entry : (s : State) → Called s → (i : ℕ) → (call-record s i).answer ≡ done → ((call-record s i).range.kind ≡ clips → ⊥)
-    → InOneEntry s i (call-record s i).range
+pub ranges-lie-in-their-one-entry : (s : State) → Called s → (i : ℕ) → (call_record s i).answer ≡ done → ((call_record s i).range.kind ≡ clips → ⊥)
+    → InOneEntry s i (call_record s i).range
 ranges-lie-in-their-one-entry = ranges-at-the-record-call
 
 -- 7. Completed fence, last error, resources and tokens are what settlings, bad rings and resets make of them, and change by nothing else.
 pub fence-error-and-belongings : (cs : List Call) (w : World)
-    → (es : List Event) × (History w cs es (after-all cs w) × Says w.state es (after-all cs w).state)
+    → (es : List Event) × (History w cs es (after_all cs w) × Says w.state es (after_all cs w).state)
 fence-error-and-belongings cs w =
     let h = calls-have-events cs w in
-    (h.0, (h.1, calls-say w cs h.0 (after-all cs w) h.1))
+    (h.0, (h.1, calls-say w cs h.0 (after_all cs w) h.1))
 
 -- The same with saves, loads and moves among the calls, over any memories, buffers and files: settlings, bad rings, resets and loads of good files make them what they
 -- are, and nothing else changes them. A load makes each of them what the file says.
-pub fence-error-and-belongings-whatever-is-asked : (qs : List Asked) (s : State) → (ds : List Change) × (Course s qs ds (left-all qs s) × SaysAll s ds (left-all qs s))
+pub fence-error-and-belongings-whatever-is-asked : (qs : List Asked) (s : State) → (ds : List Change) × (Course s qs ds (left_all qs s) × SaysAll s ds (left_all qs s))
 fence-error-and-belongings-whatever-is-asked qs s =
     let c = asked-have-changes qs s in
-    (c.0, (c.1, course-says s qs c.0 (left-all qs s) c.1))
+    (c.0, (c.1, course-says s qs c.0 (left_all qs s) c.1))
 
 -- ---- demand 3
 
 -- 8. "Two ways of slicing with the same units and the same accepted answers stand in the same state with the same memory"
-pub slicing-changes-nothing : (cs ds : List Call) (w : World) → NoWrite cs → NoWrite ds → units-of-all cs w ≡ units-of-all ds w
-    → taken-by-all cs w ≡ taken-by-all ds w → after-all cs w ≡ after-all ds w
+pub slicing-changes-nothing : (cs ds : List Call) (w : World) → NoWrite cs → NoWrite ds → units_of_all cs w ≡ units_of_all ds w
+    → taken_by_all cs w ≡ taken_by_all ds w → after_all cs w ≡ after_all ds w
 slicing-changes-nothing = same-units-same-answers
 
 -- With register writes among the calls: the same units, writes and answers in the same order, however the runs were cut
-pub the-same-acts-lead-to-the-same-world : (cs ds : List Call) (w : World) → NoReset cs → NoReset ds → acts-of-all cs w ≡ acts-of-all ds w
-    → after-all cs w ≡ after-all ds w
+pub the-same-acts-lead-to-the-same-world : (cs ds : List Call) (w : World) → NoReset cs → NoReset ds → acts_of_all cs w ≡ acts_of_all ds w
+    → after_all cs w ≡ after_all ds w
 the-same-acts-lead-to-the-same-world = same-acts-same-world
 
 -- "the units are those rules' own count": `Stands` splits the acts of calls into the rest of what was in work at the start, whole submissions and the next
 -- one. The units that the calls report are those of the rest, the unsliced rules' count of each whole submission, and those of the next so far. The answers
 -- that they took are those given between the whole submissions.
 pub record OwnCount (cs : List Call) (w : World) {x y : World} {night : List Act} (first next : List Act) (s : Served x night y) : Type 0 where
-  pub units : units-of-all cs w ≡ units_in first + (counted s + units_in next)
-  pub answers : taken-by-all cs w ≡ given s
+  pub units : units_of_all cs w ≡ units_in first + (counted s + units_in next)
+  pub answers : taken_by_all cs w ≡ given s
 
-pub the-units-are-the-rules-own-count : (cs : List Call) (w : World) {x y v : World} {first night next : List Act} → acts-of-all cs w ≡ first ++ (night ++ next)
+pub the-units-are-the-rules-own-count : (cs : List Call) (w : World) {x y v : World} {first night next : List Act} → acts_of_all cs w ≡ first ++ (night ++ next)
     → Rest w first x → (s : Served x night y) → Next y next v → OwnCount cs w first next s
 the-units-are-the-rules-own-count cs w {first = first} {next = next} e r s n =
     record { units = units-add-up cs w first next e s; answers = answers-are-those-given cs w first next e s r n }
 
 -- 9. "by a counted allowance of small steps": a run spends its allowance, unless nothing is due any more, and never more
 pub record Allowed (w : World) (n : ℕ) : Type 0 where
-  pub most : (call-run w n).units ≤ n
-  pub all-or-done : lent_another w ≡ false → ((call-run w n).units ≡ n) ⊎ (go (call-run w n).world ≡ false)
-  pub paused : (call-run w n).ended ≡ Paused → (call-run w n).units ≡ n
+  pub most : (call_run w n).units ≤ n
+  pub all-or-done : lent_another w ≡ false → ((call_run w n).units ≡ n) ⊎ (go (call_run w n).world ≡ false)
+  pub paused : (call_run w n).ended ≡ Paused → (call_run w n).units ≡ n
   -- it says in which state the device then is, and spends nothing where nothing is due
-  pub ends : lent_another w ≡ false → (call-run w n).ended ≡ ending (call-run w n).world.state
-  pub still : go w ≡ false → ((call-run w n).units ≡ 0) × ((call-run w n).world ≡ w)
+  pub ends : lent_another w ≡ false → (call_run w n).ended ≡ ending (call_run w n).world.state
+  pub still : go w ≡ false → ((call_run w n).units ≡ 0) × ((call_run w n).world ≡ w)
 
 pub a-run-spends-its-allowance : (w : World) (n : ℕ) → Allowed w n
 a-run-spends-its-allowance w n =
@@ -438,10 +438,10 @@ a-run-spends-its-allowance w n =
 
 -- and so does the run after an answer
 pub record AllowedAfter (w : World) (good : Bool) (n : ℕ) : Type 0 where
-  pub most : (call-answer w good n).units ≤ n
-  pub all-or-done : (call-answer w good n).answer ≡ done → ((call-answer w good n).units ≡ n) ⊎ (go (call-answer w good n).world ≡ false)
-  pub paused : (call-answer w good n).ended ≡ Paused → (call-answer w good n).units ≡ n
-  pub ends : (call-answer w good n).answer ≡ done → (call-answer w good n).ended ≡ ending (call-answer w good n).world.state
+  pub most : (call_answer w good n).units ≤ n
+  pub all-or-done : (call_answer w good n).answer ≡ done → ((call_answer w good n).units ≡ n) ⊎ (go (call_answer w good n).world ≡ false)
+  pub paused : (call_answer w good n).ended ≡ Paused → (call_answer w good n).units ≡ n
+  pub ends : (call_answer w good n).answer ≡ done → (call_answer w good n).ended ≡ ending (call_answer w good n).world.state
 
 pub an-answer-spends-its-allowance : (w : World) (good : Bool) (n : ℕ) → AllowedAfter w good n
 an-answer-spends-its-allowance w good n =
@@ -460,7 +460,7 @@ pub answer-and-carry-on : (w : World) (good : Bool) (n : ℕ) → IsBoth w good 
 answer-and-carry-on = answer-and-run-is-both
 
 pub an-allowance-of-0-is-the-old-call : (w : World) (good : Bool)
-    → ((call-answer w good 0).answer ≡ (answer-alone w good).answer) × ((call-answer w good 0).world ≡ (answer-alone w good).world) × ((call-answer w good 0).units ≡ 0)
+    → ((call_answer w good 0).answer ≡ (answer_alone w good).answer) × ((call_answer w good 0).world ≡ (answer_alone w good).world) × ((call_answer w good 0).units ≡ 0)
 an-allowance-of-0-is-the-old-call = allowance-0-is-the-old-call
 
 -- each unit is one of the rules' units: it works on; or finds a bad ring or no work; or settles with a rule that is broken there
@@ -469,13 +469,13 @@ a-unit-is-the-rules = unit
 
 -- 10. A unit is fixed by what it reads of the memory lent at that unit: what was read ahead, and what another unit reads, cannot matter.
 pub a-unit-reads-only-its-own : (s : State) (m m' : List ℕ) → length m ≡ length m' → (go (lent s m) ≡ true → SameWhereRead s m m')
-    → SameRun m m' (call-run (lent s m) 1) (call-run (lent s m') 1)
+    → SameRun m m' (call_run (lent s m) 1) (call_run (lent s m') 1)
 a-unit-reads-only-its-own = run-of-one-reads-only
 
 -- ---- 01, "Night-log examples"
 
 -- "[P] marks those to be proved together as a single table of cases with one statement"
-pub the-night-log-holds : agree night-log ≡ true
+pub the-night-log-holds : agree night_log ≡ true
 the-night-log-holds = night-log-holds
 
 -- ---- wish 2, "newer drivers send longer packets"
@@ -489,7 +489,7 @@ appended-bytes-are-ignored = appended-bytes-same-outcome
 -- and a run has the same answer, units, ending and state, up to the end of the submission
 pub appended-bytes-are-ignored-by-runs : (m m' : List ℕ) → length m ≡ length m' → (n : ℕ) (s : State) → SameAhead s.regs s.work m m'
     → ((i : ℕ) → 0 < i → i < n → midst (run_for i (lent s m)).state.state.work ≡ true)
-    → SameRun m m' (call-run (lent s m) n) (call-run (lent s m') n)
+    → SameRun m m' (call_run (lent s m) n) (call_run (lent s m') n)
 appended-bytes-are-ignored-by-runs = appended-bytes-same-run
 
 -- ---- wish 7, "state packets"
@@ -497,20 +497,20 @@ appended-bytes-are-ignored-by-runs = appended-bytes-same-run
 -- "Read each packet as one of viewport, clear, scissor or target": what is framed is read from its first bytes; a viewport or clear with a NaN
 -- among its floats is a case of its own
 pub record ReadAs (b : List ℕ) : Type 0 where
-  pub framed : (es : List Entry) (h : Progress) (op size : ℕ) → frame-of b ≡ Whole op size → take-packet es h b ≡ pass es h (packet-of op b)
-  pub target : packet-of set_target b ≡ Target (target-fields b)
-  pub scissor : packet-of set_scissor b ≡ Scissor (scissor-fields b)
-  pub viewport : packet-of set_viewport b ≡ pick (nan_among (viewport_floats b)) NotANumber (Viewport (viewport-fields b))
-  pub clear : packet-of clear-opcode b ≡ pick (nan_among (clear_floats b)) NotANumber (Clear (clear-fields b))
+  pub framed : (es : List Entry) (h : Progress) (op size : ℕ) → frame_of b ≡ Whole op size → take_packet es h b ≡ pass es h (packet_of op b)
+  pub target : packet_of set_target b ≡ Target (target_fields b)
+  pub scissor : packet_of set_scissor b ≡ Scissor (scissor_fields b)
+  pub viewport : packet_of set_viewport b ≡ pick (nan_among (viewport_floats b)) NotANumber (Viewport (viewport_fields b))
+  pub clear : packet_of clear-opcode b ≡ pick (nan_among (clear_floats b)) NotANumber (Clear (clear_fields b))
 
 pub state-packets-are-read : (b : List ℕ) → ReadAs b
-unfolding packet-of known
+unfolding packet_of known
 state-packets-are-read b = record { framed = framed-is-read b; target = refl; scissor = refl; viewport = refl; clear = refl }
 
 -- "its floats carried bit for bit": those of a packet without a NaN have the bits of its words
 pub record Carried (b : List ℕ) : Type 0 where
-  pub viewport : nan_among (viewport_floats b) ≡ false → ViewportCarried b (viewport-fields b)
-  pub clear : nan_among (clear_floats b) ≡ false → ClearCarried b (clear-fields b)
+  pub viewport : nan_among (viewport_floats b) ≡ false → ViewportCarried b (viewport_fields b)
+  pub clear : nan_among (clear_floats b) ≡ false → ClearCarried b (clear_fields b)
 
 pub floats-are-carried-bit-for-bit : (b : List ℕ) → OfBytes b → Carried b
 floats-are-carried-bit-for-bit b bytes = record { viewport = λ e. (viewport-is-carried b bytes e).1; clear = λ e. (clear-is-carried b bytes e).1 }
@@ -518,8 +518,8 @@ floats-are-carried-bit-for-bit b bytes = record { viewport = λ e. (viewport-is-
 -- "Error 30": a viewport or a clear is judged by its words, and any infinity or NaN among its floats breaks the rule. Nothing of
 -- what is held changes.
 pub record GoesByItsWords (b : List ℕ) : Type 0 where
-  pub viewport : (es : List Entry) (h : Progress) → pass es h (packet-of set_viewport b) ≡ judged_state h (bad_viewport_words b)
-  pub clear : (es : List Entry) (h : Progress) → pass es h (packet-of clear-opcode b) ≡ judged_state h (bad_clear_words b)
+  pub viewport : (es : List Entry) (h : Progress) → pass es h (packet_of set_viewport b) ≡ judged_state h (bad_viewport_words b)
+  pub clear : (es : List Entry) (h : Progress) → pass es h (packet_of clear-opcode b) ≡ judged_state h (bad_clear_words b)
   pub not-finite-viewport : not_finite_among (viewport_floats b) ≡ true → bad_viewport_words b ≡ true
   pub not-finite-clear : not_finite_among (clear_floats b) ≡ true → bad_clear_words b ≡ true
 
@@ -533,7 +533,7 @@ viewport-and-clear-go-by-their-words b bytes =
     }
 
 -- "Floats are compared in the order of IEEE 754 as told from their u32 bits, -0 equal to 0": the rules' order of two words is that of their floats
-pub words-compare-as-their-floats : (a b : ℕ) → a < 2 ^ 32 → b < 2 ^ 32 → is-nan a ≡ false → is-nan b ≡ false → below a b ≡ lt (float_of a) (float_of b)
+pub words-compare-as-their-floats : (a b : ℕ) → a < 2 ^ 32 → b < 2 ^ 32 → is_nan_bits a ≡ false → is_nan_bits b ≡ false → below a b ≡ lt (float_of a) (float_of b)
 words-compare-as-their-floats = below-is-the-order
 
 pub the_rules_bounds_are_0_and_1 : TheBounds
@@ -542,7 +542,7 @@ the_rules_bounds_are_0_and_1 = the_bounds
 -- "The target is a live texture, else 18": a target packet that names one is accepted, and that is the target from then on; else nothing changes
 pub record TargetPacket (es : List Entry) (h : Progress) (c : SetTarget) : Type 0 where
   pub set : LiveTexture c.handle h.holdings → pass es h (Target c) ≡ record { verdict = Fine; held = record { holdings = h.holdings; target = c.handle; tokens = h.tokens } }
-  pub refused : live-texture c.handle h.holdings ≡ none → pass es h (Target c) ≡ record { verdict = Broken (refusal bad_handle); held = h }
+  pub refused : live_texture c.handle h.holdings ≡ none → pass es h (Target c) ≡ record { verdict = Broken (refusal bad_handle); held = h }
 
 pub a-target-is-a-live-texture : (es : List Entry) (h : Progress) (c : SetTarget) → TargetPacket es h c
 a-target-is-a-live-texture es h c = record { set = λ l. target-is-set es h c l.0 l.1; refused = target-is-refused es h c }
@@ -576,9 +576,9 @@ targets-stay-live-textures s k j t at es h e = (first-packet-finds-no-target s k
 -- "Error 30 .. scissor sides negative; scissor without a target", then 19, else it is accepted
 pub record ScissorPacket (es : List Entry) (h : Progress) (c : SetScissor) : Type 0 where
   pub no_target : h.target ≡ 0 → pass es h (Scissor c) ≡ record { verdict = Broken (refusal bad_state); held = h }
-  pub negative : LiveTexture h.target h.holdings → bad-sides c ≡ true → pass es h (Scissor c) ≡ record { verdict = Broken (refusal bad_state); held = h }
-  pub no_room : LiveTexture h.target h.holdings → bad-sides c ≡ false → most ≤ length h.holdings.records → pass es h (Scissor c) ≡ record { verdict = Broken (refusal too_many); held = h }
-  pub accepted : LiveTexture h.target h.holdings → bad-sides c ≡ false → length h.holdings.records < most → (pass es h (Scissor c)).verdict ≡ Fine
+  pub negative : LiveTexture h.target h.holdings → bad_sides c ≡ true → pass es h (Scissor c) ≡ record { verdict = Broken (refusal bad_state); held = h }
+  pub no_room : LiveTexture h.target h.holdings → bad_sides c ≡ false → most ≤ length h.holdings.records → pass es h (Scissor c) ≡ record { verdict = Broken (refusal too_many); held = h }
+  pub accepted : LiveTexture h.target h.holdings → bad_sides c ≡ false → length h.holdings.records < most → (pass es h (Scissor c)).verdict ≡ Fine
 
 pub when-a-scissor-is-accepted : (es : List Entry) (h : Progress) (c : SetScissor) → ScissorPacket es h c
 when-a-scissor-is-accepted es h c =
@@ -594,23 +594,23 @@ pub a-scissor-is-clipped-to-its-target : (es : List Entry) (h : Progress) (c : S
 a-scissor-is-clipped-to-its-target = accepted-scissor-is-clipped
 
 -- a record is of kind 1, 2, 3 or 4: of any device made and called
-pub records-are-of-four-kinds : (s : State) → Called s → (i : ℕ) → (call-record s i).answer ≡ done → OfAKind (call-record s i).range
+pub records-are-of-four-kinds : (s : State) → Called s → (i : ℕ) → (call_record s i).answer ≡ done → OfAKind (call_record s i).range
 records-are-of-four-kinds = kinds-at-the-record-call
 
 -- ---- wish 5, "two programs, one surface"
 
 -- "1808 export and 1809 import, 24 bytes, handle at 8 and token at 16; 1810 release, 16 bytes, token at 8"
 pub record SharedAs (b : List ℕ) : Type 0 where
-  pub export : packet-of export_surface b ≡ Export (record { handle = word b 8; token = long b 16 })
-  pub import : packet-of import_surface b ≡ Import (record { handle = word b 8; token = long b 16 })
-  pub release : packet-of release_token b ≡ Release (record { token = long b 8 })
+  pub export : packet_of export_surface b ≡ Export (record { handle = word b 8; token = long b 16 })
+  pub import : packet_of import_surface b ≡ Import (record { handle = word b 8; token = long b 16 })
+  pub release : packet_of release_token b ≡ Release (record { token = long b 8 })
   -- the least bytes of each
   pub export-bytes : least_size 1808 ≡ 24
   pub import-bytes : least_size 1809 ≡ 24
   pub release-bytes : least_size 1810 ≡ 16
 
 pub shared-packets-are-read : (b : List ℕ) → SharedAs b
-unfolding packet-of least_size known export-fields import-fields release-fields
+unfolding packet_of least_size known export_fields import_fields release_fields
 shared-packets-are-read b = record { export = refl; import = refl; release = refl; export-bytes = refl; import-bytes = refl; release-bytes = refl }
 
 -- "The handle check (18, create's rule for import) comes first, then shape, token, room": each refusal and each acceptance, over any progress
@@ -665,13 +665,13 @@ names-between-resets = a-bound-token-keeps-its-names-between-resets
 -- answered good exports, is bound after them exactly unless a submission answered good has released it or destroyed the last name of its resource. One that is bound
 -- after them was bound before them or exported since.
 pub tokens-live-from-one-submission-to-the-next : (s t : State) (k : Called s) (q : CalledOn s t)
-    → TokensLive (packets-since s t k q).by_good s.belongings.tokens t.belongings.tokens
+    → TokensLive (packets_since s t k q).by_good s.belongings.tokens t.belongings.tokens
 tokens-live-from-one-submission-to-the-next = tokens-live-between-resets
 
 -- "Import and release give 29 for a token not bound to a live resource": one that was bound is bound still exactly if no submission answered good has spent it.
 pub a-bound-token-stays-bound-exactly-unless-spent : (s t : State) (k : Called s) (q : CalledOn s t) (token : ℕ) → IsBound token s.belongings.tokens
-    → ((Some (Spends token) (packets-since s t k q).by_good → ⊥) → IsBound token t.belongings.tokens)
-    × (IsBound token t.belongings.tokens → Some (Spends token) (packets-since s t k q).by_good → ⊥)
+    → ((Some (Spends token) (packets_since s t k q).by_good → ⊥) → IsBound token t.belongings.tokens)
+    × (IsBound token t.belongings.tokens → Some (Spends token) (packets_since s t k q).by_good → ⊥)
 a-bound-token-stays-bound-exactly-unless-spent = a-token-stays-bound-exactly
 
 -- Bound, as it is said here, is what import itself looks for.
@@ -681,7 +681,7 @@ a-bound-token-is-one-that-import-finds = bound-exactly-if-found
 -- "Import makes the handle a second name for the exported resource", over any calls between resets: a token that is bound before and after them is bound to a
 -- resource of the same kind, bytes, pitch, backing and offset. One that was exported since and is bound is bound to one that has those of the exported handle's
 -- resource, as it was at the export.
-pub a-token-keeps-its-resource : (s t : State) (k : Called s) (q : CalledOn s t) → TokensMean (packets-since s t k q).by_good s.belongings t.belongings
+pub a-token-keeps-its-resource : (s t : State) (k : Called s) (q : CalledOn s t) → TokensMean (packets_since s t k q).by_good s.belongings t.belongings
 a-token-keeps-its-resource = tokens-mean-between-resets
 
 -- So an import in a later submission is accepted and makes a second name, if its token was bound or was exported since by a submission answered good, and its handle is
@@ -689,11 +689,11 @@ a-token-keeps-its-resource = tokens-mean-between-resets
 -- the token was bound to, or that was exported.
 pub an-import-in-a-later-submission-is-accepted : (s t : State) (k : Called s) → Called t → (q : CalledOn s t) (j : Job) (r : Stream) (at : ℕ) (es : List Entry) (h : Progress)
     → t.work ≡ packets j r at es h → (c : ImportSurface)
-    → IsBound c.token s.belongings.tokens ⊎ Some (Exports c.token) (packets-since s t k q).by_good
+    → IsBound c.token s.belongings.tokens ⊎ Some (Exports c.token) (packets_since s t k q).by_good
     → (c.handle ≡ 0 → ⊥) → live c.handle h.holdings ≡ none → length h.holdings.resources < most
     → (ImportAccepted es h c
-    × NamesTheExported c.token c.handle ((packets-since s t k q).in_work ++ (packets-since s t k q).by_good) s.belongings (pass es h (Import c)).held.holdings.resources)
-    ⊎ Some (Spends c.token) ((packets-since s t k q).in_work ++ (packets-since s t k q).by_good)
+    × NamesTheExported c.token c.handle ((packets_since s t k q).in_work ++ (packets_since s t k q).by_good) s.belongings (pass es h (Import c)).held.holdings.resources)
+    ⊎ Some (Spends c.token) ((packets_since s t k q).in_work ++ (packets_since s t k q).by_good)
 an-import-in-a-later-submission-is-accepted s t k l q j r at es h e c b some free room =
     ⊎_elim (λ x. inl (x, a-later-import-names-the-exported s t k l q j r at es h e c x.accepted)) (λ x. inr x)
     (a-later-import-is-accepted s t k l q j r at es h e c b some free room)
@@ -703,7 +703,7 @@ pub bound-since-the-last-make-reset-or-load : (s : State) (k : Called s) (token 
 bound-since-the-last-make-reset-or-load = bound-since-make-reset-or-load
 
 -- With saves, moves and loads of bad files among the calls all four hold: they speak of calls up to the next reset or load of a good file.
-pub whatever-is-asked-between-resets-and-loads : (s : State) (k : Called s) (qs : List Asked) (n : NoResetOrLoad qs) → BetweenResetsAndLoads s (left-all qs s) k (asked-on qs s n)
+pub whatever-is-asked-between-resets-and-loads : (s : State) (k : Called s) (qs : List Asked) (n : NoResetOrLoad qs) → BetweenResetsAndLoads s (left_all qs s) k (asked_on qs s n)
 whatever-is-asked-between-resets-and-loads = whatever-is-asked
 
 -- "Only textures with one mip and one layer may be exported": of any device made and called, no other resource has two names or a token. "At most
@@ -718,7 +718,7 @@ only-such-textures-are-shared s k = record { two-names = shared-is-one-mip-one-l
 
 -- "forgotten at reset"; "A submission refused or answered failed leaves the tokens, too, as they were before it"
 pub record Leaves (w : World) : Type 0 where
-  pub forgotten : (offset v : ℕ) → resets offset v ≡ true → (call-write w.state offset v).state.belongings ≡ nothing_owned
+  pub forgotten : (offset v : ℕ) → resets offset v ≡ true → (call_write w.state offset v).state.belongings ≡ nothing_owned
   -- a unit never changes them, so none that refuses does
   pub refused : (step w).state.belongings ≡ w.state.belongings
   pub failed : (answered false w).state.belongings ≡ w.state.belongings
@@ -731,19 +731,19 @@ when-tokens-are-left-and-when-forgotten w =
 
 -- "the device at rest written into a lent buffer and read back elsewhere": what was saved is loaded as the same device, whatever the device it is loaded
 -- into was: the same memory length, registers and flag, the same resources by their names, the same tokens, nothing in work
-pub a-saved-desk-is-read-back-elsewhere : (f : Form) (s : State) → Called s → Fits s → (buffer : List ℕ) → (call-save f s buffer).answer ≡ done
-    → (t : State) → LoadedBack s (call-load t (take (call-save f s buffer).length (call-save f s buffer).buffer))
+pub a-saved-desk-is-read-back-elsewhere : (f : Form) (s : State) → Called s → Fits s → (buffer : List ℕ) → (call_save f s buffer).answer ≡ done
+    → (t : State) → LoadedBack s (call_load t (take (call_save f s buffer).length (call_save f s buffer).buffer))
 a-saved-desk-is-read-back-elsewhere f s k fits = load-of-save f s (sound-is-savable s (called-sound s k) fits)
 
 -- "Saving while a submission is in work answers 5; then a buffer too short answers 6; both leave it untouched. It gives the length and keeps later
 -- bytes." And by wish 5, "Saving in form 1 answers 8 (after 5, before 6)": form 2 has a field for all, so `beyond` is false of it.
 pub record Saving (f : Form) (s : State) (buffer : List ℕ) : Type 0 where
-  pub five : at_rest s.work ≡ false → call-save f s buffer ≡ not_saved in_work buffer
-  pub eight : at_rest s.work ≡ true → beyond f s ≡ true → call-save f s buffer ≡ not_saved not_in_form buffer
-  pub six : at_rest s.work ≡ true → beyond f s ≡ false → length buffer < length (saved f s) → call-save f s buffer ≡ not_saved too_short buffer
-  pub done-when : ((call-save f s buffer).answer ≡ done → SaveDone f s buffer) × (SaveDone f s buffer → (call-save f s buffer).answer ≡ done)
-  pub untouched : ((call-save f s buffer).answer ≡ done → ⊥) → NothingWritten (call-save f s buffer) buffer
-  pub later-bytes : (call-save f s buffer).answer ≡ done → FileWritten (call-save f s buffer) (saved f s) buffer
+  pub five : at_rest s.work ≡ false → call_save f s buffer ≡ not_saved in_work buffer
+  pub eight : at_rest s.work ≡ true → beyond f s ≡ true → call_save f s buffer ≡ not_saved not_in_form buffer
+  pub six : at_rest s.work ≡ true → beyond f s ≡ false → length buffer < length (saved f s) → call_save f s buffer ≡ not_saved too_short buffer
+  pub done-when : ((call_save f s buffer).answer ≡ done → SaveDone f s buffer) × (SaveDone f s buffer → (call_save f s buffer).answer ≡ done)
+  pub untouched : ((call_save f s buffer).answer ≡ done → ⊥) → NothingWritten (call_save f s buffer) buffer
+  pub later-bytes : (call_save f s buffer).answer ≡ done → FileWritten (call_save f s buffer) (saved f s) buffer
 
 pub when-a-desk-is-saved : (f : Form) (s : State) (buffer : List ℕ) → Saving f s buffer
 when-a-desk-is-saved f s buffer =
@@ -759,7 +759,7 @@ when-a-desk-is-saved f s buffer =
 -- "once any token was used", "while detail is non-zero": form 1 answers 8 exactly then or where another name is live, unless it answers 5
 pub record EightOfForm1 (s : State) : Type 0 where
   pub beyond_when : Exactly (beyond One s ≡ true) (BeyondForm1 s)
-  pub eight-when : (buffer : List ℕ) → Exactly ((call-save One s buffer).answer ≡ not_in_form) ((at_rest s.work ≡ true) × BeyondForm1 s)
+  pub eight-when : (buffer : List ℕ) → Exactly ((call_save One s buffer).answer ≡ not_in_form) ((at_rest s.work ≡ true) × BeyondForm1 s)
 
 pub when-form-1-answers-8 : (s : State) → EightOfForm1 s
 when-form-1-answers-8 s = record { beyond_when = beyond_form_1_exactly s; eight-when = form-1-is-refused-with-8 s }
@@ -767,13 +767,13 @@ when-form-1-answers-8 s = record { beyond_when = beyond_form_1_exactly s; eight-
 -- "Loading answers 7, device unchanged, exactly when a field is missing or breaks a rule, or a byte follows the last .. It gives the offset of the first
 -- such field .. or byte": the list of rules is `file-rules`
 pub record Loading (s : State) (b : List ℕ) : Type 0 where
-  pub bad-when : ((call-load s b).answer ≡ bad_file → FirstBroken (file-rules b) (call-load s b).place) × ((p : ℕ) → FirstBroken (file-rules b) p → call-load s b ≡ record { answer = bad_file; place = p; state = s })
-  pub unchanged : (call-load s b).answer ≡ bad_file → (call-load s b).state ≡ s
-  pub in-the-file : (call-load s b).answer ≡ bad_file → (call-load s b).place ≤ length b
-  pub lowest : (call-load s b).answer ≡ bad_file → Every (NotBefore (call-load s b).place) (file-rules b)
+  pub bad-when : ((call_load s b).answer ≡ bad_file → FirstBroken (file_rules b) (call_load s b).place) × ((p : ℕ) → FirstBroken (file_rules b) p → call_load s b ≡ record { answer = bad_file; place = p; state = s })
+  pub unchanged : (call_load s b).answer ≡ bad_file → (call_load s b).state ≡ s
+  pub in-the-file : (call_load s b).answer ≡ bad_file → (call_load s b).place ≤ length b
+  pub lowest : (call_load s b).answer ≡ bad_file → Every (NotBefore (call_load s b).place) (file_rules b)
   -- and else the device is what the file says, whatever it was
-  pub good-when : ((call-load s b).answer ≡ done → Every Kept (file-rules b)) × (Every Kept (file-rules b) → call-load s b ≡ record { answer = done; place = 0; state = loaded b })
-  pub either : ((call-load s b).answer ≡ done) ⊎ ((call-load s b).answer ≡ bad_file)
+  pub good-when : ((call_load s b).answer ≡ done → Every Kept (file_rules b)) × (Every Kept (file_rules b) → call_load s b ≡ record { answer = done; place = 0; state = loaded b })
+  pub either : ((call_load s b).answer ≡ done) ⊎ ((call_load s b).answer ≡ bad_file)
 
 pub when-a-file-is-loaded : (s : State) (b : List ℕ) → Loading s b
 when-a-file-is-loaded s b =
@@ -788,25 +788,25 @@ when-a-file-is-loaded s b =
 
 -- and a good file and the device that it says are one thing: saving what was loaded in the file's form gives the same bytes, an old file with its
 -- number, and two files of one form that say the same device are equal but for that number
-pub what-was-loaded-is-saved-again : (s : State) (b : List ℕ) → OfBytes b → (call-load s b).answer ≡ done → (buffer : List ℕ) → length (with_number b) ≤ length buffer
-    → call-save (form_in b) (call-load s b).state buffer ≡ record { answer = done; length = length (with_number b); buffer = over 0 (with_number b) buffer }
+pub what-was-loaded-is-saved-again : (s : State) (b : List ℕ) → OfBytes b → (call_load s b).answer ≡ done → (buffer : List ℕ) → length (with_number b) ≤ length buffer
+    → call_save (form_in b) (call_load s b).state buffer ≡ record { answer = done; length = length (with_number b); buffer = over 0 (with_number b) buffer }
 what-was-loaded-is-saved-again = load-then-save
 
-pub one-device-has-one-file : (b c : List ℕ) → OfBytes b → OfBytes c → bad-place b ≡ none → bad-place c ≡ none → form_in b ≡ form_in c
+pub one-device-has-one-file : (b c : List ℕ) → OfBytes b → OfBytes c → bad_place b ≡ none → bad_place c ≡ none → form_in b ≡ form_in c
     → SameDevice (loaded b) (loaded c) → with_number b ≡ with_number c
 one-device-has-one-file = equal-devices-equal-files
 
 -- "Form 2 goes back exactly when both sections are empty and detail is 0, else 8 (7 comes before it, 6 after) and nothing written": the answers of a move
 pub record Moving (b buffer : List ℕ) : Type 0 where
-  pub seven-when : ((call-move b buffer).answer ≡ bad_file → LoadRefused b) × (LoadRefused b → (call-move b buffer).answer ≡ bad_file)
-  pub eight-when : ((call-move b buffer).answer ≡ not_in_form → MoveNotInForm b) × (MoveNotInForm b → (call-move b buffer).answer ≡ not_in_form)
-  pub six-when : ((call-move b buffer).answer ≡ too_short → MoveTooShort b buffer) × (MoveTooShort b buffer → (call-move b buffer).answer ≡ too_short)
-  pub done-when : ((call-move b buffer).answer ≡ done → MoveDone b buffer) × (MoveDone b buffer → (call-move b buffer).answer ≡ done)
-  pub form-1-goes : form_in b ≡ One → (call-move b buffer).answer ≡ not_in_form → ⊥
-  pub form-2-goes : bad-place b ≡ none → form_in b ≡ Two
-      → ((call-move b buffer).answer ≡ not_in_form → GoesBack (sections b) → ⊥) × ((GoesBack (sections b) → ⊥) → call-move b buffer ≡ not_saved not_in_form buffer)
-  pub untouched : ((call-move b buffer).answer ≡ done → ⊥) → NothingWritten (call-move b buffer) buffer
-  pub later-bytes : (call-move b buffer).answer ≡ done → FileWritten (call-move b buffer) (moved b) buffer
+  pub seven-when : ((call_move b buffer).answer ≡ bad_file → LoadRefused b) × (LoadRefused b → (call_move b buffer).answer ≡ bad_file)
+  pub eight-when : ((call_move b buffer).answer ≡ not_in_form → MoveNotInForm b) × (MoveNotInForm b → (call_move b buffer).answer ≡ not_in_form)
+  pub six-when : ((call_move b buffer).answer ≡ too_short → MoveTooShort b buffer) × (MoveTooShort b buffer → (call_move b buffer).answer ≡ too_short)
+  pub done-when : ((call_move b buffer).answer ≡ done → MoveDone b buffer) × (MoveDone b buffer → (call_move b buffer).answer ≡ done)
+  pub form-1-goes : form_in b ≡ One → (call_move b buffer).answer ≡ not_in_form → ⊥
+  pub form-2-goes : bad_place b ≡ none → form_in b ≡ Two
+      → ((call_move b buffer).answer ≡ not_in_form → GoesBack (sections b) → ⊥) × ((GoesBack (sections b) → ⊥) → call_move b buffer ≡ not_saved not_in_form buffer)
+  pub untouched : ((call_move b buffer).answer ≡ done → ⊥) → NothingWritten (call_move b buffer) buffer
+  pub later-bytes : (call_move b buffer).answer ≡ done → FileWritten (call_move b buffer) (moved b) buffer
 
 pub when-a-file-is-moved : (b buffer : List ℕ) → Moving b buffer
 when-a-file-is-moved b buffer =
@@ -822,21 +822,21 @@ when-a-file-is-moved b buffer =
     }
 
 -- "Every form 1 file, an old one once it has its number, moves to form 2 and back to equal bytes": form 2 takes 12 bytes more
-pub every-form-1-file-moves-to-form-2-and-back : (b : List ℕ) → OfBytes b → bad-place b ≡ none → form_in b ≡ One → (buffer back : List ℕ)
+pub every-form-1-file-moves-to-form-2-and-back : (b : List ℕ) → OfBytes b → bad_place b ≡ none → form_in b ≡ One → (buffer back : List ℕ)
     → 12 + length (with_number b) ≤ length buffer → length (with_number b) ≤ length back
-    → ((call-move b buffer).answer ≡ done)
-    × (call-move (move_wrote b buffer) back ≡ record { answer = done; length = length (with_number b); buffer = over 0 (with_number b) back })
+    → ((call_move b buffer).answer ≡ done)
+    × (call_move (move_wrote b buffer) back ≡ record { answer = done; length = length (with_number b); buffer = over 0 (with_number b) back })
 every-form-1-file-moves-to-form-2-and-back = form-1-moves-there-and-back
 
 -- and so does every file that a move was done of, one of form 2 that goes back too
-pub every-moved-file-moves-back-to-equal-bytes : (b buffer : List ℕ) → OfBytes b → (call-move b buffer).answer ≡ done
+pub every-moved-file-moves-back-to-equal-bytes : (b buffer : List ℕ) → OfBytes b → (call_move b buffer).answer ≡ done
     → (back : List ℕ) → length (with_number b) ≤ length back
-    → call-move (move_wrote b buffer) back ≡ record { answer = done; length = length (with_number b); buffer = over 0 (with_number b) back }
+    → call_move (move_wrote b buffer) back ≡ record { answer = done; length = length (with_number b); buffer = over 0 (with_number b) back }
 every-moved-file-moves-back-to-equal-bytes = moves-there-and-back
 
 -- "Loading either gives the same device"
-pub loading-either-gives-the-same-device : (b buffer : List ℕ) → OfBytes b → (call-move b buffer).answer ≡ done
-    → (t : State) → LoadedBack (loaded b) (call-load t (move_wrote b buffer))
+pub loading-either-gives-the-same-device : (b buffer : List ℕ) → OfBytes b → (call_move b buffer).answer ≡ done
+    → (t : State) → LoadedBack (loaded b) (call_load t (move_wrote b buffer))
 loading-either-gives-the-same-device = load-of-moved
 
 -- And devices that are the same behave the same for ever. A host may make any calls of both, the five calls over any memory, moving memory too, saves into any
@@ -851,24 +851,24 @@ the-same-desks-behave-the-same-for-ever s t k l = same-desks-for-ever s t (calle
 
 -- The converse: a device at rest and one that no host can tell from it are the same.
 pub indistinguishable-devices-are-the-same : (s t : State) → Called s → Called t → Fits s → Fits t → at_rest s.work ≡ true
-    → ((qs : List Asked) → told-all qs s ≡ told-all qs t) → SameDevice s t
+    → ((qs : List Asked) → told_all qs s ≡ told_all qs t) → SameDevice s t
 indistinguishable-devices-are-the-same s t k l = told-the-same-is-the-same s t (called-sound s k) (called-sound t l)
 
 -- So "read back elsewhere" means: it goes on there exactly as the saved one would have.
-pub a-saved-desk-goes-on-as-it-would-have : (f : Form) (s t : State) → Called s → Fits s → (buffer : List ℕ) → (call-save f s buffer).answer ≡ done
-    → SameForEver (call-load t (take (call-save f s buffer).length (call-save f s buffer).buffer)).state s
+pub a-saved-desk-goes-on-as-it-would-have : (f : Form) (s t : State) → Called s → Fits s → (buffer : List ℕ) → (call_save f s buffer).answer ≡ done
+    → SameForEver (call_load t (take (call_save f s buffer).length (call_save f s buffer).buffer)).state s
 a-saved-desk-goes-on-as-it-would-have f s t k = a-saved-desk-goes-on-elsewhere f s t (called-sound s k)
 
 -- And "the same device" means the same of a file that was moved.
-pub a-moved-desk-goes-on-as-it-would-have : (b buffer : List ℕ) (t : State) → OfBytes b → bad-place b ≡ none → (call-move b buffer).answer ≡ done
-    → SameForEver (call-load t (move_wrote b buffer)).state (loaded b)
+pub a-moved-desk-goes-on-as-it-would-have : (b buffer : List ℕ) (t : State) → OfBytes b → bad_place b ≡ none → (call_move b buffer).answer ≡ done
+    → SameForEver (call_load t (move_wrote b buffer)).state (loaded b)
 a-moved-desk-goes-on-as-it-would-have = a-moved-desk-goes-on-elsewhere
 
 -- "The completed fence may be lower after loading": it is what the file says, and there is a device and a file where it is lower. Apart from a load, only a reset lowers it.
 pub record WhenTheFenceFalls : Type 0 where
-  pub the-files : (s : State) (b : List ℕ) → (call-load s b).answer ≡ done → (call-load s b).state.regs.completed ≡ (loaded b).regs.completed
+  pub the-files : (s : State) (b : List ℕ) → (call_load s b).answer ≡ done → (call_load s b).state.regs.completed ≡ (loaded b).regs.completed
   pub may_be_lower : LowerAfterLoading
-  pub else-not : (qs : List Asked) (s : State) → NoResetOrLoad qs → s.regs.completed ≤ (left-all qs s).regs.completed
+  pub else-not : (qs : List Asked) (s : State) → NoResetOrLoad qs → s.regs.completed ≤ (left_all qs s).regs.completed
 
 pub the_completed_fence_may_be_lower_after_loading : WhenTheFenceFalls
 the_completed_fence_may_be_lower_after_loading =
@@ -876,14 +876,14 @@ the_completed_fence_may_be_lower_after_loading =
 
 -- "Demands 2 and 3 read from the loaded state on": the statements above are of any device, or of any that is `Called`. A device that was loaded is so, and
 -- it is sound
-pub demands_read_from_the_loaded_state_on : (s : State) (b : List ℕ) → (call-load s b).answer ≡ done
-    → Called (call-load s b).state × SoundState (call-load s b).state
+pub demands_read_from_the_loaded_state_on : (s : State) (b : List ℕ) → (call_load s b).answer ≡ done
+    → Called (call_load s b).state × SoundState (call_load s b).state
 demands_read_from_the_loaded_state_on s b d =
-    let good : bad-place b ≡ none = kept-is-good b ((loaded-exactly s b).0 d) in
+    let good : bad_place b ≡ none = kept-is-good b ((loaded-exactly s b).0 d) in
     subst (λ (l : Loaded). Called l.state × SoundState l.state) (sym (load-of-good s b good)) (loads b good, loaded-sound b good)
 
 -- and saves, loads and moves may be among the calls: whatever is asked of a device made and called, it is one still
-pub whatever_is_asked_it_is_made_and_called : (qs : List Asked) (s : State) → Called s → Called (left-all qs s)
+pub whatever_is_asked_it_is_made_and_called : (qs : List Asked) (s : State) → Called s → Called (left_all qs s)
 whatever_is_asked_it_is_made_and_called = all_asked_called
 
 -- ---- wish 12: bytes that cannot matter
@@ -895,20 +895,20 @@ whatever_is_asked_it_is_made_and_called = all_asked_called
 -- and all that is in work; and a byte that differs after them differed before. `AgreeOnListed`: on what is still to be read of the submission in work, and on all of each
 -- submission that the calls open, as memory is when it is opened
 pub record NothingElseMatters (cs : List Call) (s : State) (m m' : List ℕ) : Type 0 where
-  pub replies : replies-of as_it_is cs (lent s m) ≡ replies-of as_it_is cs (lent s m')
-  pub registers : (offset : ℕ) → call-read (after-all cs (lent s m)).state offset ≡ call-read (after-all cs (lent s m')).state offset
-  pub records : (i : ℕ) → call-record (after-all cs (lent s m)).state i ≡ call-record (after-all cs (lent s m')).state i
-  pub belongings : (after-all cs (lent s m)).state.belongings ≡ (after-all cs (lent s m')).state.belongings
-  pub state : (after-all cs (lent s m)).state ≡ (after-all cs (lent s m')).state
-  pub bytes : (i : ℕ) → AgreeAt i m m' → AgreeAt i (after-all cs (lent s m)).mem (after-all cs (lent s m')).mem
+  pub replies : replies_of as_it_is cs (lent s m) ≡ replies_of as_it_is cs (lent s m')
+  pub registers : (offset : ℕ) → call_read (after_all cs (lent s m)).state offset ≡ call_read (after_all cs (lent s m')).state offset
+  pub records : (i : ℕ) → call_record (after_all cs (lent s m)).state i ≡ call_record (after_all cs (lent s m')).state i
+  pub belongings : (after_all cs (lent s m)).state.belongings ≡ (after_all cs (lent s m')).state.belongings
+  pub state : (after_all cs (lent s m)).state ≡ (after_all cs (lent s m')).state
+  pub bytes : (i : ℕ) → AgreeAt i m m' → AgreeAt i (after_all cs (lent s m)).mem (after_all cs (lent s m')).mem
 
 -- what the theorem says of a course, by its parts
 by_parts : (cs : List Call) (s : State) (m m' : List ℕ) → SameResults cs s m m' → NothingElseMatters cs s m m'
 by_parts cs s m m' same =
     record {
       replies = same.replies;
-      registers = λ offset. ap (λ (t : State). call-read t offset) same.state;
-      records = λ i. ap (λ (t : State). call-record t i) same.state;
+      registers = λ offset. ap (λ (t : State). call_read t offset) same.state;
+      records = λ i. ap (λ (t : State). call_record t i) same.state;
       belongings = ap (λ (t : State). t.belongings) same.state;
       state = same.state;
       bytes = same.bytes;
@@ -948,7 +948,7 @@ up-to-each-settling s m m' len =
       unsliced = λ rest due same. whole-submission s m m' len rest due (next rest same);
     }
   where
-    next : s.work ≡ resting → AgreeOn m m' (listed s m) → AgreeOn m m' (submission-listed m s.regs.ring s.regs.ringsize)
+    next : s.work ≡ resting → AgreeOn m m' (listed s m) → AgreeOn m m' (submission_listed m s.regs.ring s.regs.ringsize)
     next rest same = subst (λ (k : Work). AgreeOn m m' (listed_at s.regs k m)) rest same
 
 -- "and beyond if the head and fence writes touch no listed byte but the head's own": each submission is listed in the memory first lent, with the head as it is when it is
@@ -960,8 +960,8 @@ beyond-if-no-listed-byte-is-touched cs s m m' same clear = by_parts cs s m m' (o
 -- "Unknown packets' payloads, appended fields, strides' spare bytes and bytes past the stream size may differ"
 pub record MayDiffer : Type 0 where
   -- an unknown packet has no field; of a known one none ends past its table size
-  pub payloads : (op : ℕ) → known op ≡ none → packet-layout op ≡ []
-  pub appended : (op : ℕ) → Ends (least_size op) (packet-layout op)
+  pub payloads : (op : ℕ) → known op ≡ none → packet_layout op ≡ []
+  pub appended : (op : ℕ) → Ends (least_size op) (packet_layout op)
   -- of a slot none past its first 56 bytes, of an entry none past 24, whatever the stride
   pub spare : SpareBytes
   pub past-the-stream : (m : List ℕ) (t : Stream) → Every (Between (t.gpa + stream_header_size) (t.gpa + t.size)) (stream_listed m t stream_header_size)

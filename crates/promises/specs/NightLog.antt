@@ -5,13 +5,13 @@ use Rattle.rules.specs.Bytes.{le, bytes_of}
 use Rattle.rules.specs.Lists.{lookup}
 use Rattle.rules.specs.Judging.{number, at_place}
 use Rattle.rules.specs.Judging.Finding.{fine}
-use Rattle.rules.specs.Layouts.{ring-header}
-use Rattle.rules.specs.Table.{entry-rules}
-use Rattle.rules.specs.Ring.{power-of-two, pending, slot, good-header, good-ring, opening_of}
-use Rattle.rules.specs.Shapes.{block-bytes, block-side, halvings, full-chain, mip-side, blocks, tight, rows, mip-bytes, offset-of, good-shape, good-backed, texture-bytes, packed-size, index_of, start_of}
-use Rattle.rules.specs.Packets.{at_first, on-texture-packet, create, create-backed}
+use Rattle.rules.specs.Layouts.{ring_header}
+use Rattle.rules.specs.Table.{entry_rules}
+use Rattle.rules.specs.Ring.{power_of_two, pending, slot, good_header, good_ring, opening_of}
+use Rattle.rules.specs.Shapes.{block_bytes, block_side, halvings, full_chain, mip_side, blocks, tight, rows, mip_bytes, offset_of, good_shape, good_backed, texture_bytes, packed_size, index_of, start_of}
+use Rattle.rules.specs.Packets.{at_first, on_texture_packet, create, create_backed}
 use Rattle.rules.specs.State.{World, made, with_regs, registers_of, no_error, nothing_owned}
-use Rattle.rules.specs.Settle.{ended_by, signalled, faulted, doorbell-cleared, next_head}
+use Rattle.rules.specs.Settle.{ended_by, signalled, faulted, doorbell_cleared, next_head}
 use Rattle.rules.specs.Registers.{status}
 use Rattle.rules.specs.Steps.{step, open_step}
 use Rattle.rules.specs.declared.Entry.{Entry}
@@ -42,7 +42,7 @@ roomy = record { id = 5; flags = 0; gpa = 0; size = 1099511627776 }
 -- the error that creating such a texture gives; 0 for none
 unfoldable pub creating : Shape → ℕ → ℕ
 creating s pitch =
-    number (at_place no_place (on-texture-packet (roomy ∷ []) (at_first nothing_owned).holdings (record { handle = 1; shape = s; pitch = pitch; backing = 5; offset = 0 })).verdict)
+    number (at_place no_place (on_texture_packet (roomy ∷ []) (at_first nothing_owned).holdings (record { handle = 1; shape = s; pitch = pitch; backing = 5; offset = 0 })).verdict)
 
 unfoldable pub start : Start → ℕ
 start (At n) = n
@@ -50,11 +50,11 @@ start Nowhere = 0
 
 -- ---- fences
 
-unfoldable pub completed-nine : Registers
-completed-nine = registers_of 0 0 true 0 9 false false 0 no_error true
+unfoldable pub completed_nine : Registers
+completed_nine = registers_of 0 0 true 0 9 false false 0 no_error true
 
 unfoldable pub after_signal : ℕ → Registers
-after_signal fence = ended_by (record { ring = 0; head = 0; signal = fence; silent = false }) fine completed-nine
+after_signal fence = ended_by (record { ring = 0; head = 0; signal = fence; silent = false }) fine completed_nine
 
 -- ---- rings
 
@@ -69,7 +69,7 @@ ring head tail =
     ++ (bytes_of 4 head ++ (bytes_of 4 tail ++ zeros 544)))))))
 
 unfoldable pub header : ℕ → ℕ → RingHeader
-header head tail = ring-header (ring head tail) 0
+header head tail = ring_header (ring head tail) 0
 
 -- an enabled device whose doorbell was rung over such a ring
 unfoldable pub rung : ℕ → ℕ → World
@@ -81,22 +81,22 @@ rung head tail =
 
 -- ---- entries
 
-unfoldable pub entry-error : ℕ → ℕ → ℕ
-entry-error gpa size = number (at_place 0 (entry-rules 4096 [] (record { id = 1; flags = 0; gpa = gpa; size = size })))
+unfoldable pub entry_error : ℕ → ℕ → ℕ
+entry_error gpa size = number (at_place 0 (entry_rules 4096 [] (record { id = 1; flags = 0; gpa = gpa; size = size })))
 
 -- ---- the table
 
-unfoldable pub night-log : List Case
-night-log =
+unfoldable pub night_log : List Case
+night_log =
     -- 1. Format 1, 5x3, 3 mips, 1 layer, pitch 20: 72. Pitch 32: 108.
-    packed-size (shape 1 5 3 3 1) 20 ⇒ 72
-    ∷ packed-size (shape 1 5 3 3 1) 32 ⇒ 108
+    packed_size (shape 1 5 3 3 1) 20 ⇒ 72
+    ∷ packed_size (shape 1 5 3 3 1) 32 ⇒ 108
     -- 2. Same, pitch 20, 2 layers: 144; mip 1 of layer 1 is index 4 at 132.
-    ∷ packed-size (shape 1 5 3 3 2) 20 ⇒ 144
+    ∷ packed_size (shape 1 5 3 3 2) 20 ⇒ 144
     ∷ index_of (shape 1 5 3 3 2) 1 1 ⇒ 4
     ∷ start (start_of (shape 1 5 3 3 2) 20 4) ⇒ 132
     -- 3. Format 64, 5x5, 3 mips, pitch 16: 48. Pitch 15: 20.
-    ∷ packed-size (shape 64 5 5 3 1) 16 ⇒ 48
+    ∷ packed_size (shape 64 5 5 3 1) 16 ⇒ 48
     ∷ creating (shape 64 5 5 3 1) 15 ⇒ 20
     -- 4. 16384x1: 15 mips pass, 16 give 20. 1x1: 2 mips give 20.
     ∷ creating (shape 1 16384 1 15 1) 65536 ⇒ 0
@@ -116,8 +116,8 @@ night-log =
     -- 7. Head 0, tail 9, count 8: 10.
     ∷ (step (rung 0 9)).state.regs.error.code ⇒ 10
     -- 8. Memory 4,096: gpa 0 size 4,096 passes; gpa 1 gives 14.
-    ∷ entry-error 0 4096 ⇒ 0
-    ∷ entry-error 1 4096 ⇒ 14
+    ∷ entry_error 0 4096 ⇒ 0
+    ∷ entry_error 1 4096 ⇒ 14
     ∷ []
 
 unfoldable pub agree : List Case → Bool
@@ -125,6 +125,6 @@ agree [] = true
 agree (c ∷ cs) = eqb c.given c.says && agree cs
 
 -- the rules give what the night log says, in every example
-pub night-log-holds : agree night-log ≡ true
-unfolding packed-size good-backed good-shape block-bytes block-side halvings full-chain mip-side blocks tight rows mip-bytes offset-of texture-bytes start_of on-texture-packet create create-backed lookup ended_by signalled faulted doorbell-cleared le bytes_of ring-header power-of-two good-header good-ring opening_of open_step step entry-rules night-log shape roomy creating start completed-nine after_signal zeros ring header rung entry-error agree
+pub night-log-holds : agree night_log ≡ true
+unfolding packed_size good_backed good_shape block_bytes block_side halvings full_chain mip_side blocks tight rows mip_bytes offset_of texture_bytes start_of on_texture_packet create create_backed lookup ended_by signalled faulted doorbell_cleared le bytes_of ring_header power_of_two good_header good_ring opening_of open_step step entry_rules night_log shape roomy creating start completed_nine after_signal zeros ring header rung entry_error agree
 night-log-holds = refl

@@ -4,18 +4,18 @@ use Rattle.std.specs.Prelude.{◌≡◌, refl, Bool, true, false, ◌||◌, List
 use Rattle.std.proofs.Common.{sym, ap, subst, ◌∙◌, inl, inr, arith, ne_eqb}
 use Rattle.machine.specs.Machine.{pick}
 use Rattle.rules.specs.Lists.{lookup}
-use Rattle.rules.specs.Registers.{register, write-of}
-use Rattle.rules.specs.Calls.{call-read, call-write}
+use Rattle.rules.specs.Registers.{register, write_of}
+use Rattle.rules.specs.Calls.{call_read, call_write}
 use Rattle.rules.specs.Numbers.{done, no_register, most, bad_ring, bad_entry, twice_in_table, host_failed, no_place}
 use Rattle.rules.specs.Judging.{refusal, rule, ◌▹◌, fault_at, at_place}
 use Rattle.rules.specs.Judging.Finding.{broken}
 use Rattle.rules.specs.Layouts.{entry, stream_header_size}
-use Rattle.rules.specs.Table.{matching, is_found, entry_place, entry-rules, keep, in_reach, take-entry}
+use Rattle.rules.specs.Table.{matching, is_found, entry_place, entry_rules, keep, in_reach, take_entry}
 use Rattle.rules.specs.Stream.{left}
-use Rattle.rules.specs.Packets.{Progress, at_first, take-packet, Belongings}
+use Rattle.rules.specs.Packets.{Progress, at_first, take_packet, Belongings}
 use Rattle.rules.specs.State.{Work, State, World}
 use Rattle.rules.specs.State.Work.{resting, entries, packets, waiting}
-use Rattle.rules.specs.Settle.{faulted, signalled, doorbell-cleared, ended_by, settled, settled_keeping, ring_refused}
+use Rattle.rules.specs.Settle.{faulted, signalled, doorbell_cleared, ended_by, settled, settled_keeping, ring_refused}
 use Rattle.rules.specs.Steps.{packets_at, entries_at, step, answered}
 use Rattle.rules.specs.declared.Entry.{Entry}
 use Rattle.rules.specs.declared.Fault.{Fault}
@@ -85,8 +85,8 @@ broken-at place (Broken r) f e =
     }
 
 -- an entry breaks one of them
-pub entry-number : (memory : ℕ) (earlier : List Entry) (e : Entry) (r : Refusal) → entry-rules memory earlier e ≡ Broken r → EntryRule r.code
-unfolding entry-rules
+pub entry-number : (memory : ℕ) (earlier : List Entry) (e : Entry) (r : Refusal) → entry_rules memory earlier e ≡ Broken r → EntryRule r.code
+unfolding entry_rules
 entry-number memory earlier e r h = by_tests (eqb e.id 0) (eqb e.size 0) (ltb memory (e.gpa + e.size)) (is_found (matching e.id earlier)) h
   where
     same : (n : ℕ) → Broken (refusal n) ≡ Broken r → r.code ≡ n
@@ -99,20 +99,20 @@ entry-number memory earlier e r h = by_tests (eqb e.id 0) (eqb e.size 0) (ltb me
     by_tests false false false true k = inr (same twice_in_table k)
     by_tests false false false false k = absurd (let z : ◌≡◌ {A = ℕ} 0 1 = cc in omega arith)
 
-taken-number : (m : List ℕ) (t : Table) (kept : List Entry) (r : Refusal) → (take-entry m t kept).verdict ≡ Broken r → EntryRule r.code
-unfolding take-entry
+taken-number : (m : List ℕ) (t : Table) (kept : List Entry) (r : Refusal) → (take_entry m t kept).verdict ≡ Broken r → EntryRule r.code
+unfolding take_entry
 taken-number m t kept r = by_test (in_reach m t (length kept))
   where
     next : Entry
     next = entry m (entry_place t (length kept))
 
-    by-verdict : (v : Verdict) → entry-rules (length m) kept next ≡ v → (keep v kept next).verdict ≡ Broken r → EntryRule r.code
+    by-verdict : (v : Verdict) → entry_rules (length m) kept next ≡ v → (keep v kept next).verdict ≡ Broken r → EntryRule r.code
     by-verdict Fine e k = absurd (let z : ◌≡◌ {A = ℕ} 0 1 = cc in omega arith)
     by-verdict (Broken x) e k = entry-number (length m) kept next r (e ∙ k)
 
-    by_test : (b : Bool) → (pick b (keep (entry-rules (length m) kept next) kept next) (record { verdict = Broken (refusal bad_entry); kept = kept })).verdict ≡ Broken r
+    by_test : (b : Bool) → (pick b (keep (entry_rules (length m) kept next) kept next) (record { verdict = Broken (refusal bad_entry); kept = kept })).verdict ≡ Broken r
         → EntryRule r.code
-    by_test true k = by-verdict (entry-rules (length m) kept next) refl k
+    by_test true k = by-verdict (entry_rules (length m) kept next) refl k
     by_test false k = inl (let is : refusal bad_entry ≡ r = cc in ap (λ (x : Refusal). x.code) (sym is))
 
 -- ---- at a unit
@@ -127,12 +127,12 @@ unit-placed w n resting own fits j f h =
     subst NumberedOpening h.here (opening-numbered w.mem w.state.regs.ring w.state.regs.ringsize) in
     (ap (λ (x : Fault). opening_number x.code) h.nowhere ∙ numbered, ap (λ (x : Fault). x.place) h.nowhere)
 unit-placed w n (entries o kept) own fits j f h =
-    let b : BrokenAt (length kept) (take-entry w.mem o.table kept).verdict f = broken-at _ _ f h.1 in
+    let b : BrokenAt (length kept) (take_entry w.mem o.table kept).verdict f = broken-at _ _ f h.1 in
     let few : o.table.count ≤ most = few-entries n o own.0 in
     let is : f.place ≡ length kept = b.told (omega (arith, own.2)) in
     ((subst EntryRule (sym b.number) (taken-number w.mem o.table kept b.why b.broke), omega (arith, own.2)), is)
 unit-placed w n (packets j t at es held) own fits i f h =
-    let b : BrokenAt at (take-packet es held (left w.mem t at)).verdict f = broken-at _ _ f h.1 in
+    let b : BrokenAt at (take_packet es held (left w.mem t at)).verdict f = broken-at _ _ f h.1 in
     let is : f.place ≡ at = b.told (omega (arith, own.in-stream)) in
     let numbered : packet_number b.why.code ≡ true = subst Numbered b.broke (take-packet-numbered es held (left w.mem t at)) in
     ((ap packet_number b.number ∙ numbered, omega (arith, own.past-header), omega (arith, own.in-stream)), is)
@@ -158,7 +158,7 @@ next_fits : (w : World) → OfBytes w.mem → (k next : Work) → Next w k next 
 next_fits w b resting next h fits =
     let lies : Lies w.mem h.what = subst (LiesOn w.mem) h.here (opening-lies w.mem w.state.regs.ring w.state.regs.ringsize) in
     subst SizeFits (sym h.first) (entries_fit h.what [] w.state.belongings (lies.short b))
-next_fits w b (entries o kept) next h fits = subst SizeFits (sym h.1) (entries_fit o (take-entry w.mem o.table kept).kept w.state.belongings fits)
+next_fits w b (entries o kept) next h fits = subst SizeFits (sym h.1) (entries_fit o (take_entry w.mem o.table kept).kept w.state.belongings fits)
 next_fits w b (packets j t at es held) next h fits = subst SizeFits (sym h.1) (packets-fit j t _ es _ fits)
 next_fits w b (waiting j es held) next h fits = subst SizeFits (sym h) fits
 
@@ -248,7 +248,7 @@ each-settling-tells-where s k fits m j f h =
 
 -- "else 0": a bad ring, and the host's answer "failed"
 pub bad-ring-has-no-place : (w : World) → ((ring_refused w).state.regs.error.code ≡ bad_ring) × ((ring_refused w).state.regs.error.detail ≡ no_place)
-unfolding faulted doorbell-cleared
+unfolding faulted doorbell_cleared
 bad-ring-has-no-place w = (refl, refl)
 
 pub failed-has-no-place : (w : World) (j : Job) (es : List Entry) (h : Progress) → w.state.work ≡ waiting j es h
@@ -257,10 +257,10 @@ unfolding settled ended_by signalled faulted
 failed-has-no-place w j es h e = rw (failed-settles w j es h e) (refl, refl)
 
 -- "a read-only register at offset 320 (hex)": a read shows the last error's detail, a write answers 2
-pub detail-is-read : (s : State) → call-read s 0x320 ≡ record { answer = done; value = s.regs.error.detail }
-unfolding call-read register lookup
+pub detail-is-read : (s : State) → call_read s 0x320 ≡ record { answer = done; value = s.regs.error.detail }
+unfolding call_read register lookup
 detail-is-read s = refl
 
-pub detail-is-not-written : (s : State) (v : ℕ) → call-write s 0x320 v ≡ record { answer = no_register; state = s }
-unfolding call-write write-of lookup
+pub detail-is-not-written : (s : State) (v : ℕ) → call_write s 0x320 v ≡ record { answer = no_register; state = s }
+unfolding call_write write_of lookup
 detail-is-not-written s v = refl

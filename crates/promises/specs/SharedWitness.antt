@@ -2,26 +2,26 @@
 -- sends one of them. Assumes nothing.
 use Rattle.std.specs.Prelude.{◌≡◌, refl, Bool, true, false, List, [], ◌∷◌, ◌++◌, ℕ, ◌+◌}
 use Rattle.std.proofs.Common.{sym, ap, subst, arith}
-use Rattle.machine.specs.Machine.{runFor}
+use Rattle.machine.specs.Machine.{run_while}
 use Rattle.rules.specs.Numbers.{create_texture, export_surface, import_surface, release_token}
 use Rattle.rules.specs.Bytes.{le, bytes_of}
 use Rattle.rules.specs.Lists.{over, removed, nth, lookup, index_of}
 use Rattle.rules.specs.Judging.Finding.{fine, broken}
-use Rattle.rules.specs.Layouts.{ring-header, descriptor, stream-header, texture-fields, destroy-fields, export-fields, import-fields, release-fields}
-use Rattle.rules.specs.Shapes.{block-bytes, halvings, full-chain, good-shape}
-use Rattle.rules.specs.Names.{rename, rebind, lowest-left, token_of}
-use Rattle.rules.specs.Packets.{create-hosted, create, on-texture-packet, on-destroy-packet, on-export-packet, bound, on-import-packet, on-release-packet, apply, Progress, target-after, tokens-after, pass, take-packet, Belongings}
-use Rattle.rules.specs.Stream.{stream-rules, known, least_size, frame-rules, frame-of, packet-of, cut}
-use Rattle.rules.specs.Headers.{wrong-header}
-use Rattle.rules.specs.Table.{entries_from, judge-entries}
-use Rattle.rules.specs.Ring.{descriptor-rules, range-rules, submission-rules, submission-opening, power-of-two, good-header, good-ring, ring-opening, opening_of}
+use Rattle.rules.specs.Layouts.{ring_header, descriptor, stream_header, texture_fields, destroy_fields, export_fields, import_fields, release_fields}
+use Rattle.rules.specs.Shapes.{block_bytes, halvings, full_chain, good_shape}
+use Rattle.rules.specs.Names.{rename, rebind, lowest_left, token_of}
+use Rattle.rules.specs.Packets.{create_hosted, create, on_texture_packet, on_destroy_packet, on_export_packet, bound, on_import_packet, on_release_packet, apply, Progress, target_after, tokens_after, pass, take_packet, Belongings}
+use Rattle.rules.specs.Stream.{stream_rules, known, least_size, frame_rules, frame_of, packet_of, cut}
+use Rattle.rules.specs.Headers.{wrong_header}
+use Rattle.rules.specs.Table.{entries_from, judge_entries}
+use Rattle.rules.specs.Ring.{descriptor_rules, range_rules, submission_rules, submission_opening, power_of_two, good_header, good_ring, ring_opening, opening_of}
 use Rattle.rules.specs.State.{World, made, with_regs, registers_of, no_error, working, nothing_owned, State}
 use Rattle.rules.specs.State.Work.{waiting}
 use Rattle.rules.specs.Steps.{open_step, packet_step, step, go, answered}
-use Rattle.rules.specs.Settle.{faulted, signalled, ended_by, head-written, page-written, marked, written, settled}
-use Rattle.rules.specs.Unsliced.{judge-packets, submission, submitted}
-use Rattle.rules.specs.Registers.{controlled, write-of, reset}
-use Rattle.rules.specs.Calls.{call-write, call-run, answer-alone, call-answer}
+use Rattle.rules.specs.Settle.{faulted, signalled, ended_by, head_written, page_written, marked, written, settled}
+use Rattle.rules.specs.Unsliced.{judge_packets, submission, submitted}
+use Rattle.rules.specs.Registers.{controlled, write_of, reset}
+use Rattle.rules.specs.Calls.{call_write, call_run, answer_alone, call_answer}
 use Rattle.rules.specs.declared.Resource.{Resource}
 use Rattle.rules.specs.declared.Kind.TheVariants.{Texture}
 use Rattle.promises.specs.NightLog.{zeros}
@@ -33,9 +33,9 @@ use Rattle.promises_of_sharing.specs.Shared.{Used, IsBound, NameOf, OneMipOneLay
 use Rattle.promises_of_sharing.specs.TokensOverCalls.{tokens-go-on-between-resets, bound-is-one-mip-one-layer}
 use Rattle.promises_of_sharing.specs.PacketsTaken.CalledOn.{not_yet, calls-on}
 use Rattle.promises_of_sharing.specs.NamesKept.{NotAmong}
-use Rattle.promises_of_sharing.specs.PacketsTaken.{CalledOn, packets-after-units, packets-after-call, packets-in-work, packets-since}
+use Rattle.promises_of_sharing.specs.PacketsTaken.{CalledOn, packets_after_units, packets_after_call, packets_in_work, packets_since}
 use Rattle.promises_of_sharing.specs.NamesOverCalls.{names_of, names_since, a-bound-token-keeps-its-names-between-resets}
-use Rattle.promises.specs.StateWitness.{textured, destroyed, stream-with, judged-words, the_shape, the_job}
+use Rattle.promises.specs.StateWitness.{textured, destroyed, stream_with, judged_words, the_shape, the_job}
 
 -- ---- packets, word by word; every token is 7 + 2^32, or has another low word
 
@@ -49,8 +49,8 @@ unfoldable pub released : ℕ → List ℕ
 released low = release_token ∷ 16 ∷ low ∷ 1 ∷ []
 
 -- token 0
-unfoldable pub exported-as-0 : ℕ → List ℕ
-exported-as-0 handle = export_surface ∷ 24 ∷ handle ∷ 0 ∷ 0 ∷ 0 ∷ []
+unfoldable pub exported_as_0 : ℕ → List ℕ
+exported_as_0 handle = export_surface ∷ 24 ∷ handle ∷ 0 ∷ 0 ∷ 0 ∷ []
 
 -- a texture of two mips
 unfoldable pub mipped : ℕ → List ℕ
@@ -89,32 +89,32 @@ abbrev pub no_name_left : Progress
 no_name_left = record { holdings = record { resources = []; records = [] }; target = 0; tokens = record { name = 0; token = the_token } ∷ [] }
 
 pub record SharedStreams : Type 0 where
-  pub two-names : judged-words shared ≡ record { finding = fine; held = both_names; count = 3 }
-  pub first-destroyed : judged-words (shared ++ destroyed 5) ≡ record { finding = fine; held = second_name; count = 4 }
-  pub lower-destroyed : judged-words (shared ++ destroyed 3) ≡ record { finding = fine; held = first_name; count = 4 }
-  pub last-destroyed : judged-words (shared ++ (destroyed 5 ++ destroyed 3)) ≡ record { finding = fine; held = no_name_left; count = 5 }
+  pub two-names : judged_words shared ≡ record { finding = fine; held = both_names; count = 3 }
+  pub first-destroyed : judged_words (shared ++ destroyed 5) ≡ record { finding = fine; held = second_name; count = 4 }
+  pub lower-destroyed : judged_words (shared ++ destroyed 3) ≡ record { finding = fine; held = first_name; count = 4 }
+  pub last-destroyed : judged_words (shared ++ (destroyed 5 ++ destroyed 3)) ≡ record { finding = fine; held = no_name_left; count = 5 }
   -- the same token on the same resource again, by its other name, changes nothing
-  pub again : judged-words (shared ++ exported 3 7) ≡ record { finding = fine; held = both_names; count = 4 }
+  pub again : judged_words (shared ++ exported 3 7) ≡ record { finding = fine; held = both_names; count = 4 }
   -- released, it is spent; the names stay
-  pub released-one : (judged-words (shared ++ released 7)).held ≡ record { holdings = both_names.holdings; target = 0; tokens = record { name = 0; token = the_token } ∷ [] }
+  pub released-one : (judged_words (shared ++ released 7)).held ≡ record { holdings = both_names.holdings; target = 0; tokens = record { name = 0; token = the_token } ∷ [] }
   -- "Import and release give 29 for a token not bound to a live resource": never used, released, or with its resource gone
-  pub never-used : (judged-words (shared ++ imported 4 8)).finding ≡ broken (record { code = 29; place = 128 })
-  pub import-released : (judged-words (shared ++ (released 7 ++ imported 4 7))).finding ≡ broken (record { code = 29; place = 144 })
-  pub release-twice : (judged-words (shared ++ (released 7 ++ released 7))).finding ≡ broken (record { code = 29; place = 144 })
-  pub import-gone : (judged-words (shared ++ (destroyed 5 ++ (destroyed 3 ++ imported 4 7)))).finding ≡ broken (record { code = 29; place = 160 })
+  pub never-used : (judged_words (shared ++ imported 4 8)).finding ≡ broken (record { code = 29; place = 128 })
+  pub import-released : (judged_words (shared ++ (released 7 ++ imported 4 7))).finding ≡ broken (record { code = 29; place = 144 })
+  pub release-twice : (judged_words (shared ++ (released 7 ++ released 7))).finding ≡ broken (record { code = 29; place = 144 })
+  pub import-gone : (judged_words (shared ++ (destroyed 5 ++ (destroyed 3 ++ imported 4 7)))).finding ≡ broken (record { code = 29; place = 160 })
   -- "Export gives 28 for token 0, a token ever bound to another resource or one released"
-  pub token-0 : (judged-words (textured 5 ++ exported-as-0 5)).finding ≡ broken (record { code = 28; place = 80 })
-  pub of_another : (judged-words (shared ++ (textured 4 ++ exported 4 7))).finding ≡ broken (record { code = 28; place = 184 })
-  pub export-released : (judged-words (shared ++ (released 7 ++ exported 5 7))).finding ≡ broken (record { code = 28; place = 144 })
+  pub token-0 : (judged_words (textured 5 ++ exported_as_0 5)).finding ≡ broken (record { code = 28; place = 80 })
+  pub of_another : (judged_words (shared ++ (textured 4 ++ exported 4 7))).finding ≡ broken (record { code = 28; place = 184 })
+  pub export-released : (judged_words (shared ++ (released 7 ++ exported 5 7))).finding ≡ broken (record { code = 28; place = 144 })
   -- "The handle check .. comes first, then shape, token": a handle that is not live, and a texture of two mips, both with token 0
-  pub not_live : (judged-words (exported-as-0 5)).finding ≡ broken (record { code = 18; place = 24 })
-  pub two-mips : (judged-words (mipped 5 ++ exported-as-0 5)).finding ≡ broken (record { code = 20; place = 80 })
+  pub not_live : (judged_words (exported_as_0 5)).finding ≡ broken (record { code = 18; place = 24 })
+  pub two-mips : (judged_words (mipped 5 ++ exported_as_0 5)).finding ≡ broken (record { code = 20; place = 80 })
   -- an import's handle that is live or 0, with a token never used
-  pub import-live : (judged-words (shared ++ imported 3 8)).finding ≡ broken (record { code = 18; place = 128 })
-  pub import-0 : (judged-words (shared ++ imported 0 8)).finding ≡ broken (record { code = 18; place = 128 })
+  pub import-live : (judged_words (shared ++ imported 3 8)).finding ≡ broken (record { code = 18; place = 128 })
+  pub import-0 : (judged_words (shared ++ imported 0 8)).finding ≡ broken (record { code = 18; place = 128 })
 
 pub shared_streams : SharedStreams
-unfolding exported imported released exported-as-0 mipped shared textured destroyed stream-with judged-words in_bytes le bytes_of lookup index_of removed over rename rebind lowest-left texture-fields destroy-fields export-fields import-fields release-fields known least_size frame-rules frame-of packet-of cut block-bytes halvings full-chain good-shape create-hosted create on-texture-packet on-destroy-packet on-export-packet bound on-import-packet on-release-packet apply target-after tokens-after pass judge-packets
+unfolding exported imported released exported_as_0 mipped shared textured destroyed stream_with judged_words in_bytes le bytes_of lookup index_of removed over rename rebind lowest_left texture_fields destroy_fields export_fields import_fields release_fields known least_size frame_rules frame_of packet_of cut block_bytes halvings full_chain good_shape create_hosted create on_texture_packet on_destroy_packet on_export_packet bound on_import_packet on_release_packet apply target_after tokens_after pass judge_packets
 shared_streams =
     record {
       two-names = refl;
@@ -141,67 +141,67 @@ shared_streams =
 unfoldable pub sharing : List ℕ
 sharing = shared ++ destroyed 5
 
-unfoldable pub sharing-guest : List ℕ
-sharing-guest = in_bytes (ring_words ++ (64 ∷ 0 ∷ 0 ∷ 0 ∷ 128 ∷ 0 ∷ 144 ∷ 0 ∷ 0 ∷ 0 ∷ 0 ∷ 0 ∷ 7 ∷ 0 ∷ 0 ∷ 0 ∷ [])) ++ stream-with sharing
+unfoldable pub sharing_guest : List ℕ
+sharing_guest = in_bytes (ring_words ++ (64 ∷ 0 ∷ 0 ∷ 0 ∷ 128 ∷ 0 ∷ 144 ∷ 0 ∷ 0 ∷ 0 ∷ 0 ∷ 0 ∷ 7 ∷ 0 ∷ 0 ∷ 0 ∷ [])) ++ stream_with sharing
 
-unfoldable pub sharing-asked : World
-sharing-asked =
+unfoldable pub sharing_asked : World
+sharing_asked =
     record {
       state = with_regs (registers_of 0 128 true 0 0 false false 0 no_error true) (made 272);
-      mem = sharing-guest;
+      mem = sharing_guest;
     }
 
-unfoldable pub sharing-waits : World
-sharing-waits = working (waiting the_job [] second_name) sharing-asked
+unfoldable pub sharing_waits : World
+sharing_waits = working (waiting the_job [] second_name) sharing_asked
 
 pub record SharingGuest : Type 0 where
   -- accepted after its opening and four packets; the device has no token yet
-  pub accepted : submitted sharing-asked ≡ record { state = sharing-waits; units = 5 }
-  pub run-accepted : after (runs 65535) sharing-asked ≡ sharing-waits
-  pub none_yet : sharing-waits.state.belongings ≡ nothing_owned
+  pub accepted : submitted sharing_asked ≡ record { state = sharing_waits; units = 5 }
+  pub run-accepted : after (runs 65535) sharing_asked ≡ sharing_waits
+  pub none_yet : sharing_waits.state.belongings ≡ nothing_owned
   -- good, and failed: "A submission refused or answered failed leaves the tokens, too, as they were before it"
-  pub good : (after (answers true 0) sharing-waits).state.belongings ≡ record { resources = named 3 3 ∷ []; tokens = record { name = 3; token = the_token } ∷ [] }
-  pub failed : (after (answers false 0) sharing-waits).state.belongings ≡ nothing_owned
+  pub good : (after (answers true 0) sharing_waits).state.belongings ≡ record { resources = named 3 3 ∷ []; tokens = record { name = 3; token = the_token } ∷ [] }
+  pub failed : (after (answers false 0) sharing_waits).state.belongings ≡ nothing_owned
   -- "forgotten at reset"
-  pub forgotten : (after (writes 0x10c 3) (after (answers true 0) sharing-waits)).state.belongings ≡ nothing_owned
+  pub forgotten : (after (writes 0x10c 3) (after (answers true 0) sharing_waits)).state.belongings ≡ nothing_owned
 
 pub sharing_guest_is : SharingGuest
-unfolding exported imported shared textured destroyed stream-with sharing sharing-guest sharing-asked sharing-waits zeros ring_words in_bytes le bytes_of over removed lookup index_of nth rename rebind lowest-left ring-header descriptor stream-header power-of-two good-header good-ring ring-opening opening_of descriptor-rules range-rules submission-rules submission-opening wrong-header stream-rules texture-fields destroy-fields export-fields import-fields entries_from judge-entries known least_size frame-rules frame-of packet-of cut block-bytes halvings full-chain good-shape create-hosted create on-texture-packet on-destroy-packet on-export-packet bound on-import-packet apply target-after tokens-after pass take-packet judge-packets submission submitted open_step packet_step step go runFor call-write write-of controlled reset call-run answer-alone call-answer answered settled marked page-written ended_by signalled head-written written faulted after
+unfolding exported imported shared textured destroyed stream_with sharing sharing_guest sharing_asked sharing_waits zeros ring_words in_bytes le bytes_of over removed lookup index_of nth rename rebind lowest_left ring_header descriptor stream_header power_of_two good_header good_ring ring_opening opening_of descriptor_rules range_rules submission_rules submission_opening wrong_header stream_rules texture_fields destroy_fields export_fields import_fields entries_from judge_entries known least_size frame_rules frame_of packet_of cut block_bytes halvings full_chain good_shape create_hosted create on_texture_packet on_destroy_packet on_export_packet bound on_import_packet apply target_after tokens_after pass take_packet judge_packets submission submitted open_step packet_step step go run_while call_write write_of controlled reset call_run answer_alone call_answer answered settled marked page_written ended_by signalled head_written written faulted after
 sharing_guest_is = record { accepted = refl; run-accepted = refl; none_yet = refl; good = refl; failed = refl; forgotten = refl }
 
 -- ---- so the theorems speak of it
 
-pub asked_is_called : Called sharing-asked.state
-unfolding sharing-asked after call-write write-of lookup controlled
+pub asked_is_called : Called sharing_asked.state
+unfolding sharing_asked after call_write write_of lookup controlled
 asked_is_called = calls (writes 0x200 0) [] (calls (writes 0x10c 1) [] (calls (writes 0x108 128) [] (makes 272)))
 
-waits_is_called : Called sharing-waits.state
-waits_is_called = subst (λ (w : World). Called w.state) sharing_guest_is.run-accepted (calls (runs 65535) sharing-asked.mem asked_is_called)
+waits_is_called : Called sharing_waits.state
+waits_is_called = subst (λ (w : World). Called w.state) sharing_guest_is.run-accepted (calls (runs 65535) sharing_asked.mem asked_is_called)
 
-pub answered_is_called : Called (after (answers true 0) sharing-waits).state
-answered_is_called = calls (answers true 0) sharing-waits.mem waits_is_called
+pub answered_is_called : Called (after (answers true 0) sharing_waits).state
+answered_is_called = calls (answers true 0) sharing_waits.mem waits_is_called
 
 -- the device's token is of a texture of one mip and one layer
 pub its_texture : OneMipOneLayer (Texture the_shape)
 unfolding bound lookup
 its_texture =
-    bound-is-one-mip-one-layer (after (answers true 0) sharing-waits).state answered_is_called the_token (named 3 3)
+    bound-is-one-mip-one-layer (after (answers true 0) sharing_waits).state answered_is_called the_token (named 3 3)
     (ap (λ (b : Belongings). bound the_token b.tokens b.resources) sharing_guest_is.good)
 
 -- and is used for as long as no reset comes
-pub its-token-stays-used : (t : State) → CalledOn (after (answers true 0) sharing-waits).state t → Used the_token t.belongings.tokens
+pub its-token-stays-used : (t : State) → CalledOn (after (answers true 0) sharing_waits).state t → Used the_token t.belongings.tokens
 unfolding lookup
 its-token-stays-used t q =
-    (tokens-go-on-between-resets (after (answers true 0) sharing-waits).state t answered_is_called q).used the_token
+    (tokens-go-on-between-resets (after (answers true 0) sharing_waits).state t answered_is_called q).used the_token
     (record { name = 3; token = the_token }, ap (λ (b : Belongings). lookup token_of the_token b.tokens) sharing_guest_is.good)
 
 -- and 3 is a name of its resource for as long as it is bound, and no submission answered good imports or destroys 3
-pub its-name-stays : (t : State) (q : CalledOn (after (answers true 0) sharing-waits).state t)
-    → NotAmong 3 (names_since (after (answers true 0) sharing-waits).state t answered_is_called q) → IsBound the_token t.belongings.tokens
+pub its-name-stays : (t : State) (q : CalledOn (after (answers true 0) sharing_waits).state t)
+    → NotAmong 3 (names_since (after (answers true 0) sharing_waits).state t answered_is_called q) → IsBound the_token t.belongings.tokens
     → NameOf the_token 3 t.belongings.tokens t.belongings.resources
 unfolding lookup
 its-name-stays t q other b =
-    let first : State = (after (answers true 0) sharing-waits).state in
+    let first : State = (after (answers true 0) sharing_waits).state in
     let n : NameOf the_token 3 first.belongings.tokens first.belongings.resources =
     subst (λ (x : Belongings). NameOf the_token 3 x.tokens x.resources) (sym sharing_guest_is.good)
     (record { what = record { name = 3; token = the_token }; used = refl; bound-one = λ z. omega arith; resource = named 3 3; here = refl; same = refl }) in
@@ -209,12 +209,12 @@ its-name-stays t q other b =
 
 -- ---- the names that count: of this submission 3, which it imports, and 5, which it destroys, with "good"; none with "failed"
 
-unfoldable pub answered-on : (good : Bool) → CalledOn sharing-asked.state (after (answers good 0) (after (runs 65535) sharing-asked)).state
-answered-on good = calls-on (calls-on not_yet (runs 65535) refl sharing-asked.mem) (answers good 0) refl (after (runs 65535) sharing-asked).mem
+unfoldable pub answered-on : (good : Bool) → CalledOn sharing_asked.state (after (answers good 0) (after (runs 65535) sharing_asked)).state
+answered-on good = calls-on (calls-on not_yet (runs 65535) refl sharing_asked.mem) (answers good 0) refl (after (runs 65535) sharing_asked).mem
 
 abbrev pub counted : Bool → List ℕ
-counted good = names_since sharing-asked.state (after (answers good 0) (after (runs 65535) sharing-asked)).state asked_is_called (answered-on good)
+counted good = names_since sharing_asked.state (after (answers good 0) (after (runs 65535) sharing_asked)).state asked_is_called (answered-on good)
 
 pub names-count-with-good : (counted true ≡ 5 ∷ 3 ∷ []) × (counted false ≡ [])
-unfolding answered-on asked_is_called names_of packets-in-work packets-since packets-after-call packets-after-units exported imported shared textured destroyed stream-with sharing sharing-guest sharing-asked zeros ring_words in_bytes le bytes_of over removed lookup index_of nth rename rebind lowest-left ring-header descriptor stream-header power-of-two good-header good-ring ring-opening opening_of descriptor-rules range-rules submission-rules submission-opening wrong-header stream-rules texture-fields destroy-fields export-fields import-fields known least_size frame-rules frame-of packet-of block-bytes halvings full-chain good-shape create-hosted create on-texture-packet on-destroy-packet on-export-packet bound on-import-packet apply target-after tokens-after pass take-packet open_step packet_step step go runFor call-run answer-alone call-answer answered settled marked page-written ended_by signalled head-written written faulted after
+unfolding answered-on asked_is_called names_of packets_in_work packets_since packets_after_call packets_after_units exported imported shared textured destroyed stream_with sharing sharing_guest sharing_asked zeros ring_words in_bytes le bytes_of over removed lookup index_of nth rename rebind lowest_left ring_header descriptor stream_header power_of_two good_header good_ring ring_opening opening_of descriptor_rules range_rules submission_rules submission_opening wrong_header stream_rules texture_fields destroy_fields export_fields import_fields known least_size frame_rules frame_of packet_of block_bytes halvings full_chain good_shape create_hosted create on_texture_packet on_destroy_packet on_export_packet bound on_import_packet apply target_after tokens_after pass take_packet open_step packet_step step go run_while call_run answer_alone call_answer answered settled marked page_written ended_by signalled head_written written faulted after
 names-count-with-good = (refl, refl)

@@ -3,26 +3,26 @@
 use Rattle.std.specs.Prelude.{◌≡◌, refl, true, false, List, [], ◌∷◌, ◌++◌, ℕ, ◌+◌, ◌*◌, pos, negsuc, length}
 use Rattle.std.proofs.Common.{sym, ap, subst, arith}
 use Rattle.std.specs.Float.Ieee.{of_bits, to_bits}
-use Rattle.machine.specs.Machine.{runFor}
+use Rattle.machine.specs.Machine.{run_while}
 use Rattle.rules.specs.Numbers.{stream_magic, version, create_texture, destroy, set_target, set_viewport, set_scissor, clear}
 use Rattle.rules.specs.Bytes.{le, bytes_of}
 use Rattle.rules.specs.Lists.{over, removed, nth, lookup, index_of}
 use Rattle.rules.specs.Judging.Finding.{fine, broken}
-use Rattle.rules.specs.Layouts.{ring-header, descriptor, stream-header, texture-fields, destroy-fields, target-fields, viewport-fields, signed, scissor-fields, clear-fields}
-use Rattle.rules.specs.Floats.{is-nan, not_finite, key, below}
-use Rattle.rules.specs.Shapes.{block-bytes, halvings, full-chain, good-shape}
-use Rattle.rules.specs.StatePackets.{bad-bounds, bad-viewport, bad-values, bad-clear, bad-sides, common, clip-of}
-use Rattle.rules.specs.Packets.{at_first, create-hosted, create, on-texture-packet, on-destroy-packet, live-texture, on-target-packet, on-viewport-packet, on-scissor-packet, on-clear-packet, apply, Progress, target-after, pass, take-packet, tokens-after}
-use Rattle.rules.specs.Stream.{stream-rules, known, least_size, frame-rules, frame-of, packet-of, cut, packets_of}
-use Rattle.rules.specs.Headers.{wrong-header}
-use Rattle.rules.specs.Table.{entries_from, judge-entries}
-use Rattle.rules.specs.Ring.{descriptor-rules, range-rules, submission-rules, submission-opening, power-of-two, good-header, good-ring, ring-opening, opening_of}
+use Rattle.rules.specs.Layouts.{ring_header, descriptor, stream_header, texture_fields, destroy_fields, target_fields, viewport_fields, signed, scissor_fields, clear_fields}
+use Rattle.rules.specs.Floats.{is_nan_bits, not_finite, key, below}
+use Rattle.rules.specs.Shapes.{block_bytes, halvings, full_chain, good_shape}
+use Rattle.rules.specs.StatePackets.{bad_bounds, bad_viewport, bad_values, bad_clear, bad_sides, common, clip_of}
+use Rattle.rules.specs.Packets.{at_first, create_hosted, create, on_texture_packet, on_destroy_packet, live_texture, on_target_packet, on_viewport_packet, on_scissor_packet, on_clear_packet, apply, Progress, target_after, pass, take_packet, tokens_after}
+use Rattle.rules.specs.Stream.{stream_rules, known, least_size, frame_rules, frame_of, packet_of, cut, packets_of}
+use Rattle.rules.specs.Headers.{wrong_header}
+use Rattle.rules.specs.Table.{entries_from, judge_entries}
+use Rattle.rules.specs.Ring.{descriptor_rules, range_rules, submission_rules, submission_opening, power_of_two, good_header, good_ring, ring_opening, opening_of}
 use Rattle.rules.specs.State.{World, made, with_regs, registers_of, no_error, working, nothing_owned}
 use Rattle.rules.specs.State.Work.{packets, waiting}
 use Rattle.rules.specs.Steps.{open_step, packet_step, step, go}
-use Rattle.rules.specs.Unsliced.{Reckoned, judge-packets, submission, submitted}
-use Rattle.rules.specs.Registers.{controlled, write-of}
-use Rattle.rules.specs.Calls.{RecordRead, call-write, call-run, call-record}
+use Rattle.rules.specs.Unsliced.{Reckoned, judge_packets, submission, submitted}
+use Rattle.rules.specs.Registers.{controlled, write_of}
+use Rattle.rules.specs.Calls.{RecordRead, call_write, call_run, call_record}
 use Rattle.rules.specs.Names.{rename}
 use Rattle.rules.specs.declared.Job.{Job}
 use Rattle.rules.specs.declared.Stream.{Stream}
@@ -66,12 +66,12 @@ unfoldable pub cleared : List ℕ
 cleared = clear ∷ 36 ∷ 7 ∷ 0x3f800000 ∷ 0x3f000000 ∷ 0x80000000 ∷ 0x3f800000 ∷ 0x3f800000 ∷ 255 ∷ []
 
 -- a stream of such packets
-unfoldable pub stream-with : List ℕ → List ℕ
-stream-with words = in_bytes (stream_magic ∷ version ∷ (24 + 4 * length words) ∷ 0 ∷ 0 ∷ 0 ∷ words)
+unfoldable pub stream_with : List ℕ → List ℕ
+stream_with words = in_bytes (stream_magic ∷ version ∷ (24 + 4 * length words) ∷ 0 ∷ 0 ∷ 0 ∷ words)
 
 -- judged by the unsliced rules, with no table and nothing held
-unfoldable pub judged-words : List ℕ → Reckoned
-judged-words words = judge-packets [] (at_first nothing_owned) (packets_of (stream-with words) (record { gpa = 0; size = 24 + 4 * length words }))
+unfoldable pub judged_words : List ℕ → Reckoned
+judged_words words = judge_packets [] (at_first nothing_owned) (packets_of (stream_with words) (record { gpa = 0; size = 24 + 4 * length words }))
 
 abbrev pub the_shape : Shape
 the_shape = record { format = 1; width = 64; height = 32; mips = 1; layers = 1 }
@@ -92,20 +92,20 @@ unfoldable pub drawing : List ℕ
 drawing = textured 1 ++ (targeted 1 ++ (viewed 0 ++ (scissored ++ cleared)))
 
 pub record StateStreams : Type 0 where
-  pub all-are-fine : judged-words drawing ≡ record { finding = fine; held = drawn; count = 5 }
+  pub all-are-fine : judged_words drawing ≡ record { finding = fine; held = drawn; count = 5 }
   -- -0 is 0, and so is no NaN
-  pub minus-zero : (judged-words (viewed 0x80000000)).finding ≡ fine
+  pub minus-zero : (judged_words (viewed 0x80000000)).finding ≡ fine
   -- a NaN, and an infinity
-  pub not-a-number : (judged-words (viewed 0x7fc00000)).finding ≡ broken (record { code = 30; place = 24 })
-  pub no_end : (judged-words (viewed 0xff800000)).finding ≡ broken (record { code = 30; place = 24 })
+  pub not-a-number : (judged_words (viewed 0x7fc00000)).finding ≡ broken (record { code = 30; place = 24 })
+  pub no_end : (judged_words (viewed 0xff800000)).finding ≡ broken (record { code = 30; place = 24 })
   -- a scissor with no target; and with one that was destroyed and made again
-  pub no_target : (judged-words (textured 1 ++ scissored)).finding ≡ broken (record { code = 30; place = 80 })
-  pub made_again : (judged-words (textured 1 ++ (targeted 1 ++ (destroyed 1 ++ (textured 1 ++ scissored))))).finding ≡ broken (record { code = 30; place = 168 })
+  pub no_target : (judged_words (textured 1 ++ scissored)).finding ≡ broken (record { code = 30; place = 80 })
+  pub made_again : (judged_words (textured 1 ++ (targeted 1 ++ (destroyed 1 ++ (textured 1 ++ scissored))))).finding ≡ broken (record { code = 30; place = 168 })
   -- handle 0 is no live texture
-  pub target-0 : (judged-words (textured 1 ++ targeted 0)).finding ≡ broken (record { code = 18; place = 80 })
+  pub target-0 : (judged_words (textured 1 ++ targeted 0)).finding ≡ broken (record { code = 18; place = 80 })
 
 pub state_streams : StateStreams
-unfolding textured targeted destroyed viewed scissored cleared stream-with judged-words drawing in_bytes le bytes_of lookup index_of removed over rename texture-fields target-fields destroy-fields viewport-fields signed scissor-fields clear-fields known least_size frame-rules frame-of packet-of cut is-nan not_finite key below bad-bounds bad-viewport bad-values bad-clear bad-sides common clip-of block-bytes halvings full-chain good-shape create-hosted create on-texture-packet on-destroy-packet live-texture on-target-packet on-viewport-packet on-scissor-packet on-clear-packet apply target-after tokens-after pass judge-packets of_bits to_bits
+unfolding textured targeted destroyed viewed scissored cleared stream_with judged_words drawing in_bytes le bytes_of lookup index_of removed over rename texture_fields target_fields destroy_fields viewport_fields signed scissor_fields clear_fields known least_size frame_rules frame_of packet_of cut is_nan_bits not_finite key below bad_bounds bad_viewport bad_values bad_clear bad_sides common clip_of block_bytes halvings full_chain good_shape create_hosted create on_texture_packet on_destroy_packet live_texture on_target_packet on_viewport_packet on_scissor_packet on_clear_packet apply target_after tokens_after pass judge_packets of_bits to_bits
 state_streams =
     record {
       all-are-fine = refl;
@@ -119,14 +119,14 @@ state_streams =
 
 -- ---- a guest that sends the first of them, with no table
 
-unfoldable pub drawing-guest : List ℕ
-drawing-guest = in_bytes (ring_words ++ (64 ∷ 0 ∷ 0 ∷ 0 ∷ 128 ∷ 0 ∷ 188 ∷ 0 ∷ 0 ∷ 0 ∷ 0 ∷ 0 ∷ 7 ∷ 0 ∷ 0 ∷ 0 ∷ [])) ++ stream-with drawing
+unfoldable pub drawing_guest : List ℕ
+drawing_guest = in_bytes (ring_words ++ (64 ∷ 0 ∷ 0 ∷ 0 ∷ 128 ∷ 0 ∷ 188 ∷ 0 ∷ 0 ∷ 0 ∷ 0 ∷ 0 ∷ 7 ∷ 0 ∷ 0 ∷ 0 ∷ [])) ++ stream_with drawing
 
-unfoldable pub drawing-asked : World
-drawing-asked =
+unfoldable pub drawing_asked : World
+drawing_asked =
     record {
       state = with_regs (registers_of 0 128 true 0 0 false false 0 no_error true) (made 316);
-      mem = drawing-guest;
+      mem = drawing_guest;
     }
 
 abbrev pub the_job : Job
@@ -135,54 +135,54 @@ the_job = record { ring = 0; head = 0; signal = 7; silent = false }
 abbrev pub the_stream : Stream
 the_stream = record { gpa = 128; size = 188 }
 
-unfoldable pub drawing-waits : World
-drawing-waits = working (waiting the_job [] drawn) drawing-asked
+unfoldable pub drawing_waits : World
+drawing_waits = working (waiting the_job [] drawn) drawing_asked
 
 pub record DrawingGuest : Type 0 where
   -- accepted after its opening and five packets
-  pub accepted : submitted drawing-asked ≡ record { state = drawing-waits; units = 6 }
-  pub run-accepted : after (runs 65535) drawing-asked ≡ drawing-waits
+  pub accepted : submitted drawing_asked ≡ record { state = drawing_waits; units = 6 }
+  pub run-accepted : after (runs 65535) drawing_asked ≡ drawing_waits
   -- the clipped rectangle is the record that the host reads
-  pub handed_out : call-record drawing-waits.state 0 ≡ record { answer = 0; range = record { kind = 4; handle = 0; id = 3; gpa = 15; length = 29 } }
+  pub handed_out : call_record drawing_waits.state 0 ≡ record { answer = 0; range = record { kind = 4; handle = 0; id = 3; gpa = 15; length = 29 } }
   -- after one unit the first packet is due, and there is no target
-  pub opened : (after (runs 1) drawing-asked).state.work ≡ packets the_job the_stream 24 [] (at_first nothing_owned)
+  pub opened : (after (runs 1) drawing_asked).state.work ≡ packets the_job the_stream 24 [] (at_first nothing_owned)
   -- after three the viewport is, and there is one
-  pub targeted-at : (after (runs 3) drawing-asked).state.work ≡ packets the_job the_stream 96 [] (record { holdings = record { resources = drawn.holdings.resources; records = [] }; target = 1; tokens = [] })
+  pub targeted-at : (after (runs 3) drawing_asked).state.work ≡ packets the_job the_stream 96 [] (record { holdings = record { resources = drawn.holdings.resources; records = [] }; target = 1; tokens = [] })
 
 pub drawing_guest_is : DrawingGuest
-unfolding textured targeted viewed scissored cleared stream-with drawing drawing-guest drawing-asked drawing-waits zeros ring_words in_bytes le bytes_of over lookup nth ring-header descriptor stream-header power-of-two good-header good-ring ring-opening opening_of descriptor-rules range-rules submission-rules submission-opening wrong-header stream-rules texture-fields target-fields viewport-fields signed scissor-fields clear-fields entries_from judge-entries known least_size frame-rules frame-of packet-of cut is-nan not_finite key below bad-bounds bad-viewport bad-values bad-clear bad-sides common clip-of block-bytes halvings full-chain good-shape create-hosted create on-texture-packet live-texture on-target-packet on-viewport-packet on-scissor-packet on-clear-packet apply target-after tokens-after pass take-packet judge-packets submission submitted open_step packet_step step go runFor call-run call-record after of_bits to_bits
+unfolding textured targeted viewed scissored cleared stream_with drawing drawing_guest drawing_asked drawing_waits zeros ring_words in_bytes le bytes_of over lookup nth ring_header descriptor stream_header power_of_two good_header good_ring ring_opening opening_of descriptor_rules range_rules submission_rules submission_opening wrong_header stream_rules texture_fields target_fields viewport_fields signed scissor_fields clear_fields entries_from judge_entries known least_size frame_rules frame_of packet_of cut is_nan_bits not_finite key below bad_bounds bad_viewport bad_values bad_clear bad_sides common clip_of block_bytes halvings full_chain good_shape create_hosted create on_texture_packet live_texture on_target_packet on_viewport_packet on_scissor_packet on_clear_packet apply target_after tokens_after pass take_packet judge_packets submission submitted open_step packet_step step go run_while call_run call_record after of_bits to_bits
 drawing_guest_is = record { accepted = refl; run-accepted = refl; handed_out = refl; opened = refl; targeted-at = refl }
 
 -- ---- so the theorems speak of them
 
-asked_is_called : Called drawing-asked.state
-unfolding drawing-asked after call-write write-of lookup controlled
+asked_is_called : Called drawing_asked.state
+unfolding drawing_asked after call_write write_of lookup controlled
 asked_is_called = calls (writes 0x200 0) [] (calls (writes 0x10c 1) [] (calls (writes 0x108 128) [] (makes 316)))
 
-run_is_called : (n : ℕ) → Called (after (runs n) drawing-asked).state
-run_is_called n = calls (runs n) drawing-asked.mem asked_is_called
+run_is_called : (n : ℕ) → Called (after (runs n) drawing_asked).state
+run_is_called n = calls (runs n) drawing_asked.mem asked_is_called
 
 -- the first packet finds no target
 pub begins-with-none : (at_first nothing_owned).target ≡ 0
-begins-with-none = first-packet-finds-no-target (after (runs 1) drawing-asked).state (run_is_called 1) the_job the_stream 24 [] (at_first nothing_owned) drawing_guest_is.opened refl
+begins-with-none = first-packet-finds-no-target (after (runs 1) drawing_asked).state (run_is_called 1) the_job the_stream 24 [] (at_first nothing_owned) drawing_guest_is.opened refl
 
 -- and the one that was set is a live texture
 pub its-target-lives : LiveTexture 1 (record { resources = drawn.holdings.resources; records = [] })
 its-target-lives =
-    called-target-lives (after (runs 3) drawing-asked).state (run_is_called 3) the_job the_stream 96 [] _ drawing_guest_is.targeted-at (λ z. omega arith)
+    called-target-lives (after (runs 3) drawing_asked).state (run_is_called 3) the_job the_stream 96 [] _ drawing_guest_is.targeted-at (λ z. omega arith)
 
 -- what is handed out is of kind 4
-pub its-record-is-of-a-kind : OfAKind (call-record drawing-waits.state 0).range
+pub its-record-is-of-a-kind : OfAKind (call_record drawing_waits.state 0).range
 its-record-is-of-a-kind =
-    kinds-at-the-record-call drawing-waits.state (subst (λ (w : World). Called w.state) drawing_guest_is.run-accepted (run_is_called 65535)) 0
+    kinds-at-the-record-call drawing_waits.state (subst (λ (w : World). Called w.state) drawing_guest_is.run-accepted (run_is_called 65535)) 0
     (ap (λ (r : RecordRead). r.answer) drawing_guest_is.handed_out)
 
 -- and is what the texture and the scissor, from -5, 3 on, have in common
 abbrev the_scissor : SetScissor
 the_scissor = record { x = negsuc 4; y = pos 3; width = pos 20; height = pos 100 }
 
-pub its-clip : ClippedTo the_shape the_scissor (call-record drawing-waits.state 0).range
-unfolding bad-sides common clip-of
+pub its-clip : ClippedTo the_shape the_scissor (call_record drawing_waits.state 0).range
+unfolding bad_sides common clip_of
 its-clip = subst (ClippedTo the_shape the_scissor) (sym (ap (λ (r : RecordRead). r.range) drawing_guest_is.handed_out)) (clip-is-the-common-part the_shape the_scissor refl)
 
 -- a viewport's words, and its floats' bits
@@ -191,6 +191,6 @@ unfolding in_bytes
 words-are-bytes [] i = omega arith
 words-are-bytes (w ∷ ws) i = both_bytes (bytes_of 4 w) (in_bytes ws) (bytes-of 4 w) (words-are-bytes ws) i
 
-pub viewport-bits : ViewportCarried (in_bytes (viewed 0x80000000)) (viewport-fields (in_bytes (viewed 0x80000000)))
-unfolding viewed in_bytes le bytes_of is-nan
+pub viewport-bits : ViewportCarried (in_bytes (viewed 0x80000000)) (viewport_fields (in_bytes (viewed 0x80000000)))
+unfolding viewed in_bytes le bytes_of is_nan_bits
 viewport-bits = (viewport-is-carried (in_bytes (viewed 0x80000000)) (words-are-bytes (viewed 0x80000000)) refl).1

@@ -2,24 +2,24 @@
 -- exports it, and is answered good; the second imports it by its token under another handle, and is answered good. By computation. Assumes nothing.
 use Rattle.std.specs.Prelude.{◌≡◌, refl, Bool, true, false, List, [], ◌∷◌, ◌++◌, ◌⊎◌, ℕ, ◌+◌}
 use Rattle.std.proofs.Common.{sym, ap, subst, ◌∙◌, inl, inr, ⊎_elim, arith}
-use Rattle.machine.specs.Machine.{runFor}
+use Rattle.machine.specs.Machine.{run_while}
 use Rattle.rules.specs.Numbers.{ring_magic, version}
 use Rattle.rules.specs.Bytes.{le, bytes_of}
 use Rattle.rules.specs.Lists.{over, removed, nth, lookup, index_of}
 use Rattle.rules.specs.Lists.Found.{none, found}
-use Rattle.rules.specs.Layouts.{ring-header, descriptor, stream-header, texture-fields, export-fields, import-fields, release-fields}
-use Rattle.rules.specs.Shapes.{block-bytes, halvings, full-chain, good-shape}
-use Rattle.rules.specs.Names.{rename, rebind, lowest-left, token_of}
-use Rattle.rules.specs.Packets.{create-hosted, create, on-texture-packet, on-export-packet, bound, on-import-packet, on-release-packet, apply, Progress, target-after, tokens-after, pass, take-packet, Belongings, at_first}
-use Rattle.rules.specs.Stream.{stream-rules, known, least_size, frame-rules, frame-of, packet-of}
-use Rattle.rules.specs.Headers.{wrong-header}
-use Rattle.rules.specs.Ring.{descriptor-rules, range-rules, submission-rules, submission-opening, power-of-two, good-header, good-ring, ring-opening, opening_of}
+use Rattle.rules.specs.Layouts.{ring_header, descriptor, stream_header, texture_fields, export_fields, import_fields, release_fields}
+use Rattle.rules.specs.Shapes.{block_bytes, halvings, full_chain, good_shape}
+use Rattle.rules.specs.Names.{rename, rebind, lowest_left, token_of}
+use Rattle.rules.specs.Packets.{create_hosted, create, on_texture_packet, on_export_packet, bound, on_import_packet, on_release_packet, apply, Progress, target_after, tokens_after, pass, take_packet, Belongings, at_first}
+use Rattle.rules.specs.Stream.{stream_rules, known, least_size, frame_rules, frame_of, packet_of}
+use Rattle.rules.specs.Headers.{wrong_header}
+use Rattle.rules.specs.Ring.{descriptor_rules, range_rules, submission_rules, submission_opening, power_of_two, good_header, good_ring, ring_opening, opening_of}
 use Rattle.rules.specs.State.{World, made, with_regs, registers_of, no_error, nothing_owned, State}
 use Rattle.rules.specs.State.Work.{packets, waiting}
 use Rattle.rules.specs.Steps.{open_step, packet_step, step, go, answered}
-use Rattle.rules.specs.Settle.{doorbell-cleared, faulted, signalled, ended_by, head-written, page-written, marked, written, settled}
-use Rattle.rules.specs.Registers.{controlled, write-of}
-use Rattle.rules.specs.Calls.{call-write, call-run, answer-alone, call-answer}
+use Rattle.rules.specs.Settle.{doorbell_cleared, faulted, signalled, ended_by, head_written, page_written, marked, written, settled}
+use Rattle.rules.specs.Registers.{controlled, write_of}
+use Rattle.rules.specs.Calls.{call_write, call_run, answer_alone, call_answer}
 use Rattle.rules.specs.declared.Job.{Job}
 use Rattle.rules.specs.declared.Stream.{Stream}
 use Rattle.rules.specs.declared.ImportSurface.{ImportSurface}
@@ -31,12 +31,12 @@ use Rattle.promises_of_units.specs.Called.Called.{makes, calls}
 use Rattle.promises.specs.Witness.{in_bytes}
 use Rattle.promises_of_sharing.specs.Shared.{IsBound, means, OneResource, SecondName}
 use Rattle.promises_of_sharing.specs.PacketsTaken.CalledOn.{not_yet, calls-on}
-use Rattle.promises_of_sharing.specs.PacketsTaken.{CalledOn, Taken, Packets, packets-after-units, packets-after-call, packets-in-work, packets-since}
+use Rattle.promises_of_sharing.specs.PacketsTaken.{CalledOn, Taken, Packets, packets_after_units, packets_after_call, packets_in_work, packets_since}
 use Rattle.promises_of_sharing.specs.TokenLives.{Some, Exports, Spends, ImportAccepted, a-later-import-is-accepted}
 use Rattle.promises_of_sharing.specs.TokenMeans.{MeantAtExport, NamesTheExported, a-later-import-names-the-exported}
 use Rattle.promises_of_packets.specs.Held.{Every}
 use Rattle.rules.specs.declared.Resource.{Resource}
-use Rattle.promises.specs.StateWitness.{textured, stream-with, the_shape}
+use Rattle.promises.specs.StateWitness.{textured, stream_with, the_shape}
 use Rattle.promises.specs.SharedWitness.{exported, imported, released, named}
 
 abbrev pub shared_token : ℕ
@@ -48,29 +48,29 @@ unfoldable pub slot_at : ℕ → ℕ → ℕ → List ℕ
 slot_at gpa size fence = 64 ∷ 0 ∷ 0 ∷ 0 ∷ gpa ∷ 0 ∷ size ∷ 0 ∷ 0 ∷ 0 ∷ 0 ∷ 0 ∷ fence ∷ 0 ∷ 0 ∷ 0 ∷ []
 
 -- the first program: a texture with handle 5, exported
-unfoldable pub first-program : List ℕ
-first-program = textured 5 ++ exported 5 7
+unfoldable pub first_program : List ℕ
+first_program = textured 5 ++ exported 5 7
 
-unfoldable pub two-programs : List ℕ → ℕ → List ℕ
-two-programs second size =
+unfoldable pub two_programs : List ℕ → ℕ → List ℕ
+two_programs second size =
     in_bytes ((ring_magic ∷ version ∷ 192 ∷ 2 ∷ 64 ∷ 0 ∷ 0 ∷ 2 ∷ zeros 8) ++ (slot_at 192 104 7 ++ slot_at 296 size 8))
-    ++ (stream-with first-program ++ stream-with second)
+    ++ (stream_with first_program ++ stream_with second)
 
 -- the device, enabled and rung
-unfoldable pub rung-with : List ℕ → ℕ → World
-rung-with second size =
+unfoldable pub rung_with : List ℕ → ℕ → World
+rung_with second size =
     record {
       state = with_regs (registers_of 0 192 true 0 0 false false 0 no_error true) (made (296 + size));
-      mem = two-programs second size;
+      mem = two_programs second size;
     }
 
 -- the second program imports the texture as 3
 abbrev pub rung : World
-rung = rung-with (imported 3 7) 48
+rung = rung_with (imported 3 7) 48
 
 -- or it releases the token
 abbrev pub rung_releasing : World
-rung_releasing = rung-with (released 7) 40
+rung_releasing = rung_with (released 7) 40
 
 abbrev pub second_job : Job
 second_job = record { ring = 0; head = 1; signal = 8; silent = false }
@@ -103,7 +103,7 @@ pub record TwoSubmissions : Type 0 where
       ≡ record { resources = named 5 5 ∷ []; tokens = record { name = 0; token = shared_token } ∷ [] }
 
 pub two_submissions : TwoSubmissions
-unfolding slot_at first-program two-programs rung-with exported imported released textured stream-with zeros in_bytes le bytes_of over removed lookup index_of nth rename rebind lowest-left ring-header descriptor stream-header power-of-two good-header good-ring ring-opening opening_of descriptor-rules range-rules submission-rules submission-opening wrong-header stream-rules texture-fields export-fields import-fields release-fields known least_size frame-rules frame-of packet-of block-bytes halvings full-chain good-shape create-hosted create on-texture-packet on-export-packet bound on-import-packet on-release-packet apply target-after tokens-after pass take-packet open_step packet_step step go runFor call-run answer-alone call-answer answered settled marked page-written ended_by signalled head-written written faulted doorbell-cleared after
+unfolding slot_at first_program two_programs rung_with exported imported released textured stream_with zeros in_bytes le bytes_of over removed lookup index_of nth rename rebind lowest_left ring_header descriptor stream_header power_of_two good_header good_ring ring_opening opening_of descriptor_rules range_rules submission_rules submission_opening wrong_header stream_rules texture_fields export_fields import_fields release_fields known least_size frame_rules frame_of packet_of block_bytes halvings full_chain good_shape create_hosted create on_texture_packet on_export_packet bound on_import_packet on_release_packet apply target_after tokens_after pass take_packet open_step packet_step step go run_while call_run answer_alone call_answer answered settled marked page_written ended_by signalled head_written written faulted doorbell_cleared after
 two_submissions =
     record {
       nothing_yet = refl;
@@ -135,7 +135,7 @@ the-name-means-the-same-resource =
 -- ---- so the theorems speak of it
 
 pub rung_is_called : Called rung.state
-unfolding rung-with after call-write write-of lookup controlled
+unfolding rung_with after call_write write_of lookup controlled
 rung_is_called = calls (writes 0x200 0) [] (calls (writes 0x10c 1) [] (calls (writes 0x108 192) [] (makes 344)))
 
 -- the state before the import
@@ -150,7 +150,7 @@ answered-and-on = calls-on (calls-on not_yet (runs 65535) refl rung.mem) (answer
 
 -- the packets that count until then: the first program's texture and export, and none yet of the second's
 abbrev pub counted : Packets
-counted = packets-since rung.state before_the_import rung_is_called answered-and-on
+counted = packets_since rung.state before_the_import rung_is_called answered-and-on
 
 abbrev the_texture : Taken
 the_texture =
@@ -167,7 +167,7 @@ the_export =
     }
 
 pub those-that-count : (counted.by_good ≡ the_export ∷ the_texture ∷ []) × (counted.in_work ≡ [])
-unfolding answered-and-on rung_is_called packets-in-work packets-since packets-after-call packets-after-units slot_at first-program two-programs rung-with exported imported textured stream-with zeros in_bytes le bytes_of over removed lookup index_of nth rename rebind lowest-left ring-header descriptor stream-header power-of-two good-header good-ring ring-opening opening_of descriptor-rules range-rules submission-rules submission-opening wrong-header stream-rules texture-fields export-fields import-fields known least_size frame-rules frame-of packet-of block-bytes halvings full-chain good-shape create-hosted create on-texture-packet on-export-packet bound on-import-packet apply target-after tokens-after pass take-packet open_step packet_step step go runFor call-run answer-alone call-answer answered settled marked page-written ended_by signalled head-written written faulted doorbell-cleared after
+unfolding answered-and-on rung_is_called packets_in_work packets_since packets_after_call packets_after_units slot_at first_program two_programs rung_with exported imported textured stream_with zeros in_bytes le bytes_of over removed lookup index_of nth rename rebind lowest_left ring_header descriptor stream_header power_of_two good_header good_ring ring_opening opening_of descriptor_rules range_rules submission_rules submission_opening wrong_header stream_rules texture_fields export_fields import_fields known least_size frame_rules frame_of packet_of block_bytes halvings full_chain good_shape create_hosted create on_texture_packet on_export_packet bound on_import_packet apply target_after tokens_after pass take_packet open_step packet_step step go run_while call_run answer_alone call_answer answered settled marked page_written ended_by signalled head_written written faulted doorbell_cleared after
 those-that-count = (refl, refl)
 
 abbrev the_import : ImportSurface

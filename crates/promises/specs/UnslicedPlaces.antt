@@ -13,11 +13,11 @@ use Rattle.rules.specs.Lists.{pushed}
 use Rattle.rules.specs.Judging.{Finding, fault_at}
 use Rattle.rules.specs.Judging.Finding.{fine, broken}
 use Rattle.rules.specs.Layouts.{entry, stream_header_size}
-use Rattle.rules.specs.Table.{Judged, entry_place, entry-rules, entries_from, entries_of, stop_or_go, judge-entries}
-use Rattle.rules.specs.Stream.{left, frame-of, size_of, packet-of, before, cut, stream_bytes, packets_of}
+use Rattle.rules.specs.Table.{Judged, entry_place, entry_rules, entries_from, entries_of, stop_or_go, judge_entries}
+use Rattle.rules.specs.Stream.{left, frame_of, size_of, packet_of, before, cut, stream_bytes, packets_of}
 use Rattle.rules.specs.Ring.{opening_of}
 use Rattle.rules.specs.Packets.{Progress, pass}
-use Rattle.rules.specs.Unsliced.{Reckoned, one_further, judge-packets, after_entries, submission}
+use Rattle.rules.specs.Unsliced.{Reckoned, one_further, judge_packets, after_entries, submission}
 use Rattle.rules.specs.declared.Entry.{Entry}
 use Rattle.rules.specs.declared.Fault.{Fault}
 use Rattle.rules.specs.declared.Frame.{Frame}
@@ -42,19 +42,19 @@ fine-not-broken e = let z : ◌≡◌ {A = ℕ} 0 1 = cc in omega arith
 module _ (f : Fault) where
   -- the first broken entry, of n after those that are earlier
   judged-entry : (memory : ℕ) (m : List ℕ) (t : Table) (n i : ℕ) (earlier : List Entry) → length earlier + n < 2 ^ 32
-      → (judge-entries memory earlier (entries_from m t i n)).finding ≡ broken f → EntryRule f.code × (f.place < length earlier + n)
-  unfolding judge-entries entries_from
+      → (judge_entries memory earlier (entries_from m t i n)).finding ≡ broken f → EntryRule f.code × (f.place < length earlier + n)
+  unfolding judge_entries entries_from
   judged-entry memory m t zero i earlier room h = absurd (fine-not-broken h)
   judged-entry memory m t (suc n) i earlier room h =
-      by-verdict (entry-rules memory earlier next) refl (judged-entry memory m t n (suc i) (pushed earlier next) (simp length-append (omega arith))) h
+      by-verdict (entry_rules memory earlier next) refl (judged-entry memory m t n (suc i) (pushed earlier next) (simp length-append (omega arith))) h
     where
       next : Entry
       next = entry m (entry_place t i)
 
       later : Judged
-      later = judge-entries memory (pushed earlier next) (entries_from m t (suc i) n)
+      later = judge_entries memory (pushed earlier next) (entries_from m t (suc i) n)
 
-      by-verdict : (v : Verdict) → entry-rules memory earlier next ≡ v
+      by-verdict : (v : Verdict) → entry_rules memory earlier next ≡ v
           → (later.finding ≡ broken f → EntryRule f.code × (f.place < length (pushed earlier next) + n))
           → (stop_or_go (length earlier) v later).finding ≡ broken f → EntryRule f.code × (f.place < length earlier + suc n)
       by-verdict Fine e ih k =
@@ -70,11 +70,11 @@ module _ (f : Fault) where
   Among at b = (packet_number f.code ≡ true) × (at ≤ f.place) × (f.place < at + length b)
 
   judged-packet : (es : List Entry) (k at : ℕ) (b : List ℕ) (h : Progress) → at + length b < 2 ^ 32
-      → (judge-packets es h (cut k at b)).finding ≡ broken f → Among at b
-  unfolding judge-packets cut
+      → (judge_packets es h (cut k at b)).finding ≡ broken f → Among at b
+  unfolding judge_packets cut
   judged-packet es zero at b h room e = absurd (fine-not-broken e)
   judged-packet es (suc k) at b h room e =
-      ⊎_elim (λ some. by_frame some (frame-of b) refl (judged-packet es k) (rw (cut-packet k at b some) at e))
+      ⊎_elim (λ some. by_frame some (frame_of b) refl (judged-packet es k) (rw (cut-packet k at b some) at e))
       (λ none. absurd (fine-not-broken (rw (cut-end (suc k) at b (omega arith)) at e)))
       (below_or_not 0 (length b))
     where
@@ -92,13 +92,13 @@ module _ (f : Fault) where
           (found.0, omega (arith, found.1), omega (arith, found.2, length-drop size b))
       by-verdict size fits some (Broken r) l q ih g = here r l some g
 
-      by_frame : 0 < length b → (x : Frame) → frame-of b ≡ x
-          → ((at' : ℕ) (b' : List ℕ) (h' : Progress) → at' + length b' < 2 ^ 32 → (judge-packets es h' (cut k at' b')).finding ≡ broken f → Among at' b')
-          → (judge-packets es h (before at x b (cut k (at + size_of x) (drop (size_of x) b)))).finding ≡ broken f → Among at b
+      by_frame : 0 < length b → (x : Frame) → frame_of b ≡ x
+          → ((at' : ℕ) (b' : List ℕ) (h' : Progress) → at' + length b' < 2 ^ 32 → (judge_packets es h' (cut k at' b')).finding ≡ broken f → Among at' b')
+          → (judge_packets es h (before at x b (cut k (at + size_of x) (drop (size_of x) b)))).finding ≡ broken f → Among at b
       by_frame some (Whole op size) e ih g =
           let fits : size ≤ length b = (frame-sound b op size e).inside in
-          by-verdict size fits some (pass es h (packet-of op (take size b))).verdict (pass-numbered es h (packet-of op (take size b))) _
-          (ih (at + size) (drop size b) (pass es h (packet-of op (take size b))).held (omega (arith, length-drop size b))) g
+          by-verdict size fits some (pass es h (packet_of op (take size b))).verdict (pass-numbered es h (packet_of op (take size b))) _
+          (ih (at + size) (drop size b) (pass es h (packet_of op (take size b))).held (omega (arith, length-drop size b))) g
       by_frame some (Misframed r) e ih g = here r (subst NumberedFrame e (frame-of-numbered b)) some g
 
 -- what an opening started over bytes, judged by the unsliced rules over the same bytes: the first broken rule is an entry's or a packet's
@@ -107,10 +107,10 @@ module _ (m : List ℕ) (ring size : ℕ) (o : Opened) (opened : opening_of m ri
   lies = subst (LiesOn m) opened (opening-lies m ring size)
 
   abbrev table_judged : Finding
-  table_judged = (judge-entries (length m) [] (entries_of m o.table)).finding
+  table_judged = (judge_entries (length m) [] (entries_of m o.table)).finding
 
   abbrev packets_judged : Progress → Reckoned
-  packets_judged h = judge-packets (entries_of m o.table) h (packets_of m o.stream)
+  packets_judged h = judge_packets (entries_of m o.table) h (packets_of m o.stream)
 
   -- the first broken rule is an entry's: the number is 14 or 15, and the place below the table's count; or all entries are fine, and it is a packet's: the
   -- number is neither, and the place an offset in the stream
@@ -120,7 +120,7 @@ module _ (m : List ℕ) (ring size : ℕ) (o : Opened) (opened : opening_of m ri
   unsliced-tells-which h f = by_table table_judged refl
     where
       by_table : (v : Finding) → table_judged ≡ v
-          → (after_entries v (judge-entries (length m) [] (entries_of m o.table)).count h (packets_judged h)).finding ≡ broken f
+          → (after_entries v (judge_entries (length m) [] (entries_of m o.table)).count h (packets_judged h)).finding ≡ broken f
           → ((table_judged ≡ broken f) × OfAnEntry o.table f) ⊎ ((table_judged ≡ fine) × ((packets_judged h).finding ≡ broken f) × OfAPacket o.stream f)
       by_table fine e k =
           let long : length (left m o.stream stream_header_size) ≡ o.stream.size - stream_header_size = length-drop stream_header_size (stream_bytes m o.stream) ∙ rw lies.stream in

@@ -4,24 +4,24 @@
 use Rattle.std.specs.Prelude.{◌≡◌, true, false, List, [], ◌∷◌, ◌++◌, ℕ, zero, suc, ◌+◌, ◌*◌, take, drop}
 use Rattle.std.proofs.Math.Path.{refl, ap}
 use Rattle.std.proofs.Common.{sym, subst, ◌∙◌}
-use Rattle.machine.specs.Machine.{runFor}
+use Rattle.machine.specs.Machine.{run_while}
 use Rattle.rules.specs.Numbers.{ring_magic, table_magic, stream_magic, version, create_buffer, destroy}
 use Rattle.rules.specs.Bytes.{le, bytes_of}
 use Rattle.rules.specs.Lists.{over, nth, lookup}
 use Rattle.rules.specs.Judging.Finding.{fine, broken}
-use Rattle.rules.specs.Layouts.{word, long, ring-header, descriptor, table-header, entry, stream-header, buffer-fields, destroy-fields, page-bytes}
-use Rattle.rules.specs.Headers.{wrong-header}
-use Rattle.rules.specs.Table.{header-rules, entry_id, entry-rules, take-entry, entries_from, entries_of, judge-entries}
-use Rattle.rules.specs.Stream.{known, stream-rules, least_size, frame-rules, frame-of, packet-of, cut, packets_of}
-use Rattle.rules.specs.Ring.{descriptor-rules, range-rules, submission-rules, submission-opening, power-of-two, good-header, good-ring, ring-opening, opening_of}
-use Rattle.rules.specs.Packets.{Progress, at_first, create-backed, create, on-buffer-packet, on-destroy-packet, apply, target-after, pass, take-packet, tokens-after}
+use Rattle.rules.specs.Layouts.{word, long, ring_header, descriptor, table_header, entry, stream_header, buffer_fields, destroy_fields, page_bytes}
+use Rattle.rules.specs.Headers.{wrong_header}
+use Rattle.rules.specs.Table.{header_rules, entry_id, entry_rules, take_entry, entries_from, entries_of, judge_entries}
+use Rattle.rules.specs.Stream.{known, stream_rules, least_size, frame_rules, frame_of, packet_of, cut, packets_of}
+use Rattle.rules.specs.Ring.{descriptor_rules, range_rules, submission_rules, submission_opening, power_of_two, good_header, good_ring, ring_opening, opening_of}
+use Rattle.rules.specs.Packets.{Progress, at_first, create_backed, create, on_buffer_packet, on_destroy_packet, apply, target_after, pass, take_packet, tokens_after}
 use Rattle.rules.specs.State.{World, made, with_regs, registers_of, no_error, working, registering, nothing_owned}
 use Rattle.rules.specs.State.Work.{waiting}
-use Rattle.rules.specs.Settle.{faulted, signalled, ended_by, written, head-written, page-written, marked, settled, settled_keeping}
-use Rattle.rules.specs.Registers.{controlled, write-of, register}
-use Rattle.rules.specs.Steps.{entries_at, open_step, entry-step, packet_step, step, go}
-use Rattle.rules.specs.Unsliced.{Submission, judge-packets, submission, finished, submitted}
-use Rattle.rules.specs.Calls.{call-write, call-read, call-run, call-record}
+use Rattle.rules.specs.Settle.{faulted, signalled, ended_by, written, head_written, page_written, marked, settled, settled_keeping}
+use Rattle.rules.specs.Registers.{controlled, write_of, register}
+use Rattle.rules.specs.Steps.{entries_at, open_step, entry_step, packet_step, step, go}
+use Rattle.rules.specs.Unsliced.{Submission, judge_packets, submission, finished, submitted}
+use Rattle.rules.specs.Calls.{call_write, call_read, call_run, call_record}
 use Rattle.rules.specs.declared.Entry.{Entry}
 use Rattle.rules.specs.declared.Kind.TheVariants.{Buffer}
 use Rattle.rules.specs.declared.Registers.{Registers}
@@ -33,7 +33,7 @@ use Rattle.promises_of_packets.specs.Held.{Every, Inside}
 use Rattle.promises.specs.NightLog.{zeros}
 use Rattle.promises_of_submissions.specs.Submission.{LiesOn, opening-lies}
 use Rattle.promises_of_submissions.specs.LocalBytes.{Agree}
-use Rattle.promises_of_submissions.specs.Locality.{after_one, over-moving, SameWhenRead, moving-memory-reads-only}
+use Rattle.promises_of_submissions.specs.Locality.{after_one, over_moving, SameWhenRead, moving-memory-reads-only}
 use Rattle.promises_of_submissions.specs.Locality.SameWhenRead.{ends, unit}
 use Rattle.promises_of_submissions.specs.Appended.{appended-bytes-cannot-matter}
 use Rattle.promises_of_submissions.specs.Appended.SameButAppended.{packet, ends as stream-ends}
@@ -41,7 +41,7 @@ use Rattle.promises_of_units.specs.Sound.{SoundState, made-sound, waiting-ranges
 use Rattle.promises_of_units.specs.InMemory.{Lies, RangeEndsIn, made-lies, run-call-lies, waiting-ranges-in-memory}
 use Rattle.promises_of_units.specs.Refused.{run-call-keeps-sound}
 use Rattle.promises_of_submissions.specs.AnyRegisters.{under, writes-between-units}
-use Rattle.promises_of_units.specs.Called.{Call, Called, after, after-all, units_of, units-of-all}
+use Rattle.promises_of_units.specs.Called.{Call, Called, after, after_all, units_of, units_of_all}
 use Rattle.promises_of_units.specs.Called.Call.{writes, runs}
 use Rattle.promises_of_units.specs.Called.Called.{makes, calls}
 
@@ -56,11 +56,11 @@ unfoldable pub ring_words : List ℕ
 ring_words = ring_magic ∷ version ∷ 128 ∷ 1 ∷ 64 ∷ 0 ∷ 0 ∷ 1 ∷ zeros 8
 
 -- its descriptor: a stream of 64 bytes, a table of n entries before it, signal fence 7
-unfoldable pub slot-words : ℕ → List ℕ
-slot-words n = 64 ∷ 0 ∷ 0 ∷ 0 ∷ (152 + n * 32) ∷ 0 ∷ 64 ∷ 0 ∷ 128 ∷ 0 ∷ (24 + n * 32) ∷ 0 ∷ 7 ∷ 0 ∷ 0 ∷ 0 ∷ []
+unfoldable pub slot_words : ℕ → List ℕ
+slot_words n = 64 ∷ 0 ∷ 0 ∷ 0 ∷ (152 + n * 32) ∷ 0 ∷ 64 ∷ 0 ∷ 128 ∷ 0 ∷ (24 + n * 32) ∷ 0 ∷ 7 ∷ 0 ∷ 0 ∷ 0 ∷ []
 
-unfoldable pub table-words : ℕ → List ℕ
-table-words n = table_magic ∷ version ∷ (24 + n * 32) ∷ n ∷ 32 ∷ 0 ∷ []
+unfoldable pub table_words : ℕ → List ℕ
+table_words n = table_magic ∷ version ∷ (24 + n * 32) ∷ n ∷ 32 ∷ 0 ∷ []
 
 -- n entries, all of them alike: id 5, 128 bytes at 64
 unfoldable pub entry_words : ℕ → List ℕ
@@ -68,11 +68,11 @@ entry_words zero = []
 entry_words (suc n) = 5 ∷ 0 ∷ 64 ∷ 0 ∷ 128 ∷ 0 ∷ 0 ∷ 0 ∷ entry_words n
 
 -- one packet: create buffer, handle 1, 32 bytes, backing 5, offset 16
-unfoldable pub stream-words : List ℕ
-stream-words = stream_magic ∷ version ∷ 64 ∷ 0 ∷ 0 ∷ 0 ∷ create_buffer ∷ 40 ∷ 1 ∷ 0 ∷ 32 ∷ 0 ∷ 5 ∷ 16 ∷ 0 ∷ 0 ∷ []
+unfoldable pub stream_words : List ℕ
+stream_words = stream_magic ∷ version ∷ 64 ∷ 0 ∷ 0 ∷ 0 ∷ create_buffer ∷ 40 ∷ 1 ∷ 0 ∷ 32 ∷ 0 ∷ 5 ∷ 16 ∷ 0 ∷ 0 ∷ []
 
 unfoldable pub guest : ℕ → List ℕ
-guest n = in_bytes (ring_words ++ (slot-words n ++ (table-words n ++ (entry_words n ++ stream-words))))
+guest n = in_bytes (ring_words ++ (slot_words n ++ (table_words n ++ (entry_words n ++ stream_words))))
 
 -- an enabled device whose doorbell was rung over it
 unfoldable pub asking : ℕ → World
@@ -103,12 +103,12 @@ held =
       tokens = [];
     }
 
-unfoldable pub the-entry : Entry
-the-entry = record { id = 5; flags = 0; gpa = 64; size = 128 }
+unfoldable pub the_entry : Entry
+the_entry = record { id = 5; flags = 0; gpa = 64; size = 128 }
 
 -- the device that waits with it, its memory and registers as before
 unfoldable pub awaiting : World
-awaiting = working (waiting (begun 1).job (the-entry ∷ []) held) (asking 1)
+awaiting = working (waiting (begun 1).job (the_entry ∷ []) held) (asking 1)
 
 -- three runs of one unit each, with doorbell writes between them
 unfoldable pub ringing : List Call
@@ -129,7 +129,7 @@ pub record TwoGuests : Type 0 where
   pub one-starts : opening_of (guest 1) 0 128 ≡ Started (begun 1)
   pub one-is-fine : submission (guest 1) (begun 1) (at_first nothing_owned) ≡ record { finding = fine; held = held; units = 3 }
   pub accepted : submitted (asking 1) ≡ record { state = awaiting; units = 3 }
-  pub handed_out : call-record awaiting.state 0 ≡ record { answer = 0; range = record { kind = 1; handle = 1; id = 5; gpa = 80; length = 32 } }
+  pub handed_out : call_record awaiting.state 0 ≡ record { answer = 0; range = record { kind = 1; handle = 1; id = 5; gpa = 80; length = 32 } }
   -- with the same entry twice: opened, and refused with 15 after 3 units: error, fence and head are settled
   pub two-start : opening_of (guest 2) 0 128 ≡ Started (begun 2)
   pub two-are-refused : submission (guest 2) (begun 2) (at_first nothing_owned) ≡ record { finding = broken (record { code = 15; place = 1 }); held = at_first nothing_owned; units = 3 }
@@ -137,21 +137,21 @@ pub record TwoGuests : Type 0 where
   pub refused-registers : (submitted (asking 2)).state.state.regs ≡ registers_of 0 128 true 0 7 true true 0 (record { code = 15; fence = 7; count = 1; detail = 1 }) true
   pub refused-head : word (submitted (asking 2)).state.mem 24 ≡ 1
   -- the detail is read at 320: the second entry, counted from 0
-  pub refused-detail : call-read (submitted (asking 2)).state.state 0x320 ≡ record { answer = 0; value = 1 }
+  pub refused-detail : call_read (submitted (asking 2)).state.state 0x320 ≡ record { answer = 0; value = 1 }
   -- the same by calls, with doorbell writes between the units
-  pub ringing-accepted : after-all ringing (asking 1) ≡ awaiting
-  pub ringing-refused : after-all ringing (asking 2) ≡ (submitted (asking 2)).state
-  pub ringing-units : (units-of-all ringing (asking 1) ≡ 3) × (units-of-all ringing (asking 2) ≡ 3)
+  pub ringing-accepted : after_all ringing (asking 1) ≡ awaiting
+  pub ringing-refused : after_all ringing (asking 2) ≡ (submitted (asking 2)).state
+  pub ringing-units : (units_of_all ringing (asking 1) ≡ 3) × (units_of_all ringing (asking 2) ≡ 3)
   -- and with registers that matter written: the head goes to the ring that was opened, the fence to the page as it stands at the end
-  pub rewriting-refused : after-all rewriting (asking 2) ≡ settled_keeping (begun 2).job (broken (record { code = 15; place = 1 })) (registering rewritten (asking 2))
-  pub rewriting-head : word (after-all rewriting (asking 2)).mem 24 ≡ 1
-  pub rewriting-page : long (after-all rewriting (asking 2)).mem 40 ≡ 7
+  pub rewriting-refused : after_all rewriting (asking 2) ≡ settled_keeping (begun 2).job (broken (record { code = 15; place = 1 })) (registering rewritten (asking 2))
+  pub rewriting-head : word (after_all rewriting (asking 2)).mem 24 ≡ 1
+  pub rewriting-page : long (after_all rewriting (asking 2)).mem 40 ≡ 7
   -- and by one run
   pub run-accepted : after (runs 65535) (asking 1) ≡ awaiting
-  pub by_units : over-moving (guest 1 ∷ guest 1 ∷ guest 1 ∷ []) (asking 1).state ≡ awaiting.state
+  pub by_units : over_moving (guest 1 ∷ guest 1 ∷ guest 1 ∷ []) (asking 1).state ≡ awaiting.state
 
 pub two_guests : TwoGuests
-unfolding zeros in_bytes ring_words slot-words table-words entry_words stream-words guest asking begun held the-entry awaiting ringing rewriting rewritten le bytes_of over lookup nth ring-header descriptor table-header entry stream-header buffer-fields page-bytes power-of-two good-header good-ring ring-opening opening_of descriptor-rules range-rules submission-rules submission-opening wrong-header header-rules stream-rules entry-rules take-entry entries_from judge-entries known least_size frame-rules frame-of packet-of cut apply target-after tokens-after pass take-packet on-buffer-packet create create-backed judge-packets submission submitted faulted signalled ended_by written head-written page-written marked settled write-of open_step entry-step packet_step step go runFor call-write call-read register call-run call-record after after-all units_of units-of-all over-moving
+unfolding zeros in_bytes ring_words slot_words table_words entry_words stream_words guest asking begun held the_entry awaiting ringing rewriting rewritten le bytes_of over lookup nth ring_header descriptor table_header entry stream_header buffer_fields page_bytes power_of_two good_header good_ring ring_opening opening_of descriptor_rules range_rules submission_rules submission_opening wrong_header header_rules stream_rules entry_rules take_entry entries_from judge_entries known least_size frame_rules frame_of packet_of cut apply target_after tokens_after pass take_packet on_buffer_packet create create_backed judge_packets submission submitted faulted signalled ended_by written head_written page_written marked settled write_of open_step entry_step packet_step step go run_while call_write call_read register call_run call_record after after_all units_of units_of_all over_moving
 two_guests =
     record {
       one-starts = refl;
@@ -180,19 +180,19 @@ pub record TwoMore : Type 0 where
   -- the packet's offset in the stream: the first stands behind the header
   pub none-starts : opening_of (guest 0) 0 128 ≡ Started (begun 0)
   pub none-is-refused : submission (guest 0) (begun 0) (at_first nothing_owned) ≡ record { finding = broken (record { code = 21; place = 24 }); held = at_first nothing_owned; units = 2 }
-  pub none-detail : call-read (submitted (asking 0)).state.state 0x320 ≡ record { answer = 0; value = 24 }
+  pub none-detail : call_read (submitted (asking 0)).state.state 0x320 ≡ record { answer = 0; value = 24 }
   -- 19 of the table's count has no place
   pub many-are-refused : (submitted (asking 65)).state.state.regs.error ≡ record { code = 19; fence = 7; count = 1; detail = 0 }
 
 pub two_more : TwoMore
-unfolding zeros in_bytes ring_words slot-words table-words entry_words stream-words guest asking begun le bytes_of over lookup ring-header descriptor table-header stream-header buffer-fields power-of-two good-header good-ring ring-opening opening_of descriptor-rules range-rules submission-rules submission-opening wrong-header header-rules stream-rules entries_from judge-entries known least_size frame-rules frame-of packet-of cut apply target-after tokens-after pass on-buffer-packet create create-backed judge-packets submission submitted faulted signalled ended_by written head-written page-written marked settled register call-read
+unfolding zeros in_bytes ring_words slot_words table_words entry_words stream_words guest asking begun le bytes_of over lookup ring_header descriptor table_header stream_header buffer_fields power_of_two good_header good_ring ring_opening opening_of descriptor_rules range_rules submission_rules submission_opening wrong_header header_rules stream_rules entries_from judge_entries known least_size frame_rules frame_of packet_of cut apply target_after tokens_after pass on_buffer_packet create create_backed judge_packets submission submitted faulted signalled ended_by written head_written page_written marked settled register call_read
 two_more = record { none-starts = refl; none-is-refused = refl; none-detail = refl; many-are-refused = refl }
 
 -- ---- so the theorems speak of them
 
 -- such a device comes from a new one by three register writes
 pub asking_is_called : (n : ℕ) → Called (asking n).state
-unfolding asking after call-write write-of lookup controlled
+unfolding asking after call_write write_of lookup controlled
 asking_is_called n = calls (writes 0x200 0) [] (calls (writes 0x10c 1) [] (calls (writes 0x108 128) [] (makes (216 + n * 32))))
 
 -- and the one that waits by a run more
@@ -210,13 +210,13 @@ awaiting-lies : Lies awaiting.state
 unfolding after asking
 awaiting-lies = subst (λ (w : World). Lies w.state) two_guests.run-accepted (run-call-lies (asking 1) 65535 (made-lies 248))
 
-pub its-record-lies-inside : Every (Inside (the-entry ∷ [])) held.holdings.records × Once entry_id (the-entry ∷ [])
+pub its-record-lies-inside : Every (Inside (the_entry ∷ [])) held.holdings.records × Once entry_id (the_entry ∷ [])
 unfolding awaiting
-its-record-lies-inside = waiting-ranges-inside awaiting.state (begun 1).job (the-entry ∷ []) held awaiting-is-sound refl
+its-record-lies-inside = waiting-ranges-inside awaiting.state (begun 1).job (the_entry ∷ []) held awaiting-is-sound refl
 
 pub its-record-lies-in-memory : Every (RangeEndsIn 248) held.holdings.records
 unfolding awaiting asking
-its-record-lies-in-memory = waiting-ranges-in-memory awaiting.state (begun 1).job (the-entry ∷ []) held awaiting-is-sound awaiting-lies refl
+its-record-lies-in-memory = waiting-ranges-in-memory awaiting.state (begun 1).job (the_entry ∷ []) held awaiting-is-sound awaiting-lies refl
 
 -- the two units after the opening, each under any registers: what the unsliced rules say, by the registers of the last
 module _ (r q : Registers) (on : q.enabled ≡ true) where
@@ -230,7 +230,7 @@ module _ (r q : Registers) (on : q.enabled ≡ true) where
       ∙ ap (λ (x : Submission). finished (registering q (asking n)) (begun n).job (entries_of (guest n) (begun n).table) x.held x.finding) judged
 
   pub any-registers-accepted : under (r ∷ []) q (working (entries_at (begun 1) [] nothing_owned) (asking 1)) ≡ registering q awaiting
-  unfolding awaiting the-entry begun guest in_bytes ring_words slot-words table-words entry_words stream-words zeros le bytes_of entry entries_from
+  unfolding awaiting the_entry begun guest in_bytes ring_words slot_words table_words entry_words stream_words zeros le bytes_of entry entries_from
   any-registers-accepted = under-registers 1 _ two_guests.one-starts two_guests.one-is-fine refl
 
   pub any-registers-refused : under (r ∷ []) q (working (entries_at (begun 2) [] nothing_owned) (asking 2))
@@ -239,51 +239,51 @@ module _ (r q : Registers) (on : q.enabled ≡ true) where
 
 -- ---- each unit of the accepted one, lent a memory that holds no byte but those that it reads
 
-unfoldable pub opening-alone : List ℕ
-opening-alone = in_bytes (ring_words ++ (slot-words 1 ++ (table-words 1 ++ (zeros 8 ++ (take 6 stream-words ++ zeros 10)))))
+unfoldable pub opening_alone : List ℕ
+opening_alone = in_bytes (ring_words ++ (slot_words 1 ++ (table_words 1 ++ (zeros 8 ++ (take 6 stream_words ++ zeros 10)))))
 
-unfoldable pub entry-alone : List ℕ
-entry-alone = in_bytes (zeros 38 ++ (entry_words 1 ++ zeros 16))
+unfoldable pub entry_alone : List ℕ
+entry_alone = in_bytes (zeros 38 ++ (entry_words 1 ++ zeros 16))
 
-unfoldable pub packet-alone : List ℕ
-packet-alone = in_bytes (zeros 52 ++ drop 6 stream-words)
+unfoldable pub packet_alone : List ℕ
+packet_alone = in_bytes (zeros 52 ++ drop 6 stream_words)
 
-pub read_alone : SameWhenRead (asking 1).state (guest 1 ∷ guest 1 ∷ guest 1 ∷ []) (opening-alone ∷ entry-alone ∷ packet-alone ∷ [])
-unfolding opening-alone entry-alone packet-alone zeros in_bytes ring_words slot-words table-words entry_words stream-words guest asking le bytes_of lookup ring-header descriptor table-header entry stream-header power-of-two good-header good-ring ring-opening opening_of descriptor-rules range-rules submission-rules submission-opening wrong-header header-rules stream-rules entry-rules take-entry known least_size frame-rules frame-of open_step entry-step step go runFor call-run
+pub read_alone : SameWhenRead (asking 1).state (guest 1 ∷ guest 1 ∷ guest 1 ∷ []) (opening_alone ∷ entry_alone ∷ packet_alone ∷ [])
+unfolding opening_alone entry_alone packet_alone zeros in_bytes ring_words slot_words table_words entry_words stream_words guest asking le bytes_of lookup ring_header descriptor table_header entry stream_header power_of_two good_header good_ring ring_opening opening_of descriptor_rules range_rules submission_rules submission_opening wrong_header header_rules stream_rules entry_rules take_entry known least_size frame_rules frame_of open_step entry_step step go run_while call_run
 read_alone =
-    unit {s = (asking 1).state} (guest 1) opening-alone refl
+    unit {s = (asking 1).state} (guest 1) opening_alone refl
     (λ _. record { header = λ _ _. refl; pending = λ _ _. record { slot = refl; ranges = λ _ _. record { table = λ _. refl; stream = λ _ _. refl } } })
-    (unit {s = after_one (asking 1).state (guest 1)} (guest 1) entry-alone refl (λ _. refl)
-    (unit {s = after_one (after_one (asking 1).state (guest 1)) (guest 1)} (guest 1) packet-alone refl
-    (λ _. record { header = λ _. refl; packet = λ op size e. let is : create_buffer ≡ op = cc in subst (λ (n : ℕ). Agree (guest 1) packet-alone 208 (least_size n)) is refl })
+    (unit {s = after_one (asking 1).state (guest 1)} (guest 1) entry_alone refl (λ _. refl)
+    (unit {s = after_one (after_one (asking 1).state (guest 1)) (guest 1)} (guest 1) packet_alone refl
+    (λ _. record { header = λ _. refl; packet = λ op size e. let is : create_buffer ≡ op = cc in subst (λ (n : ℕ). Agree (guest 1) packet_alone 208 (least_size n)) is refl })
     ends))
 
 -- and so it waits with the same entry, resource and record
-pub moved-and-accepted : over-moving (opening-alone ∷ entry-alone ∷ packet-alone ∷ []) (asking 1).state ≡ awaiting.state
+pub moved-and-accepted : over_moving (opening_alone ∷ entry_alone ∷ packet_alone ∷ []) (asking 1).state ≡ awaiting.state
 moved-and-accepted =
-    sym (moving-memory-reads-only (asking 1).state (guest 1 ∷ guest 1 ∷ guest 1 ∷ []) (opening-alone ∷ entry-alone ∷ packet-alone ∷ []) read_alone)
+    sym (moving-memory-reads-only (asking 1).state (guest 1 ∷ guest 1 ∷ guest 1 ∷ []) (opening_alone ∷ entry_alone ∷ packet_alone ∷ []) read_alone)
     ∙ two_guests.by_units
 
 -- ---- its packet and behind it one that breaks a rule, whose place is its own offset
 
-unfoldable pub second-broken : List ℕ
-second-broken = in_bytes (stream_magic ∷ version ∷ 80 ∷ 0 ∷ 0 ∷ 0 ∷ create_buffer ∷ 40 ∷ 1 ∷ 0 ∷ 32 ∷ 0 ∷ 5 ∷ 16 ∷ 0 ∷ 0 ∷ destroy ∷ 16 ∷ 2 ∷ 0 ∷ [])
+unfoldable pub second_broken : List ℕ
+second_broken = in_bytes (stream_magic ∷ version ∷ 80 ∷ 0 ∷ 0 ∷ 0 ∷ create_buffer ∷ 40 ∷ 1 ∷ 0 ∷ 32 ∷ 0 ∷ 5 ∷ 16 ∷ 0 ∷ 0 ∷ destroy ∷ 16 ∷ 2 ∷ 0 ∷ [])
 
-pub second-packet-is-refused : judge-packets (the-entry ∷ []) (at_first nothing_owned) (packets_of second-broken (record { gpa = 0; size = 80 }))
+pub second-packet-is-refused : judge_packets (the_entry ∷ []) (at_first nothing_owned) (packets_of second_broken (record { gpa = 0; size = 80 }))
     ≡ record { finding = broken (record { code = 18; place = 64 }); held = held; count = 2 }
-unfolding second-broken held the-entry in_bytes le bytes_of lookup buffer-fields destroy-fields known least_size frame-rules frame-of packet-of cut apply target-after tokens-after pass on-buffer-packet on-destroy-packet create create-backed judge-packets
+unfolding second_broken held the_entry in_bytes le bytes_of lookup buffer_fields destroy_fields known least_size frame_rules frame_of packet_of cut apply target_after tokens_after pass on_buffer_packet on_destroy_packet create create_backed judge_packets
 second-packet-is-refused = refl
 
 -- ---- its packet once more, 8 bytes longer than its row: whatever two words are appended, the same record is made
 
-unfoldable pub longer-stream : ℕ → ℕ → List ℕ
-longer-stream a b = in_bytes (stream_magic ∷ version ∷ 72 ∷ 0 ∷ 0 ∷ 0 ∷ create_buffer ∷ 48 ∷ 1 ∷ 0 ∷ 32 ∷ 0 ∷ 5 ∷ 16 ∷ 0 ∷ 0 ∷ a ∷ b ∷ [])
+unfoldable pub longer_stream : ℕ → ℕ → List ℕ
+longer_stream a b = in_bytes (stream_magic ∷ version ∷ 72 ∷ 0 ∷ 0 ∷ 0 ∷ create_buffer ∷ 48 ∷ 1 ∷ 0 ∷ 32 ∷ 0 ∷ 5 ∷ 16 ∷ 0 ∷ 0 ∷ a ∷ b ∷ [])
 
 abbrev pub longer : Stream
 longer = record { gpa = 0; size = 72 }
 
 pub appended-and-accepted : (a b : ℕ)
-    → judge-packets (the-entry ∷ []) (at_first nothing_owned) (packets_of (longer-stream a b) longer) ≡ record { finding = fine; held = held; count = 1 }
-unfolding longer-stream held the-entry in_bytes le bytes_of lookup buffer-fields known least_size frame-rules frame-of packet-of cut apply target-after tokens-after pass on-buffer-packet create create-backed judge-packets
+    → judge_packets (the_entry ∷ []) (at_first nothing_owned) (packets_of (longer_stream a b) longer) ≡ record { finding = fine; held = held; count = 1 }
+unfolding longer_stream held the_entry in_bytes le bytes_of lookup buffer_fields known least_size frame_rules frame_of packet_of cut apply target_after tokens_after pass on_buffer_packet create create_backed judge_packets
 appended-and-accepted a b =
-    appended-bytes-cannot-matter (longer-stream a b) (longer-stream 0 0) longer longer refl (packet create_buffer 48 refl refl refl stream-ends) (the-entry ∷ []) (at_first nothing_owned)
+    appended-bytes-cannot-matter (longer_stream a b) (longer_stream 0 0) longer longer refl (packet create_buffer 48 refl refl refl stream-ends) (the_entry ∷ []) (at_first nothing_owned)

@@ -3,15 +3,15 @@
 use Rattle.std.specs.Prelude.{◌≡◌, refl, List, [], ◌∷◌, ℕ, ◌≤◌}
 use Rattle.std.proofs.Common.{sym, ap, subst, ◌∙◌}
 use Rattle.rules.specs.State.{State, World}
-use Rattle.rules.specs.Loaded.{call-load}
+use Rattle.rules.specs.Loaded.{call_load}
 use Rattle.rules.specs.declared.Form.{Form}
 use Rattle.device.specs.Views.{state_of}
 use Rattle.device.specs.declared.Device.{Device}
 use Rattle.zelezmut.specs.Said.{SaysSaved, SaysLoaded, SaysMoved}
 use Rattle.promises_of_units.specs.Called.{Call, after, Called}
-use Rattle.promises_of_units.specs.Asked.{Asked, left, left-all, Change, Course, SaysAll, NoResetOrLoad}
+use Rattle.promises_of_units.specs.Asked.{Asked, left, left_all, Change, Course, SaysAll, NoResetOrLoad}
 use Rattle.promises_of_units.specs.Asked.Asked.{calls, saves, loads, moves}
-use Rattle.promises_of_sharing.specs.SinceBegun.{asked-on, BetweenResetsAndLoads}
+use Rattle.promises_of_sharing.specs.SinceBegun.{asked_on, BetweenResetsAndLoads}
 use Rattle.promises.specs.Main.{fence-error-and-belongings-whatever-is-asked, whatever-is-asked-between-resets-and-loads, the_completed_fence_may_be_lower_after_loading}
 use Rattle.promises_of_calls.specs.OverLent.{with_loaded}
 use Rattle.promises_of_calls.specs.Exports.{Said, Gives, exports}
@@ -30,15 +30,15 @@ pub data AskedInTurn : Device → List Asked → Device → Type 0 where
       → AskedInTurn d (moves file buffer ∷ qs) e
 
 -- they lead where the rules lead
-pub asked-leads : {d e : Device} {qs : List Asked} → AskedInTurn d qs e → state_of e ≡ left-all qs (state_of d)
-unfolding left-all left
+pub asked-leads : {d e : Device} {qs : List Asked} → AskedInTurn d qs e → state_of e ≡ left_all qs (state_of d)
+unfolding left_all left
 asked-leads ends = refl
 asked-leads {d = d} (called {d' = d'} {qs = qs} c m x m' k p) =
-    asked-leads p ∙ ap (left-all qs) (ap (λ (u : World). u.state) (exports.gives-world d m c x d' m' k))
+    asked-leads p ∙ ap (left_all qs) (ap (λ (u : World). u.state) (exports.gives-world d m c x d' m' k))
 asked-leads (saved f buffer n buffer' k p) = asked-leads p
 asked-leads {d = d} (loaded {qs = qs} file n s a ft k p) =
-    let is : state_of (with_loaded s a ft d) ≡ (call-load (state_of d) file).state = k.state d.entries d.second d.secondtokens d.records in
-    asked-leads p ∙ ap (left-all qs) is
+    let is : state_of (with_loaded s a ft d) ≡ (call_load (state_of d) file).state = k.state d.entries d.second d.secondtokens d.records in
+    asked-leads p ∙ ap (left_all qs) is
 asked-leads (moved file buffer n buffer' k p) = asked-leads p
 
 -- the completed fence, the error registers, the resources and the tokens
@@ -49,7 +49,7 @@ exports-say {d = d} {qs = qs} p =
 
 -- the calls among them, as the rules' calls
 abbrev pub calls-among : {d e : Device} {qs : List Asked} → AskedInTurn d qs e → NoResetOrLoad qs → CalledOn (state_of d) (state_of e)
-calls-among {d = d} {qs = qs} p n = subst (CalledOn (state_of d)) (sym (asked-leads p)) (asked-on qs (state_of d) n)
+calls-among {d = d} {qs = qs} p n = subst (CalledOn (state_of d)) (sym (asked-leads p)) (asked_on qs (state_of d) n)
 
 -- between resets and loads: used and spent tokens, names, that a token lives on, and which resource it is bound to
 pub exports-between-resets-and-loads : {d e : Device} {qs : List Asked} (p : AskedInTurn d qs e) (k : MadeAndCalled exports d) (n : NoResetOrLoad qs)
@@ -57,7 +57,7 @@ pub exports-between-resets-and-loads : {d e : Device} {qs : List Asked} (p : Ask
 exports-between-resets-and-loads {d = d} {e = e} {qs = qs} p k n =
     let both : (q : CalledOn (state_of d) (state_of e)) × BetweenResetsAndLoads (state_of d) (state_of e) (made_and_called exports d k) q =
     subst (λ (t : State). (q : CalledOn (state_of d) t) × BetweenResetsAndLoads (state_of d) t (made_and_called exports d k) q) (sym (asked-leads p))
-    (asked-on qs (state_of d) n, whatever-is-asked-between-resets-and-loads (state_of d) (made_and_called exports d k) qs n) in
+    (asked_on qs (state_of d) n, whatever-is-asked-between-resets-and-loads (state_of d) (made_and_called exports d k) qs n) in
     both.1
 
 -- and but for a reset and a load of a good file the completed fence does not fall

@@ -3,11 +3,11 @@
 use Rattle.std.specs.Prelude.{◌≡◌, refl, Bool, List, ℕ}
 use Rattle.std.proofs.Common.{sym, ap, ◌∙◌}
 use Rattle.rules.specs.State.{World, made}
-use Rattle.rules.specs.Calls.{Wrote as WroteBy, Value, Ran as RanBy, RecordRead as RecordReadBy, call-write, call-read, call-run, call-record, call-answer}
+use Rattle.rules.specs.Calls.{Wrote as WroteBy, Value, Ran as RanBy, RecordRead as RecordReadBy, call_write, call_read, call_run, call_record, call_answer}
 use Rattle.rules.specs.Numbers.{done}
 use Rattle.rules.specs.Lists.Found.{none}
-use Rattle.rules.specs.Loaded.{Loaded as LoadedBy, bad-place, loaded}
-use Rattle.run_state.specs.Views.{worldIn}
+use Rattle.rules.specs.Loaded.{Loaded as LoadedBy, bad_place, loaded}
+use Rattle.run_state.specs.Views.{world_in}
 use Rattle.device_calls.specs.Views.{value_of, record_read_of}
 use Rattle.device_calls.specs.declared.ValueRead.{ValueRead}
 use Rattle.device_calls.specs.declared.RecordRead.{RecordRead}
@@ -19,17 +19,17 @@ use Rattle.device.specs.declared.Loaded.{Loaded}
 use Rattle.promises_of_saving.specs.Refusals.{load-of-good, kept-is-good, loaded-exactly}
 use Rattle.promises_of_units.specs.Called.{Call, after}
 use Rattle.promises_of_units.specs.Called.Call.{writes, reads, runs, records, answers}
-use Rattle.promises_of_units.specs.Replies.{Reply, answering, showing, spending, handing, reply-to}
+use Rattle.promises_of_units.specs.Replies.{Reply, answering, showing, spending, handing, reply_to}
 use Rattle.promises_of_submissions.specs.Locality.{lent}
 use Rattle.promises_of_calls.specs.Layers.{Layer}
 
 -- a device with memory m beside it, a call of it, its reply, and the device and memory after it
 pub data Gives (d : Device) (m : List ℕ) : Call → Reply → Device → List ℕ → Type 0 where
-  write-gives : (offset v : ℕ) (r : Wrote) → wrote_of r ≡ call-write (state_of d) offset v → Gives d m (writes offset v) (answering r.answer) r.device m
-  read-gives : (offset : ℕ) (x : ValueRead) → value_of x ≡ call-read (state_of d) offset → Gives d m (reads offset) (showing x.answer x.value) d m
-  run-gives : (n : ℕ) (r : Ran) (m' : List ℕ) → ran_of r m' ≡ call-run (world_of d m) n → Gives d m (runs n) (spending r.answer r.units r.ended) r.device m'
-  record-gives : (i : ℕ) (x : RecordRead) → record_read_of x ≡ call-record (state_of d) i → Gives d m (records i) (handing x.answer x.range) d m
-  answer-gives : (good : Bool) (n : ℕ) (r : Ran) (m' : List ℕ) → ran_of r m' ≡ call-answer (world_of d m) good n
+  write-gives : (offset v : ℕ) (r : Wrote) → wrote_of r ≡ call_write (state_of d) offset v → Gives d m (writes offset v) (answering r.answer) r.device m
+  read-gives : (offset : ℕ) (x : ValueRead) → value_of x ≡ call_read (state_of d) offset → Gives d m (reads offset) (showing x.answer x.value) d m
+  run-gives : (n : ℕ) (r : Ran) (m' : List ℕ) → ran_of r m' ≡ call_run (world_of d m) n → Gives d m (runs n) (spending r.answer r.units r.ended) r.device m'
+  record-gives : (i : ℕ) (x : RecordRead) → record_read_of x ≡ call_record (state_of d) i → Gives d m (records i) (handing x.answer x.range) d m
+  answer-gives : (good : Bool) (n : ℕ) (r : Ran) (m' : List ℕ) → ran_of r m' ≡ call_answer (world_of d m) good n
       → Gives d m (answers good n) (spending r.answer r.units r.ended) r.device m'
 
 -- `Device::new` handed it back
@@ -45,14 +45,14 @@ pub record Loads (b : List ℕ) (d : Device) : Type 0 where
   pub leaves : reply.device ≡ d
 
 -- the file is good, and the device is what it says
-pub loads-loaded : (b : List ℕ) (d : Device) → Loads b d → (bad-place b ≡ none) × (state_of d ≡ loaded b)
+pub loads-loaded : (b : List ℕ) (d : Device) → Loads b d → (bad_place b ≡ none) × (state_of d ≡ loaded b)
 loads-loaded b d k =
-    let good : bad-place b ≡ none = kept-is-good b ((loaded-exactly (state_of k.before) b).0 (sym (ap (λ (l : LoadedBy). l.answer) k.loads.loads) ∙ k.answered)) in
+    let good : bad_place b ≡ none = kept-is-good b ((loaded-exactly (state_of k.before) b).0 (sym (ap (λ (l : LoadedBy). l.answer) k.loads.loads) ∙ k.answered)) in
     (good, sym (ap state_of k.leaves) ∙ (ap (λ (l : LoadedBy). l.state) k.loads.loads ∙ ap (λ (l : LoadedBy). l.state) (load-of-good (state_of k.before) b good)))
 
 -- its reply is the rules' reply
-pub gives-reply : (d : Device) (m : List ℕ) (c : Call) (r : Reply) (d' : Device) (m' : List ℕ) → Gives d m c r d' m' → r ≡ reply-to c (lent (state_of d) m)
-unfolding reply-to worldIn
+pub gives-reply : (d : Device) (m : List ℕ) (c : Call) (r : Reply) (d' : Device) (m' : List ℕ) → Gives d m c r d' m' → r ≡ reply_to c (lent (state_of d) m)
+unfolding reply_to world_in
 gives-reply d m c r d' m' (write-gives offset v x k) = ap (λ (y : WroteBy). answering y.answer) k
 gives-reply d m c r d' m' (read-gives offset x k) = ap (λ (y : Value). showing y.answer y.value) k
 gives-reply d m c r d' m' (run-gives n x n' k) = ap (λ (y : RanBy). spending y.answer y.units y.ended) k
@@ -61,15 +61,15 @@ gives-reply d m c r d' m' (answer-gives good n x n' k) = ap (λ (y : RanBy). spe
 
 -- and leaves what the rules' call leaves
 pub gives-world : (d : Device) (m : List ℕ) (c : Call) (r : Reply) (d' : Device) (m' : List ℕ) → Gives d m c r d' m' → lent (state_of d') m' ≡ after c (lent (state_of d) m)
-unfolding after worldIn
+unfolding after world_in
 gives-world d m c r d' m' (write-gives offset v x k) = ap (λ (y : WroteBy). lent y.state m) k
 gives-world d m c r d' m' (read-gives offset x k) = refl
 gives-world d m c r d' m' (run-gives n x n' k) = ap (λ (y : RanBy). y.world) k
 gives-world d m c r d' m' (record-gives i x k) = refl
 gives-world d m c r d' m' (answer-gives good n x n' k) = ap (λ (y : RanBy). y.world) k
 
-pub reply-answers : (good : Bool) (n : ℕ) (w : World) → (reply-to (answers good n) w).answer ≡ (call-answer w good n).answer
-unfolding reply-to
+pub reply-answers : (good : Bool) (n : ℕ) (w : World) → (reply_to (answers good n) w).answer ≡ (call_answer w good n).answer
+unfolding reply_to
 reply-answers good n w = refl
 
 -- a layer whose devices are such structs and whose calls are calls of the device by value: what was made, what was called, and why both are so

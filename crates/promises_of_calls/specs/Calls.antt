@@ -7,14 +7,14 @@ use Rattle.machine.specs.Machine.{pick}
 use Rattle.rules.specs.Numbers.{done, clips}
 use Rattle.rules.specs.State.{State, World}
 use Rattle.rules.specs.Steps.{go}
-use Rattle.rules.specs.Calls.{RecordRead, call-run, call-record, call-answer}
-use Rattle.promises_of_units.specs.Called.{Call, after, units_of, taken-by, Called}
+use Rattle.rules.specs.Calls.{RecordRead, call_run, call_record, call_answer}
+use Rattle.promises_of_units.specs.Called.{Call, after, units_of, taken_by, Called}
 use Rattle.promises_of_units.specs.Called.Call.{writes, reads, runs, records, answers}
 use Rattle.promises_of_units.specs.Called.Called.{makes, loads, calls}
-use Rattle.promises_of_units.specs.Acts.{Act, in_a_row, acts-of}
+use Rattle.promises_of_units.specs.Acts.{Act, in_a_row, acts_of}
 use Rattle.promises_of_units.specs.Acts.Act.{write, answer}
 use Rattle.promises_of_units.specs.Ranges.{InOneEntry, ranges-at-the-record-call}
-use Rattle.promises_of_units.specs.Replies.{reply-to}
+use Rattle.promises_of_units.specs.Replies.{reply_to}
 use Rattle.promises_of_submissions.specs.Locality.{lent, SameWhereRead, SameEnd, SameRun, run-of-one-reads-only}
 use Rattle.promises_of_calls.specs.Layers.{taken_in, Layer, standing}
 
@@ -37,7 +37,7 @@ module _ {L : Layer} {c : Call} (k : CallMade L c) where
   abbrev pub afterwards : World
   afterwards = standing L k.leaves k.memory
 
-  says-the-reply : k.said ≡ L.said c (reply-to c before)
+  says-the-reply : k.said ≡ L.said c (reply_to c before)
   says-the-reply = L.gives-reply k.of k.over c k.said k.leaves k.memory k.gives
 
   leaves-the-world : afterwards ≡ after c before
@@ -51,8 +51,8 @@ acts_in (runs n) u a = in_a_row u
 acts_in (records i) u a = []
 acts_in (answers good n) u a = pick (eqb a done) (answer good ∷ in_a_row u) []
 
-reply-units : (c : Call) (w : World) → (reply-to c w).units ≡ units_of c w
-unfolding reply-to units_of
+reply-units : (c : Call) (w : World) → (reply_to c w).units ≡ units_of c w
+unfolding reply_to units_of
 reply-units (writes offset v) w = refl
 reply-units (reads offset) w = refl
 reply-units (runs n) w = refl
@@ -60,36 +60,36 @@ reply-units (records i) w = refl
 reply-units (answers good n) w = refl
 
 module _ (L : Layer) (w : World) (x : L.Said) where
-  says-units : (c : Call) → x ≡ L.said c (reply-to c w) → L.units c x ≡ units_of c w
+  says-units : (c : Call) → x ≡ L.said c (reply_to c w) → L.units c x ≡ units_of c w
   says-units c e = ap (L.units c) e ∙ (L.units-read c w ∙ reply-units c w)
 
-  says-answered : (good : Bool) (n : ℕ) → x ≡ L.said (answers good n) (reply-to (answers good n) w) → L.answered x ≡ (call-answer w good n).answer
+  says-answered : (good : Bool) (n : ℕ) → x ≡ L.said (answers good n) (reply_to (answers good n) w) → L.answered x ≡ (call_answer w good n).answer
   says-answered good n e = ap L.answered e ∙ L.answered-as good n w
 
-  says-taken : (c : Call) → x ≡ L.said c (reply-to c w) → taken_in c (L.answered x) ≡ taken-by c w
-  unfolding taken-by
+  says-taken : (c : Call) → x ≡ L.said c (reply_to c w) → taken_in c (L.answered x) ≡ taken_by c w
+  unfolding taken_by
   says-taken (writes offset v) e = refl
   says-taken (reads offset) e = refl
   says-taken (runs n) e = refl
   says-taken (records i) e = refl
   says-taken (answers good n) e = ap (taken_in (answers good n)) (says-answered good n e)
 
-  says-acts : (c : Call) → x ≡ L.said c (reply-to c w) → acts_in c (L.units c x) (L.answered x) ≡ acts-of c w
-  unfolding acts-of units_of
+  says-acts : (c : Call) → x ≡ L.said c (reply_to c w) → acts_in c (L.units c x) (L.answered x) ≡ acts_of c w
+  unfolding acts_of units_of
   says-acts (writes offset v) e = refl
   says-acts (reads offset) e = refl
   says-acts (runs n) e = ap in_a_row (says-units (runs n) e)
   says-acts (records i) e = refl
   says-acts (answers good n) e =
-      ap (λ u. acts_in (answers good n) u (L.answered x)) (says-units (answers good n) e) ∙ ap (acts_in (answers good n) (call-answer w good n).units) (says-answered good n e)
+      ap (λ u. acts_in (answers good n) u (L.answered x)) (says-units (answers good n) e) ∙ ap (acts_in (answers good n) (call_answer w good n).units) (says-answered good n e)
 
 -- what it says and leaves is what the rules say and leave
 pub record AsCall {L : Layer} {c : Call} (k : CallMade L c) : Type 0 where
-  pub reply : k.said ≡ L.said c (reply-to c (before k))
+  pub reply : k.said ≡ L.said c (reply_to c (before k))
   pub world : afterwards k ≡ after c (before k)
   pub units : L.units c k.said ≡ units_of c (before k)
-  pub taken : taken_in c (L.answered k.said) ≡ taken-by c (before k)
-  pub acts : acts_in c (L.units c k.said) (L.answered k.said) ≡ acts-of c (before k)
+  pub taken : taken_in c (L.answered k.said) ≡ taken_by c (before k)
+  pub acts : acts_in c (L.units c k.said) (L.answered k.said) ≡ acts_of c (before k)
 
 -- of every call
 pub call-is-the-rules : {L : Layer} {c : Call} (k : CallMade L c) → AsCall k
@@ -122,9 +122,9 @@ made_and_called L d (called-one {d = b} m m' c x k earlier) =
 -- ---- record calls
 
 module _ {L : Layer} (i : ℕ) (k : CallMade L (records i)) where
-  hands_out : L.record_read k.said ≡ call-record (L.state k.of) i
-  unfolding reply-to
-  hands_out = ap L.record_read (says-the-reply k) ∙ L.record-read-as i (reply-to (records i) (before k))
+  hands_out : L.record_read k.said ≡ call_record (L.state k.of) i
+  unfolding reply_to
+  hands_out = ap L.record_read (says-the-reply k) ∙ L.record-read-as i (reply_to (records i) (before k))
 
   -- of a device that was made and called: a range handed out, a record of kind 1 to 3, lies inside exactly one entry of the table of the
   -- submission that waits, and inside memory
@@ -143,13 +143,13 @@ pub one-to-every-call : {L : Layer} {c : Call} (k l : CallMade L c) → L.state 
 one-to-every-call {L} {c} k l same lends =
     let start : before k ≡ before l = ap (λ (s : State). lent s k.over) same ∙ ap (lent (L.state l.of)) lends in
     let end : afterwards k ≡ afterwards l = leaves-the-world k ∙ (ap (after c) start ∙ sym (leaves-the-world l)) in (
-      says-the-reply k ∙ (ap (λ w. L.said c (reply-to c w)) start ∙ sym (says-the-reply l)),
+      says-the-reply k ∙ (ap (λ w. L.said c (reply_to c w)) start ∙ sym (says-the-reply l)),
       ap (λ (w : World). w.state) end,
       ap (λ (w : World). w.mem) end,
     )
 
-same-reply : (w v : World) (m n : List ℕ) → SameRun m n (call-run w 1) (call-run v 1) → reply-to (runs 1) w ≡ reply-to (runs 1) v
-unfolding reply-to
+same-reply : (w v : World) (m n : List ℕ) → SameRun m n (call_run w 1) (call_run v 1) → reply_to (runs 1) w ≡ reply_to (runs 1) v
+unfolding reply_to
 same-reply w v m n r = rw (r.answer, r.units, r.ended)
 
 -- a run of one unit over two memories of one length that hold the same bytes where the unit reads, whatever stands elsewhere: it says the
@@ -159,8 +159,8 @@ pub run-of-one-reads-only-there : {L : Layer} (k l : CallMade L (runs 1)) → L.
 unfolding after
 run-of-one-reads-only-there {L} k l same len read =
     let there : lent (L.state k.of) l.over ≡ before l = ap (λ (s : State). lent s l.over) same in
-    let r : SameRun k.over l.over (call-run (before k) 1) (call-run (before l) 1) =
-    subst (λ w. SameRun k.over l.over (call-run (before k) 1) (call-run w 1)) there (run-of-one-reads-only (L.state k.of) k.over l.over len read) in (
+    let r : SameRun k.over l.over (call_run (before k) 1) (call_run (before l) 1) =
+    subst (λ w. SameRun k.over l.over (call_run (before k) 1) (call_run w 1)) there (run-of-one-reads-only (L.state k.of) k.over l.over len read) in (
       says-the-reply k ∙ (ap (L.said (runs 1)) (same-reply (before k) (before l) k.over l.over r) ∙ sym (says-the-reply l)),
       rw (leaves-the-world k, leaves-the-world l) r.end,
     )

@@ -4,8 +4,8 @@ use Rattle.std.specs.Prelude.{◌≡◌, true, List, [], ℕ, length}
 use Rattle.std.proofs.Common.{ap}
 use Rattle.rules.specs.Numbers.{done, clips}
 use Rattle.rules.specs.Steps.{go}
-use Rattle.rules.specs.Calls.{call-run, call-record}
-use Rattle.run_state.specs.Views.{worldIn}
+use Rattle.rules.specs.Calls.{call_run, call_record}
+use Rattle.run_state.specs.Views.{world_in}
 use Rattle.device_calls.specs.Views.{record_read_of}
 use Rattle.device_calls.specs.declared.RecordRead.{RecordRead}
 use Rattle.device_memory_calls.specs.Views.{Runs}
@@ -28,7 +28,7 @@ use Rattle.promises_of_calls.specs.Calls.{MadeAndCalled, handed-out-in-one-entry
 -- ---- of a device that was made and called, where the record call answers 0
 
 -- `Device::record`
-pub device-record-in-one-entry : (d : Device) → MadeAndCalled by_value d → (i : ℕ) (x : RecordRead) → record_read_of x ≡ call-record (state_of d) i → x.answer ≡ done
+pub device-record-in-one-entry : (d : Device) → MadeAndCalled by_value d → (i : ℕ) (x : RecordRead) → record_read_of x ≡ call_record (state_of d) i → x.answer ≡ done
     → (x.range.kind ≡ clips → ⊥) → InOneEntry (state_of d) i x.range
 device-record-in-one-entry d c i x k =
     handed-out-in-one-entry i (record { of = d; over = []; said = handing x.answer x.range; leaves = d; memory = []; gives = record-gives i x k }) c
@@ -44,9 +44,9 @@ export-record-in-one-entry d c i n words k =
 module _ (d e d₁ e₁ : Device) (m n m₁ n₁ : List ℕ) (same : state_of d ≡ state_of e) (len : length m ≡ length n)
     (read : go (world_of d m) ≡ true → SameWhereRead (state_of d) m n) where
   -- `Device::run`
-  pub device-run-reads-only-there : (r q : Ran) → ran_of r m₁ ≡ call-run (world_of d m) 1 → ran_of q n₁ ≡ call-run (world_of e n) 1
+  pub device-run-reads-only-there : (r q : Ran) → ran_of r m₁ ≡ call_run (world_of d m) 1 → ran_of q n₁ ≡ call_run (world_of e n) 1
       → (spending r.answer r.units r.ended ≡ spending q.answer q.units q.ended) × SameEnd m n (world_of r.device m₁) (world_of q.device n₁)
-  unfolding worldIn
+  unfolding world_in
   device-run-reads-only-there r q k l =
       run-of-one-reads-only-there {L = by_value}
       (record { of = d; over = m; said = spending r.answer r.units r.ended; leaves = r.device; memory = m₁; gives = run-gives 1 r m₁ k })
@@ -56,7 +56,7 @@ module _ (d e d₁ e₁ : Device) (m n m₁ n₁ : List ℕ) (same : state_of d 
   -- the run over lent state
   pub lent-run-reads-only-there : (x y : Spent) → Runs 1 (lent_of d m) x (lent_of d₁ m₁) → Runs 1 (lent_of e n) y (lent_of e₁ n₁)
       → (spending x.answer x.units x.ended ≡ spending y.answer y.units y.ended) × SameEnd m n (world_of d₁ m₁) (world_of e₁ n₁)
-  unfolding worldIn
+  unfolding world_in
   lent-run-reads-only-there x y k l =
       run-of-one-reads-only-there {L = over_lent}
       (record { of = d; over = m; said = spending x.answer x.units x.ended; leaves = d₁; memory = m₁; gives = lent-run 1 x d₁ m₁ k })
@@ -66,7 +66,7 @@ module _ (d e d₁ e₁ : Device) (m n m₁ n₁ : List ℕ) (same : state_of d 
   -- `zelezmut_run`: it returns the same number
   pub export-run-reads-only-there : (x y : ℕ) → SaysRun 1 (lent_of d m) x (lent_of d₁ m₁) → SaysRun 1 (lent_of e n) y (lent_of e₁ n₁)
       → (x ≡ y) × SameEnd m n (world_of d₁ m₁) (world_of e₁ n₁)
-  unfolding worldIn
+  unfolding world_in
   export-run-reads-only-there x y k l =
       let both : (returning x ≡ returning y) × SameEnd m n (world_of d₁ m₁) (world_of e₁ n₁) =
       run-of-one-reads-only-there {L = exports}

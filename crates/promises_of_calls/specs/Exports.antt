@@ -4,13 +4,13 @@ use Rattle.std.specs.Prelude.{◌≡◌, refl, Bool, List, [], ℕ, ◌+◌, ◌
 use Rattle.std.proofs.Common.{sym, ap, ◌∙◌, arith}
 use Rattle.rules.specs.Numbers.{done}
 use Rattle.rules.specs.Lists.Found.{none}
-use Rattle.rules.specs.Loaded.{Loaded, bad-place, loaded, call-load}
+use Rattle.rules.specs.Loaded.{Loaded, bad_place, loaded, call_load}
 use Rattle.rules.specs.State.{World}
-use Rattle.rules.specs.Calls.{ended_number, Ran, call-run, call-record, call-answer}
+use Rattle.rules.specs.Calls.{ended_number, Ran, call_run, call_record, call_answer}
 use Rattle.rules.specs.declared.Record.{Record}
 use Rattle.rules.specs.declared.Ended.{Ended}
 use Rattle.rules.specs.declared.Ended.TheVariants.{Idle, Waiting, Paused}
-use Rattle.run_state.specs.Views.{set_in, worldIn}
+use Rattle.run_state.specs.Views.{set_in, world_in}
 use Rattle.register_writes.specs.Views.{Writes}
 use Rattle.device_calls.specs.Views.{Makes}
 use Rattle.device.specs.Views.{state_of}
@@ -22,7 +22,7 @@ use Rattle.promises_of_saving.specs.Refusals.{load-of-good, kept-is-good, loaded
 use Rattle.promises_of_units.specs.Called.{Call, after}
 use Rattle.promises_of_units.specs.Called.Call.{writes, reads, runs, records, answers}
 use Rattle.promises_of_units.specs.Runs.{of-run, of-answer}
-use Rattle.promises_of_units.specs.Replies.{Reply, reply-to}
+use Rattle.promises_of_units.specs.Replies.{Reply, reply_to}
 use Rattle.promises_of_submissions.specs.Locality.{lent}
 use Rattle.promises_of_calls.specs.Layers.{Layer}
 use Rattle.promises_of_calls.specs.OverLent.{with_words, lent_of, over_lent, with_loaded}
@@ -75,41 +75,41 @@ ended-small Idle = omega arith
 ended-small Waiting = omega arith
 ended-small Paused = omega arith
 
-answer-small : (w : World) (n : ℕ) → (call-run w n).answer ≤ 1
+answer-small : (w : World) (n : ℕ) → (call_run w n).answer ≤ 1
 answer-small w n = of-run (λ (r : Ran). r.answer ≤ 1) w n (λ e. omega arith) (λ e. omega arith)
 
-answer-call-small : (w : World) (good : Bool) (n : ℕ) → (call-answer w good n).answer ≤ 3
+answer-call-small : (w : World) (good : Bool) (n : ℕ) → (call_answer w good n).answer ≤ 3
 answer-call-small w good n = of-answer (λ (r : Ran). r.answer ≤ 3) w good n (λ e. omega arith) (λ e f. omega arith) (λ e f. omega arith)
 
 -- above the answer and how it ended, the units stand alone
-pub units-read : (c : Call) (w : World) → units_said c (said c (reply-to c w)) ≡ (reply-to c w).units
-unfolding reply-to
+pub units-read : (c : Call) (w : World) → units_said c (said c (reply_to c w)) ≡ (reply_to c w).units
+unfolding reply_to
 units-read (writes offset v) w = refl
 units-read (reads offset) w = refl
-units-read (runs n) w = omega (arith, ended-small (call-run w n).ended, answer-small w n)
+units-read (runs n) w = omega (arith, ended-small (call_run w n).ended, answer-small w n)
 units-read (records i) w = refl
-units-read (answers good n) w = omega (arith, ended-small (call-answer w good n).ended, answer-call-small w good n)
+units-read (answers good n) w = omega (arith, ended-small (call_answer w good n).ended, answer-call-small w good n)
 
 -- and below both, the answer
-pub answered-read : (good : Bool) (n : ℕ) (w : World) → (said (answers good n) (reply-to (answers good n) w)).number % 256 ≡ (call-answer w good n).answer
-unfolding reply-to
-answered-read good n w = omega (arith, ended-small (call-answer w good n).ended, answer-call-small w good n)
+pub answered-read : (good : Bool) (n : ℕ) (w : World) → (said (answers good n) (reply_to (answers good n) w)).number % 256 ≡ (call_answer w good n).answer
+unfolding reply_to
+answered-read good n w = omega (arith, ended-small (call_answer w good n).ended, answer-call-small w good n)
 
 -- what it says is the rules' reply
-pub gives-reply : (d : Device) (m : List ℕ) (c : Call) (x : Said) (d' : Device) (m' : List ℕ) → Gives d m c x d' m' → x ≡ said c (reply-to c (lent (state_of d) m))
-unfolding reply-to worldIn
+pub gives-reply : (d : Device) (m : List ℕ) (c : Call) (x : Said) (d' : Device) (m' : List ℕ) → Gives d m c x d' m' → x ≡ said c (reply_to c (lent (state_of d) m))
+unfolding reply_to world_in
 gives-reply d m c x d' m' (zelezmut-write offset v answer s' k) =
     ap (λ (r : Reply). returning r.answer) (over_lent.gives-reply d m _ _ _ _ (lent-write offset v answer s' k))
 gives-reply d m c x d' m' (zelezmut-read offset n k) = ap returning (k.value d.entries d.first d.second d.firsttokens d.secondtokens d.records)
 gives-reply d m c x d' m' (zelezmut-run allowance n e n' k) = ap returning k.spent
 gives-reply d m c x d' m' (zelezmut-record i n words k) =
     ap (λ (a : ℕ). record { number = a; words = words }) (k.answer d.entries d.first d.second d.firsttokens d.secondtokens)
-    ∙ ap (λ (l : List ℕ). record { number = (call-record (state_of d) i).answer; words = l }) (k.range d.entries d.first d.second d.firsttokens d.secondtokens)
+    ∙ ap (λ (l : List ℕ). record { number = (call_record (state_of d) i).answer; words = l }) (k.range d.entries d.first d.second d.firsttokens d.secondtokens)
 gives-reply d m c x d' m' (zelezmut-answer good allowance n e n' k) = ap returning k.spent
 
 -- and it leaves what the rules' call leaves
 pub gives-world : (d : Device) (m : List ℕ) (c : Call) (x : Said) (d' : Device) (m' : List ℕ) → Gives d m c x d' m' → lent (state_of d') m' ≡ after c (lent (state_of d) m)
-unfolding after worldIn
+unfolding after world_in
 gives-world d m c x d' m' (zelezmut-write offset v answer s' k) = over_lent.gives-world d m _ _ _ _ (lent-write offset v answer s' k)
 gives-world d m c x d' m' (zelezmut-read offset n k) = refl
 gives-world d m c x d' m' (zelezmut-run allowance n e n' k) = k.world
@@ -125,12 +125,12 @@ pub record LoadsSaid (b : List ℕ) (d : Device) : Type 0 where
   pub leaves : with_loaded d.words d.first d.firsttokens before ≡ d
 
 -- the file is good, and the device is what it says
-pub loads-loaded : (b : List ℕ) (d : Device) → LoadsSaid b d → (bad-place b ≡ none) × (state_of d ≡ loaded b)
+pub loads-loaded : (b : List ℕ) (d : Device) → LoadsSaid b d → (bad_place b ≡ none) × (state_of d ≡ loaded b)
 loads-loaded b d k =
     let old : Device = k.before in
     let place = k.loads.place old.entries old.second old.secondtokens old.records in
-    let zero : (call-load (state_of old) b).answer ≡ done = omega (arith, place, k.answered) in
-    let good : bad-place b ≡ none = kept-is-good b ((loaded-exactly (state_of old) b).0 zero) in (
+    let zero : (call_load (state_of old) b).answer ≡ done = omega (arith, place, k.answered) in
+    let good : bad_place b ≡ none = kept-is-good b ((loaded-exactly (state_of old) b).0 zero) in (
       good,
       sym (ap state_of k.leaves)
           ∙ (k.loads.state old.entries old.second old.secondtokens old.records ∙ ap (λ (l : Loaded). l.state) (load-of-good (state_of old) b good)),

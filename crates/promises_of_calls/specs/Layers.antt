@@ -4,12 +4,12 @@ use Rattle.std.specs.Prelude.{◌≡◌, Bool, List, [], ◌∷◌, ℕ, eqb}
 use Rattle.machine.specs.Machine.{pick}
 use Rattle.rules.specs.Numbers.{done}
 use Rattle.rules.specs.State.{State, World, made}
-use Rattle.rules.specs.Calls.{RecordRead, call-answer}
+use Rattle.rules.specs.Calls.{RecordRead, call_answer}
 use Rattle.rules.specs.Lists.Found.{none}
-use Rattle.rules.specs.Loaded.{bad-place, loaded}
+use Rattle.rules.specs.Loaded.{bad_place, loaded}
 use Rattle.promises_of_units.specs.Called.{Call, after}
 use Rattle.promises_of_units.specs.Called.Call.{writes, reads, runs, records, answers}
-use Rattle.promises_of_units.specs.Replies.{Reply, reply-to}
+use Rattle.promises_of_units.specs.Replies.{Reply, reply_to}
 use Rattle.promises_of_submissions.specs.Locality.{lent}
 
 -- ---- what a call took
@@ -42,12 +42,12 @@ pub record Layer : Type 1 where
   -- this call was made of a device that was lent a memory: what it said, and the device and the memory that it left
   pub Gives : Device → List ℕ → Call → Said → Device → List ℕ → Type 0
   -- and so the contracts say of each what the rules say
-  pub units-read : (c : Call) (w : World) → units c (said c (reply-to c w)) ≡ (reply-to c w).units
-  pub answered-as : (good : Bool) (n : ℕ) (w : World) → answered (said (answers good n) (reply-to (answers good n) w)) ≡ (call-answer w good n).answer
+  pub units-read : (c : Call) (w : World) → units c (said c (reply_to c w)) ≡ (reply_to c w).units
+  pub answered-as : (good : Bool) (n : ℕ) (w : World) → answered (said (answers good n) (reply_to (answers good n) w)) ≡ (call_answer w good n).answer
   pub record-read-as : (i : ℕ) (r : Reply) → record_read (said (records i) r) ≡ record { answer = r.answer; range = r.range }
   pub makes-made : (memory : ℕ) (d : Device) → Makes memory d → state d ≡ made memory
-  pub loads-loaded : (b : List ℕ) (d : Device) → Loads b d → (bad-place b ≡ none) × (state d ≡ loaded b)
-  pub gives-reply : (d : Device) (m : List ℕ) (c : Call) (x : Said) (d' : Device) (m' : List ℕ) → Gives d m c x d' m' → x ≡ said c (reply-to c (lent (state d) m))
+  pub loads-loaded : (b : List ℕ) (d : Device) → Loads b d → (bad_place b ≡ none) × (state d ≡ loaded b)
+  pub gives-reply : (d : Device) (m : List ℕ) (c : Call) (x : Said) (d' : Device) (m' : List ℕ) → Gives d m c x d' m' → x ≡ said c (reply_to c (lent (state d) m))
   pub gives-world : (d : Device) (m : List ℕ) (c : Call) (x : Said) (d' : Device) (m' : List ℕ) → Gives d m c x d' m' → lent (state d') m' ≡ after c (lent (state d) m)
 
 -- the device and the memory beside it, as the rules' world

@@ -8,20 +8,20 @@ use Rattle.device.specs.declared.Device.{Device}
 use Rattle.promises_of_submissions.specs.Reads.{SameIn, AgreeOn}
 use Rattle.promises_of_submissions.specs.LocalWrites.{AgreeAt}
 use Rattle.promises_of_submissions.specs.Locality.{lent}
-use Rattle.promises_of_units.specs.Called.{Call, after-all}
-use Rattle.promises_of_units.specs.Replies.{reply-to}
-use Rattle.promises_of_units.specs.Asked.{Asked, left-all}
+use Rattle.promises_of_units.specs.Called.{Call, after_all}
+use Rattle.promises_of_units.specs.Replies.{reply_to}
+use Rattle.promises_of_units.specs.Asked.{Asked, left_all}
 use Rattle.promises_of_units.specs.Asked.Asked.{calls, saves, loads, moves}
-use Rattle.promises_of_same_desks.specs.ForEver.{Told, told, told-all}
+use Rattle.promises_of_same_desks.specs.ForEver.{Told, told, told_all}
 use Rattle.promises_of_leftovers.specs.Unit.{SameStill}
-use Rattle.promises_of_leftovers.specs.Course.{calls-units-listed, calls-lead-alike}
+use Rattle.promises_of_leftovers.specs.Course.{calls_units_listed, calls-lead-alike}
 use Rattle.promises_of_leftovers.specs.Submissions.{listed-covers}
-use Rattle.promises_of_leftovers.specs.Matter.{replies-of, replies-alike, AgreeOnListed}
+use Rattle.promises_of_leftovers.specs.Matter.{replies_of, replies-alike, AgreeOnListed}
 use Rattle.promises_of_leftovers.specs.AskedOver.{lend, leaves, over, but_memory, lent-leads, AgreeOnListedAsked, SameResultsAsked, whatever-is-asked-bytes-not-listed-cannot-matter}
 use Rattle.promises_of_calls.specs.Layers.{Layer, standing}
 use Rattle.promises_of_calls.specs.Chains.{Chain, chain-is-calls}
 use Rattle.promises_of_calls.specs.Chains.Chain.{no_call, call_then}
-use Rattle.promises_of_calls.specs.SameDesks.{Heard, Course, hear, hear-all, AsTold, course-is-told}
+use Rattle.promises_of_calls.specs.SameDesks.{Heard, Course, hear, hear_all, AsTold, course-is-told}
 use Rattle.promises_of_calls.specs.SameDesks.Heard.{beside_memory, beside_buffer, alone}
 
 -- ---- calls, in any layer
@@ -31,12 +31,12 @@ unfoldable pub said_in : {L : Layer} {d d' : L.Device} {m m' : List ℕ} {cs : L
 said_in no_call = []
 said_in (call_then x k later) = x ∷ said_in later
 
-said-is-told : {L : Layer} {d d' : L.Device} {m m' : List ℕ} {cs : List Call} (k : Chain L d m cs d' m') → said_in k ≡ replies-of L.said cs (standing L d m)
-unfolding said_in replies-of
+said-is-told : {L : Layer} {d d' : L.Device} {m m' : List ℕ} {cs : List Call} (k : Chain L d m cs d' m') → said_in k ≡ replies_of L.said cs (standing L d m)
+unfolding said_in replies_of
 said-is-told no_call = refl
 said-is-told {L} {d} {d'} {m} (call_then {d₁ = d₁} {m₁ = m₁} {c = c} {cs = cs} x k later) =
     rw (L.gives-reply d m c x d₁ m₁ k)
-    (ap (λ l. L.said c (reply-to c (standing L d m)) ∷ l) (said-is-told later ∙ ap (replies-of L.said cs) (L.gives-world d m c x d₁ m₁ k)))
+    (ap (λ l. L.said c (reply_to c (standing L d m)) ∷ l) (said-is-told later ∙ ap (replies_of L.said cs) (L.gives-world d m c x d₁ m₁ k)))
 
 -- they say the same, come to the same state, and a byte that differs after them differed before
 pub record ChainsAlike {L : Layer} {d d' e e' : L.Device} {m m' n n' : List ℕ} {cs : List Call} (a : Chain L d m cs d' m') (b : Chain L e n cs e' n') : Type 0 where
@@ -47,8 +47,8 @@ pub record ChainsAlike {L : Layer} {d d' e e' : L.Device} {m m' n n' : List ℕ}
 pub chains-alike : {L : Layer} {d d' e e' : L.Device} {m m' n n' : List ℕ} {cs : List Call} (a : Chain L d m cs d' m') (b : Chain L e n cs e' n')
     → L.state d ≡ L.state e → AgreeOnListed cs (L.state d) m n → ChainsAlike a b
 chains-alike {L} {d} {d'} {e} {e'} {m} {m'} {n} {n'} {cs} a b same agree =
-    let units : AgreeOn m n (calls-units-listed cs (standing L d m)) = listed-covers (SameIn m n) cs (standing L d m) agree.in_work agree.opened in
-    let end : SameStill m n (after-all cs (standing L d m)) (after-all cs (standing L e n)) = calls-lead-alike cs (standing L d m) (standing L e n) same agree.as_long units in
+    let units : AgreeOn m n (calls_units_listed cs (standing L d m)) = listed-covers (SameIn m n) cs (standing L d m) agree.in_work agree.opened in
+    let end : SameStill m n (after_all cs (standing L d m)) (after_all cs (standing L e n)) = calls-lead-alike cs (standing L d m) (standing L e n) same agree.as_long units in
     let ends : SameStill m n (standing L d' m') (standing L e' n') = rw ((chain-is-calls a).world, (chain-is-calls b).world) end in
     record {
       said = said-is-told a ∙ (replies-alike L.said cs (standing L d m) (standing L e n) same agree.as_long units ∙ sym (said-is-told b));
@@ -65,10 +65,10 @@ but_its_memory (beside_buffer n buffer) = beside_buffer n buffer
 but_its_memory (alone n) = alone n
 
 -- what is heard of what is told
-unfoldable heard-of : List Asked → List Told → List Heard
-heard-of [] ts = []
-heard-of (a ∷ qs) [] = []
-heard-of (a ∷ qs) (t ∷ ts) = hear a t ∷ heard-of qs ts
+unfoldable heard_of : List Asked → List Told → List Heard
+heard_of [] ts = []
+heard_of (a ∷ qs) [] = []
+heard_of (a ∷ qs) (t ∷ ts) = hear a t ∷ heard_of qs ts
 
 next-heard : {x y : Heard} {xs ys : List Heard} → x ≡ y → xs ≡ ys → x ∷ xs ≡ y ∷ ys
 next-heard e f = rw (e, f)
@@ -81,8 +81,8 @@ one-heard (loads b) w = refl
 one-heard (moves b buffer) w = refl
 
 all-heard : (qs : List Asked) (w : World)
-    → map but_its_memory (hear-all (over qs w) w.state) ≡ heard-of qs (map but_memory (told-all (over qs w) w.state))
-unfolding over hear-all told-all heard-of
+    → map but_its_memory (hear_all (over qs w) w.state) ≡ heard_of qs (map but_memory (told_all (over qs w) w.state))
+unfolding over hear_all told_all heard_of
 all-heard [] w = refl
 all-heard (a ∷ qs) w = rw (lent-leads a w) (next-heard (one-heard a w) (all-heard qs (leaves a w)))
 
@@ -100,8 +100,8 @@ exports-alike {d} {d'} {e} {e'} {xs} {ys} qs m n p q same agree =
       heard =
           ap (map but_its_memory) x.heard
           ∙ (all-heard qs (lent (state_of d) m)
-          ∙ (ap (heard-of qs) r.told
+          ∙ (ap (heard_of qs) r.told
           ∙ (sym (all-heard qs (lent (state_of d) n))
-          ∙ (ap (λ (s : State). map but_its_memory (hear-all (over qs (lent s n)) s)) same ∙ sym (ap (map but_its_memory) y.heard)))));
-      state = x.state ∙ (r.state ∙ (ap (λ (s : State). left-all (over qs (lent s n)) s) same ∙ sym y.state));
+          ∙ (ap (λ (s : State). map but_its_memory (hear_all (over qs (lent s n)) s)) same ∙ sym (ap (map but_its_memory) y.heard)))));
+      state = x.state ∙ (r.state ∙ (ap (λ (s : State). left_all (over qs (lent s n)) s) same ∙ sym y.state));
     }

@@ -8,7 +8,7 @@ use Rattle.rules.specs.Steps.{go, step}
 use Rattle.rules.specs.Calls.{lent_another, Ran}
 use Rattle.rules.specs.Lists.Found.{none}
 use Rattle.rules.specs.State.{made}
-use Rattle.rules.specs.Loaded.{bad-place, loaded}
+use Rattle.rules.specs.Loaded.{bad_place, loaded}
 use Rattle.rules.specs.declared.Fault.{Fault}
 use Rattle.rules.specs.declared.Job.{Job}
 use Rattle.rules.specs.declared.LastError.{LastError}

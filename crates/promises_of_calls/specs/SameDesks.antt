@@ -5,8 +5,8 @@ use Rattle.std.specs.Prelude.{◌≡◌, refl, List, [], ◌∷◌, ℕ, ◌/◌
 use Rattle.std.proofs.Common.{sym, ap, subst, ◌∙◌}
 use Rattle.rules.specs.Numbers.{done}
 use Rattle.rules.specs.State.{State, World}
-use Rattle.rules.specs.Saved.{call-save}
-use Rattle.rules.specs.Loaded.{call-load, call-move}
+use Rattle.rules.specs.Saved.{call_save}
+use Rattle.rules.specs.Loaded.{call_load, call_move}
 use Rattle.rules.specs.declared.Form.{Form}
 use Rattle.saved_save.specs.Views.{saved_of, Saves}
 use Rattle.saved_save.specs.declared.FileSaved.{FileSaved}
@@ -18,12 +18,12 @@ use Rattle.promises_of_saving.specs.SameDevice.{SameDevice}
 use Rattle.promises_of_units.specs.Sound.{SoundState}
 use Rattle.promises_of_units.specs.Called.{Call, after}
 use Rattle.promises_of_units.specs.Ranges.{called-sound, call-keeps-sound}
-use Rattle.promises_of_units.specs.Replies.{Reply, reply-to}
+use Rattle.promises_of_units.specs.Replies.{Reply, reply_to}
 use Rattle.promises_of_submissions.specs.Locality.{lent}
 use Rattle.promises_of_same_desks.specs.Desks.{SameDesk, same-desk}
 use Rattle.promises_of_same_desks.specs.Calls.{SameCall, call_same}
 use Rattle.promises_of_same_desks.specs.ForEver.{Told, told, told_same, left-same, left-sound}
-use Rattle.promises_of_units.specs.Asked.{Asked, left, left-all}
+use Rattle.promises_of_units.specs.Asked.{Asked, left, left_all}
 use Rattle.promises_of_units.specs.Asked.Asked.{calls, saves, loads, moves}
 use Rattle.promises_of_same_desks.specs.ForEver.Told.{replied, filed, judged}
 use Rattle.promises_of_calls.specs.Layers.{Layer}
@@ -127,20 +127,20 @@ hear a (replied r m) = beside_memory (said_by a r) m
 hear a (filed x) = beside_buffer (said_beside x.length x.answer) x.buffer
 hear a (judged answer place) = alone (said_beside place answer)
 
-unfoldable pub hear-all : List Asked → State → List Heard
-hear-all [] s = []
-hear-all (a ∷ qs) s = hear a (told a s) ∷ hear-all qs (left a s)
+unfoldable pub hear_all : List Asked → State → List Heard
+hear_all [] s = []
+hear_all (a ∷ qs) s = hear a (told a s) ∷ hear_all qs (left a s)
 
 -- a course hears what the rules tell, and leads where they lead
 pub record AsTold (d : Device) (qs : List Asked) (xs : List Heard) (e : Device) : Type 0 where
-  pub heard : xs ≡ hear-all qs (state_of d)
-  pub state : state_of e ≡ left-all qs (state_of d)
+  pub heard : xs ≡ hear_all qs (state_of d)
+  pub state : state_of e ≡ left_all qs (state_of d)
 
 heard-next : (x y : Heard) (xs ys : List Heard) → x ≡ y → xs ≡ ys → x ∷ xs ≡ y ∷ ys
 heard-next x y xs ys e f = rw (e, f)
 
 pub course-is-told : {d e : Device} {qs : List Asked} {xs : List Heard} → Course d qs xs e → AsTold d qs xs e
-unfolding hear-all left-all told left
+unfolding hear_all left_all told left
 course-is-told ends = record { heard = refl; state = refl }
 course-is-told {d = d} (called {d' = d'} {qs = qs} c m x m' k p) =
     let r = course-is-told p in
@@ -149,9 +149,9 @@ course-is-told {d = d} (called {d' = d'} {qs = qs} c m x m' k p) =
     record {
       heard =
           heard-next _ _ _ _
-          (ap (λ y. beside_memory y m') (exports.gives-reply d m c x d' m' k) ∙ ap (λ (u : World). beside_memory (said c (reply-to c (lent (state_of d) m))) u.mem) w)
-          (r.heard ∙ ap (hear-all qs) s);
-      state = r.state ∙ ap (left-all qs) s;
+          (ap (λ y. beside_memory y m') (exports.gives-reply d m c x d' m' k) ∙ ap (λ (u : World). beside_memory (said c (reply_to c (lent (state_of d) m))) u.mem) w)
+          (r.heard ∙ ap (hear_all qs) s);
+      state = r.state ∙ ap (left_all qs) s;
     }
 course-is-told {d = d} (saved f buffer n buffer' k p) =
     let r = course-is-told p in
@@ -159,35 +159,35 @@ course-is-told {d = d} (saved f buffer n buffer' k p) =
       heard =
           heard-next _ _ _ _
           (ap (λ i. beside_buffer i buffer') (k.length d.entries d.records)
-          ∙ ap (beside_buffer (said_beside (call-save f (state_of d) buffer).length (call-save f (state_of d) buffer).answer)) (k.bytes d.entries d.records))
+          ∙ ap (beside_buffer (said_beside (call_save f (state_of d) buffer).length (call_save f (state_of d) buffer).answer)) (k.bytes d.entries d.records))
           r.heard;
       state = r.state;
     }
 course-is-told {d = d} (loaded {qs = qs} file n s a ft k p) =
     let r = course-is-told p in
-    let is : state_of (with_loaded s a ft d) ≡ (call-load (state_of d) file).state = k.state d.entries d.second d.secondtokens d.records in
+    let is : state_of (with_loaded s a ft d) ≡ (call_load (state_of d) file).state = k.state d.entries d.second d.secondtokens d.records in
     record {
-      heard = heard-next _ _ _ _ (ap alone (k.place d.entries d.second d.secondtokens d.records)) (r.heard ∙ ap (hear-all qs) is);
-      state = r.state ∙ ap (left-all qs) is;
+      heard = heard-next _ _ _ _ (ap alone (k.place d.entries d.second d.secondtokens d.records)) (r.heard ∙ ap (hear_all qs) is);
+      state = r.state ∙ ap (left_all qs) is;
     }
 course-is-told (moved file buffer n buffer' k p) =
     let r = course-is-told p in
     record {
       heard =
-          heard-next _ _ _ _ (ap (λ i. beside_buffer i buffer') k.length ∙ ap (beside_buffer (said_beside (call-move file buffer).length (call-move file buffer).answer)) k.bytes)
+          heard-next _ _ _ _ (ap (λ i. beside_buffer i buffer') k.length ∙ ap (beside_buffer (said_beside (call_move file buffer).length (call_move file buffer).answer)) k.bytes)
           r.heard;
       state = r.state;
     }
 
 -- two devices that are the same desk hear the same, and are the same desk after it
-all-heard : (qs : List Asked) (s t : State) → SoundState s → SoundState t → SameDesk s t → hear-all qs s ≡ hear-all qs t
-unfolding hear-all
+all-heard : (qs : List Asked) (s t : State) → SoundState s → SoundState t → SameDesk s t → hear_all qs s ≡ hear_all qs t
+unfolding hear_all
 all-heard [] s t x y d = refl
 all-heard (a ∷ qs) s t x y d =
     heard-next _ _ _ _ (ap (hear a) (told_same a s t x y d)) (all-heard qs (left a s) (left a t) (left-sound a s x) (left-sound a t y) (left-same a s t x y d))
 
-all_left : (qs : List Asked) (s t : State) → SoundState s → SoundState t → SameDesk s t → SameDesk (left-all qs s) (left-all qs t)
-unfolding left-all
+all_left : (qs : List Asked) (s t : State) → SoundState s → SoundState t → SameDesk s t → SameDesk (left_all qs s) (left_all qs t)
+unfolding left_all
 all_left [] s t x y d = d
 all_left (a ∷ qs) s t x y d = all_left qs (left a s) (left a t) (left-sound a s x) (left-sound a t y) (left-same a s t x y d)
 
@@ -207,7 +207,7 @@ exports-hear-the-same {d = d} {e = e} {d' = d'} {e' = e'} {qs = qs} p q a b same
       heard = x.heard ∙ (all-heard qs (state_of d) (state_of e) s t k ∙ sym y.heard);
       devices =
           subst (λ (u : State). SameDesk u (state_of e')) (sym x.state)
-          (subst (λ (u : State). SameDesk (left-all qs (state_of d)) u) (sym y.state) (all_left qs (state_of d) (state_of e) s t k));
+          (subst (λ (u : State). SameDesk (left_all qs (state_of d)) u) (sym y.state) (all_left qs (state_of d) (state_of e) s t k));
     }
 
 -- ---- a desk that was saved, and loaded elsewhere: from then on both hear the same, whatever is asked of them
@@ -215,7 +215,7 @@ exports-hear-the-same {d = d} {e = e} {d' = d'} {e' = e'} {qs = qs} p q a b same
 module _ (d e : Device) (w : OfWords d.words) (a : OfWords d.first) (b : OfWords d.second) (ft : OfWords d.firsttokens) (st : OfWords d.secondtokens)
     (f : Form) (buffer buffer' : List ℕ) where
   -- `Device::save` and `Device::load`
-  pub a-saved-device-goes-on-elsewhere : MadeAndCalled by_value d → (x : FileSaved) → saved_of x buffer' ≡ call-save f (state_of d) buffer → x.answer ≡ done
+  pub a-saved-device-goes-on-elsewhere : MadeAndCalled by_value d → (x : FileSaved) → saved_of x buffer' ≡ call_save f (state_of d) buffer → x.answer ≡ done
       → by_value.Loads (take x.length buffer') e
       → {d' e' : Device} {qs : List Lends} {xs ys : List (Leaves by_value)} → Goes by_value e qs xs e' → Goes by_value d qs ys d' → SameCourse by_value xs ys e' d'
   a-saved-device-goes-on-elsewhere c x s z l p q =

@@ -7,8 +7,8 @@ use native.Mathlib.Omega.{arith}
 use Rattle.machine.specs.Machine.{pick}
 use Rattle.rules.specs.Numbers.{done}
 use Rattle.rules.specs.State.{State}
-use Rattle.rules.specs.Saved.{Saved, call-save}
-use Rattle.rules.specs.Loaded.{Loaded, call-load}
+use Rattle.rules.specs.Saved.{Saved, call_save}
+use Rattle.rules.specs.Loaded.{Loaded, call_load}
 use Rattle.rules.specs.declared.Kind.{Kind}
 use Rattle.rules.specs.declared.Kind.TheVariants.{Buffer, Texture}
 use Rattle.rules.specs.declared.Shape.{Shape}
@@ -16,7 +16,7 @@ use Rattle.rules.specs.declared.Form.{Form}
 use Rattle.rows.specs.Rows.{tab, table, row_at, row_field}
 use Rattle.kept_resources.specs.Views.{resource_of_row}
 use Rattle.kept_tokens.specs.Views.{token_of_row}
-use Rattle.run_state.specs.Views.{worldIn, countIn, tokenCountIn, side_in, token_side_in}
+use Rattle.run_state.specs.Views.{world_in, count_in, token_count_in, side_in, token_side_in}
 use Rattle.saved_save.specs.Views.{saved_of, Saves}
 use Rattle.saved_save.specs.declared.FileSaved.{FileSaved}
 use Rattle.device.specs.Views.{state_of}
@@ -81,7 +81,7 @@ of-side false x y h k = h
 -- whatever stands in the words and tables of a device
 pub what-stands-in-words-fits : (d : Device) → OfWords d.words → OfWords d.first → OfWords d.second → OfWords d.firsttokens → OfWords d.secondtokens
     → Fits (state_of d)
-unfolding worldIn
+unfolding world_in
 what-stands-in-words-fits d w a b ft st =
     record {
       memory = w 0;
@@ -94,22 +94,22 @@ what-stands-in-words-fits d w a b ft st =
         error = record { code = omega arith; fence = w 10; count = omega arith; detail = omega arith };
       };
       resources = every-row FitsResource resource_of_row 12 2 (omega arith) fits-resource (pick (side_in d.words) d.second d.first)
-          (of-side (side_in d.words) d.first d.second a b) (countIn (get_or d.words 25 0));
+          (of-side (side_in d.words) d.first d.second a b) (count_in (get_or d.words 25 0));
       tokens = every-row FitsToken token_of_row 2 1 (omega arith) fits-token (pick (token_side_in d.words) d.secondtokens d.firsttokens)
-          (of-side (token_side_in d.words) d.firsttokens d.secondtokens ft st) (tokenCountIn (get_or d.words 32 0));
+          (of-side (token_side_in d.words) d.firsttokens d.secondtokens ft st) (token_count_in (get_or d.words 32 0));
     }
 
 -- ---- saved, and loaded elsewhere
 
 module _ (L : Layer) (d e : L.Device) (f : Form) (buffer : List ℕ) (c : MadeAndCalled L d) (fits : Fits (L.state d)) where
   -- a file that holds what a save of d wrote, and a device that was loaded from it
-  read_back : (file : List ℕ) → (call-save f (L.state d) buffer).answer ≡ done
-      → file ≡ take (call-save f (L.state d) buffer).length (call-save f (L.state d) buffer).buffer → L.Loads file e → SameDevice (L.state e) (L.state d)
+  read_back : (file : List ℕ) → (call_save f (L.state d) buffer).answer ≡ done
+      → file ≡ take (call_save f (L.state d) buffer).length (call_save f (L.state d) buffer).buffer → L.Loads file e → SameDevice (L.state e) (L.state d)
   read_back file saved is k =
       let l = L.loads-loaded file e k in
-      let back : LoadedBack (L.state d) (call-load (L.state d) file) =
-      subst (λ x. LoadedBack (L.state d) (call-load (L.state d) x)) (sym is) (a-saved-desk-is-read-back-elsewhere f (L.state d) (made_and_called L d c) fits buffer saved (L.state d)) in
-      let same : (call-load (L.state d) file).state ≡ L.state e = ap (λ (y : Loaded). y.state) (load-of-good (L.state d) file l.0) ∙ sym l.1 in
+      let back : LoadedBack (L.state d) (call_load (L.state d) file) =
+      subst (λ x. LoadedBack (L.state d) (call_load (L.state d) x)) (sym is) (a-saved-desk-is-read-back-elsewhere f (L.state d) (made_and_called L d c) fits buffer saved (L.state d)) in
+      let same : (call_load (L.state d) file).state ≡ L.state e = ap (λ (y : Loaded). y.state) (load-of-good (L.state d) file l.0) ∙ sym l.1 in
       subst (λ (s : State). SameDevice s (L.state d)) same back.device
 
 module _ (d e : Device) (w : OfWords d.words) (a : OfWords d.first) (b : OfWords d.second) (ft : OfWords d.firsttokens) (st : OfWords d.secondtokens)
@@ -118,7 +118,7 @@ module _ (d e : Device) (w : OfWords d.words) (a : OfWords d.first) (b : OfWords
   fitting = what-stands-in-words-fits d w a b ft st
 
   -- `Device::save` and `Device::load`
-  pub device-saved-and-loaded : MadeAndCalled by_value d → (x : FileSaved) → saved_of x buffer' ≡ call-save f (state_of d) buffer → x.answer ≡ done
+  pub device-saved-and-loaded : MadeAndCalled by_value d → (x : FileSaved) → saved_of x buffer' ≡ call_save f (state_of d) buffer → x.answer ≡ done
       → by_value.Loads (take x.length buffer') e → SameDevice (state_of e) (state_of d)
   device-saved-and-loaded c x k z =
       read_back by_value d e f buffer c fitting (take x.length buffer') (sym (ap (λ (y : Saved). y.answer) k) ∙ z) (ap (λ (y : Saved). take y.length y.buffer) k)
@@ -128,7 +128,7 @@ module _ (d e : Device) (w : OfWords d.words) (a : OfWords d.first) (b : OfWords
       → Saves f d.words d.first d.second d.firsttokens d.secondtokens buffer x buffer' → x.answer ≡ done
       → over_lent.Loads (take x.length buffer') e → SameDevice (state_of e) (state_of d)
   lent-saved-and-loaded c x s z =
-      let k : saved_of x buffer' ≡ call-save f (state_of d) buffer = s.saves d.entries d.records in
+      let k : saved_of x buffer' ≡ call_save f (state_of d) buffer = s.saves d.entries d.records in
       read_back over_lent d e f buffer c fitting (take x.length buffer') (sym (ap (λ (y : Saved). y.answer) k) ∙ z) (ap (λ (y : Saved). take y.length y.buffer) k)
 
   -- `zelezmut_save` or `zelezmut_save_form_2`, and `zelezmut_load`: a save whose number is below 2^32 answered 0, and is the length
@@ -138,6 +138,6 @@ module _ (d e : Device) (w : OfWords d.words) (a : OfWords d.first) (b : OfWords
   export-saved-and-loaded c n s z =
       let l = s.length d.entries d.records in
       let m = s.bytes d.entries d.records in
-      let answer : (call-save f (state_of d) buffer).answer ≡ done = omega (arith, l, z) in
-      let long : n ≡ (call-save f (state_of d) buffer).length = omega (arith, l, answer) in
+      let answer : (call_save f (state_of d) buffer).answer ≡ done = omega (arith, l, z) in
+      let long : n ≡ (call_save f (state_of d) buffer).length = omega (arith, l, answer) in
       read_back exports d e f buffer c fitting (take n buffer') answer (rw (← m, ← long))

@@ -6,12 +6,12 @@ use Rattle.std.proofs.Common.{sym, ap, subst, ◌∙◌, inl, inr, ⊎_elim, ari
 use Rattle.machine.specs.Machine.{run_none, run-go}
 use Rattle.rules.specs.Numbers.{most}
 use Rattle.rules.specs.Lists.Found.{none}
-use Rattle.rules.specs.Stream.{left, frame-of, packet-of}
+use Rattle.rules.specs.Stream.{left, frame_of, packet_of}
 use Rattle.rules.specs.Packets.{live, Progress, pass}
 use Rattle.rules.specs.State.{State, World, working}
 use Rattle.rules.specs.State.Work.{packets}
 use Rattle.rules.specs.Steps.{packets_at, next_place, go, step, run_for}
-use Rattle.rules.specs.Calls.{lent_another, Ran, call-run}
+use Rattle.rules.specs.Calls.{lent_another, Ran, call_run}
 use Rattle.rules.specs.declared.Entry.{Entry}
 use Rattle.rules.specs.declared.Job.{Job}
 use Rattle.rules.specs.declared.Stream.{Stream}
@@ -25,7 +25,7 @@ use Rattle.promises_of_units.specs.Acts.{NoReset}
 use Rattle.promises_of_units.specs.Runs.{of-run}
 use Rattle.promises_of_sharing.specs.Shared.{IsBound, SecondName}
 use Rattle.promises_of_sharing.specs.PacketsTaken.CalledOn.{not_yet, calls-on}
-use Rattle.promises_of_sharing.specs.PacketsTaken.{CalledOn, Packets, packets-since}
+use Rattle.promises_of_sharing.specs.PacketsTaken.{CalledOn, Packets, packets_since}
 use Rattle.promises_of_sharing.specs.TokenLives.{Some, Exports, Spends, TokensLive, tokens-live-between-resets, ImportAccepted, a-later-import-is-accepted, WorksOn, an-accepted-import-works-on}
 use Rattle.promises_of_sharing.specs.TokenMeans.{TokensMean, tokens-mean-between-resets, NamesTheExported, a-later-import-names-the-exported}
 use Rattle.promises_of_sharing.specs.SinceBegun.{since-begun, BoundSince, bound-since-make-reset-or-load}
@@ -66,7 +66,7 @@ chain-goes-on k n = chain-from not-called k n
 module _ {L : Layer} {d e : L.Device} (k : MadeAndCalled L d) (q : GoesOn L d e) where
   -- the packets that count
   abbrev pub packets_of_calls : Packets
-  packets_of_calls = packets-since (L.state d) (L.state e) (made_and_called L d k) (rules-calls q)
+  packets_of_calls = packets_since (L.state d) (L.state e) (made_and_called L d k) (rules-calls q)
 
   -- a token that is bound, or exported by a submission answered good since, is bound, exactly unless one answered good has spent it
   pub tokens-live-over-calls : TokensLive packets_of_calls.by_good (L.state d).belongings.tokens (L.state e).belongings.tokens
@@ -89,8 +89,8 @@ module _ {L : Layer} {d e : L.Device} (k : MadeAndCalled L d) (q : GoesOn L d e)
     pub work : (L.state e).work ≡ packets job stream at table held
     pub op : ℕ
     pub size : ℕ
-    pub framed : frame-of (left r.over stream at) ≡ Whole op size
-    pub says : packet-of op (take size (left r.over stream at)) ≡ Import c
+    pub framed : frame_of (left r.over stream at) ≡ Whole op size
+    pub says : packet_of op (take size (left r.over stream at)) ≡ Import c
     pub known : IsBound c.token (L.state d).belongings.tokens ⊎ Some (Exports c.token) packets_of_calls.by_good
     pub some : c.handle ≡ 0 → ⊥
     pub free : live c.handle held.holdings ≡ none

@@ -7,7 +7,7 @@ use Rattle.rules.specs.Layouts.{word}
 use Rattle.rules.specs.Lists.{Found}
 use Rattle.rules.specs.Lists.Found.{none, found}
 use Rattle.rules.specs.Dump.{Listed}
-use Rattle.rules.specs.Difference.{differing, same_opcode, class-both, class_of}
+use Rattle.rules.specs.Difference.{differing, same_opcode, class_both, class_of}
 use Rattle.rules.specs.declared.Class.{Class}
 use Rattle.rules.specs.declared.Class.TheVariants.{Equal, SameOpcode, OtherOpcode, OnlyFirst, OnlySecond, Neither}
 use Rattle.promises_of_difference.specs.Offsets.{none-differ-equal, equal-none-differ}
@@ -57,8 +57,8 @@ module _ (p q : Listed) where
   by_test true (i ∷ l) e d = record { p = p; q = q; first = refl; second = refl; bytes = (eqb-true (word x 0) (word y 0) e, not-empty i l d) }
   by_test false l e d = record { p = p; q = q; first = refl; second = refl; bytes = λ s. true-false (eqb (word x 0) (word y 0)) (eq-eqb (word x 0) (word y 0) s) e }
 
-  both-mean : Means (class-both x y) (found p) (found q)
-  unfolding class-both
+  both-mean : Means (class_both x y) (found p) (found q)
+  unfolding class_both
   both-mean = by_test (eqb (word x 0) (word y 0)) (differing x y) refl refl
 
 pub class-means : (f g : Found Listed) → Means (class_of f g) f g
@@ -69,23 +69,23 @@ class-means (found p) (found q) = both-mean p q
 
 -- ---- and no other class does
 
-equal-class : (x y : List ℕ) → x ≡ y → class-both x y ≡ Equal
-unfolding class-both
+equal-class : (x y : List ℕ) → x ≡ y → class_both x y ≡ Equal
+unfolding class_both
 equal-class x y e = rw (← e, eq-eqb (word x 0) (word x 0) refl, equal-none-differ x)
 
 by-list : (l : List ℕ) → (l ≡ [] → ⊥) → same_opcode l ≡ SameOpcode
 by-list [] n = absurd (n refl)
 by-list (i ∷ l) n = refl
 
-same_class : (x y : List ℕ) → word x 0 ≡ word y 0 → (x ≡ y → ⊥) → class-both x y ≡ SameOpcode
-unfolding class-both
+same_class : (x y : List ℕ) → word x 0 ≡ word y 0 → (x ≡ y → ⊥) → class_both x y ≡ SameOpcode
+unfolding class_both
 same_class x y e n = rw (eq-eqb (word x 0) (word y 0) e) (by-list (differing x y) (λ d. n (none-differ-equal x y d)))
 
-other-class : (x y : List ℕ) → (word x 0 ≡ word y 0 → ⊥) → class-both x y ≡ OtherOpcode
-unfolding class-both
+other-class : (x y : List ℕ) → (word x 0 ≡ word y 0 → ⊥) → class_both x y ≡ OtherOpcode
+unfolding class_both
 other-class x y n = rw (ne_eqb (word x 0) (word y 0) n)
 
-both-class : (f g : Found Listed) (p q : Listed) → f ≡ found p → g ≡ found q → class_of f g ≡ class-both p.bytes q.bytes
+both-class : (f g : Found Listed) (p q : Listed) → f ≡ found p → g ≡ found q → class_of f g ≡ class_both p.bytes q.bytes
 both-class f g p q e d = rw (e, d)
 
 pub means-class : (c : Class) (f g : Found Listed) → Means c f g → class_of f g ≡ c

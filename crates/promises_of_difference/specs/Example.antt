@@ -1,12 +1,12 @@
 -- No theorem is vacuous: two small streams, and what is answered about them.
 use Rattle.std.specs.Prelude.{◌≡◌, refl, List, [], ◌∷◌, ◌++◌, ℕ}
 use Rattle.rules.specs.Bytes.{le}
-use Rattle.rules.specs.Headers.{wrong-header}
-use Rattle.rules.specs.Layouts.{stream-header}
+use Rattle.rules.specs.Headers.{wrong_header}
+use Rattle.rules.specs.Layouts.{stream_header}
 use Rattle.rules.specs.Lists.{nth}
-use Rattle.rules.specs.Stream.{stream-rules, frame-of, frame-rules, least_size, known, packet-of}
-use Rattle.rules.specs.Dump.{listed, dump-of}
-use Rattle.rules.specs.Difference.{differing-from, class-both, offsets-both, offsets_at, next-from, check, parted, parts, class_asked, next_asked}
+use Rattle.rules.specs.Stream.{stream_rules, frame_of, frame_rules, least_size, known, packet_of}
+use Rattle.rules.specs.Dump.{listed, dump_of}
+use Rattle.rules.specs.Difference.{differing_from, class_both, offsets_both, offsets_at, next_from, check, parted, parts, class_asked, next_asked}
 use Rattle.rules.specs.declared.Checked.TheVariants.{Valid}
 use Rattle.rules.specs.declared.Class.TheVariants.{Equal, SameOpcode, OtherOpcode, OnlyFirst, OnlySecond, Neither}
 use Rattle.rules.specs.declared.Offset.TheVariants.{At, Nowhere}
@@ -34,57 +34,57 @@ abbrev second : List ℕ
 second = stream 64 (short 5 ++ (long 2 ++ (long 3 ++ short 9)))
 
 pub valid : check first second ≡ Valid
-unfolding differing-from class-both offsets-both next-from parted nth dump-of listed stream-rules frame-of frame-rules least_size known packet-of stream-header le wrong-header
+unfolding differing_from class_both offsets_both next_from parted nth dump_of listed stream_rules frame_of frame_rules least_size known packet_of stream_header le wrong_header
 valid = refl
 
 pub part-at-one : parts first second ≡ PartsIs (PartsAt 1)
-unfolding differing-from class-both offsets-both next-from parted nth dump-of listed stream-rules frame-of frame-rules least_size known packet-of stream-header le wrong-header
+unfolding differing_from class_both offsets_both next_from parted nth dump_of listed stream_rules frame_of frame_rules least_size known packet_of stream_header le wrong_header
 part-at-one = refl
 
 pub equal-at-zero : class_asked first second 0 ≡ ClassIs Equal
-unfolding differing-from class-both offsets-both next-from parted nth dump-of listed stream-rules frame-of frame-rules least_size known packet-of stream-header le wrong-header
+unfolding differing_from class_both offsets_both next_from parted nth dump_of listed stream_rules frame_of frame_rules least_size known packet_of stream_header le wrong_header
 equal-at-zero = refl
 
 pub same-opcode-at-one : class_asked first second 1 ≡ ClassIs SameOpcode
-unfolding differing-from class-both offsets-both next-from parted nth dump-of listed stream-rules frame-of frame-rules least_size known packet-of stream-header le wrong-header
+unfolding differing_from class_both offsets_both next_from parted nth dump_of listed stream_rules frame_of frame_rules least_size known packet_of stream_header le wrong_header
 same-opcode-at-one = refl
 
 pub one_byte : offsets_at first second 1 ≡ 8 ∷ []
-unfolding differing-from class-both offsets-both next-from parted nth dump-of listed stream-rules frame-of frame-rules least_size known packet-of stream-header le wrong-header
+unfolding differing_from class_both offsets_both next_from parted nth dump_of listed stream_rules frame_of frame_rules least_size known packet_of stream_header le wrong_header
 one_byte = refl
 
 pub past-the-shorter : offsets_at first second 2 ≡ 4 ∷ 8 ∷ 9 ∷ 10 ∷ 11 ∷ []
-unfolding differing-from class-both offsets-both next-from parted nth dump-of listed stream-rules frame-of frame-rules least_size known packet-of stream-header le wrong-header
+unfolding differing_from class_both offsets_both next_from parted nth dump_of listed stream_rules frame_of frame_rules least_size known packet_of stream_header le wrong_header
 past-the-shorter = refl
 
 pub next-past-nine : next_asked first second 2 9 ≡ OffsetIs (At 9)
-unfolding differing-from class-both offsets-both next-from parted nth dump-of listed stream-rules frame-of frame-rules least_size known packet-of stream-header le wrong-header
+unfolding differing_from class_both offsets_both next_from parted nth dump_of listed stream_rules frame_of frame_rules least_size known packet_of stream_header le wrong_header
 next-past-nine = refl
 
 pub none-past-eleven : next_asked first second 2 12 ≡ OffsetIs Nowhere
-unfolding differing-from class-both offsets-both next-from parted nth dump-of listed stream-rules frame-of frame-rules least_size known packet-of stream-header le wrong-header
+unfolding differing_from class_both offsets_both next_from parted nth dump_of listed stream_rules frame_of frame_rules least_size known packet_of stream_header le wrong_header
 none-past-eleven = refl
 
 pub other-opcode-at-three : class_asked first second 3 ≡ ClassIs OtherOpcode
-unfolding differing-from class-both offsets-both next-from parted nth dump-of listed stream-rules frame-of frame-rules least_size known packet-of stream-header le wrong-header
+unfolding differing_from class_both offsets_both next_from parted nth dump_of listed stream_rules frame_of frame_rules least_size known packet_of stream_header le wrong_header
 other-opcode-at-three = refl
 
 pub only-in-the-first : class_asked first second 4 ≡ ClassIs OnlyFirst
-unfolding differing-from class-both offsets-both next-from parted nth dump-of listed stream-rules frame-of frame-rules least_size known packet-of stream-header le wrong-header
+unfolding differing_from class_both offsets_both next_from parted nth dump_of listed stream_rules frame_of frame_rules least_size known packet_of stream_header le wrong_header
 only-in-the-first = refl
 
 pub only-in-the-second : class_asked second first 4 ≡ ClassIs OnlySecond
-unfolding differing-from class-both offsets-both next-from parted nth dump-of listed stream-rules frame-of frame-rules least_size known packet-of stream-header le wrong-header
+unfolding differing_from class_both offsets_both next_from parted nth dump_of listed stream_rules frame_of frame_rules least_size known packet_of stream_header le wrong_header
 only-in-the-second = refl
 
 pub in-neither : class_asked first second 5 ≡ ClassIs Neither
-unfolding differing-from class-both offsets-both next-from parted nth dump-of listed stream-rules frame-of frame-rules least_size known packet-of stream-header le wrong-header
+unfolding differing_from class_both offsets_both next_from parted nth dump_of listed stream_rules frame_of frame_rules least_size known packet_of stream_header le wrong_header
 in-neither = refl
 
 pub second-refused : parts first (stream 65 (short 5)) ≡ PartsRefused 16 2
-unfolding differing-from class-both offsets-both next-from parted nth dump-of listed stream-rules frame-of frame-rules least_size known packet-of stream-header le wrong-header
+unfolding differing_from class_both offsets_both next_from parted nth dump_of listed stream_rules frame_of frame_rules least_size known packet_of stream_header le wrong_header
 second-refused = refl
 
 pub first-if-both : parts (stream 32 (long 1)) (stream 65 (short 5)) ≡ PartsRefused 17 1
-unfolding differing-from class-both offsets-both next-from parted nth dump-of listed stream-rules frame-of frame-rules least_size known packet-of stream-header le wrong-header
+unfolding differing_from class_both offsets_both next_from parted nth dump_of listed stream_rules frame_of frame_rules least_size known packet_of stream_header le wrong_header
 first-if-both = refl

@@ -8,7 +8,7 @@ use mathlib.Core.List.{List, [], ◌∷◌}
 use Prim.Native.Nat.{ℕ, zero, suc, ◌+◌, ◌-◌, ◌≤◌, ◌<◌, max}
 use Rattle.machine.specs.Machine.{pick}
 use Rattle.words.specs.Over.{below_or_not}
-use Rattle.rules.specs.Difference.{differing-from, differing, next-from}
+use Rattle.rules.specs.Difference.{differing_from, differing, next_from}
 use Rattle.rules.specs.declared.Offset.{Offset}
 use Rattle.rules.specs.declared.Offset.TheVariants.{At, Nowhere}
 use Rattle.diff_bytes.specs.Differing.{differs_at, differs-second, first_of, from_offset, none-there, there-or-not, next_start}
@@ -21,14 +21,14 @@ among i [] = false
 among i (j ∷ js) = eqb i j || among i js
 
 -- no offset is below the one where the bytes begin
-below_none : (i j : ℕ) (x y : List ℕ) → i < j → among i (differing-from j x y) ≡ false
-unfolding among differing-from
+below_none : (i j : ℕ) (x y : List ℕ) → i < j → among i (differing_from j x y) ≡ false
+unfolding among differing_from
 below_none i j [] [] h = refl
 below_none i j [] (n ∷ y) h = rw (ne_eqb i j (λ e. omega arith)) (below_none i (j + 1) [] y (omega arith))
 below_none i j (m ∷ x) [] h = rw (ne_eqb i j (λ e. omega arith)) (below_none i (j + 1) x [] (omega arith))
 below_none i j (m ∷ x) (n ∷ y) h = by_test (eqb m n) (below_none i (j + 1) x y (omega arith))
   where
-    by_test : (t : Bool) → among i (differing-from (j + 1) x y) ≡ false → among i (pick t (differing-from (j + 1) x y) (j ∷ differing-from (j + 1) x y)) ≡ false
+    by_test : (t : Bool) → among i (differing_from (j + 1) x y) ≡ false → among i (pick t (differing_from (j + 1) x y) (j ∷ differing_from (j + 1) x y)) ≡ false
     by_test true e = e
     by_test false e = rw (ne_eqb i j (λ e. omega arith)) e
 
@@ -72,23 +72,23 @@ module _ (x y : List ℕ) where
 -- ---- the list rises
 
 -- each is above the one before, and none is below the first number
-unfoldable pub rises-from : ℕ → List ℕ → Bool
-rises-from from [] = true
-rises-from from (i ∷ offsets) = not (ltb i from) && rises-from (i + 1) offsets
+unfoldable pub rises_from : ℕ → List ℕ → Bool
+rises_from from [] = true
+rises_from from (i ∷ offsets) = not (ltb i from) && rises_from (i + 1) offsets
 
-rising : (from i : ℕ) (x y : List ℕ) → from ≤ i → rises-from from (differing-from i x y) ≡ true
-unfolding rises-from differing-from
+rising : (from i : ℕ) (x y : List ℕ) → from ≤ i → rises_from from (differing_from i x y) ≡ true
+unfolding rises_from differing_from
 rising from i [] [] h = refl
 rising from i [] (n ∷ y) h = rw (le-ltb i from h) (rising (i + 1) (i + 1) [] y (omega arith))
 rising from i (m ∷ x) [] h = rw (le-ltb i from h) (rising (i + 1) (i + 1) x [] (omega arith))
 rising from i (m ∷ x) (n ∷ y) h = by_test (eqb m n) (rising from (i + 1) x y (omega arith)) (rising (i + 1) (i + 1) x y (omega arith))
   where
-    by_test : (t : Bool) → rises-from from (differing-from (i + 1) x y) ≡ true → rises-from (i + 1) (differing-from (i + 1) x y) ≡ true
-        → rises-from from (pick t (differing-from (i + 1) x y) (i ∷ differing-from (i + 1) x y)) ≡ true
+    by_test : (t : Bool) → rises_from from (differing_from (i + 1) x y) ≡ true → rises_from (i + 1) (differing_from (i + 1) x y) ≡ true
+        → rises_from from (pick t (differing_from (i + 1) x y) (i ∷ differing_from (i + 1) x y)) ≡ true
     by_test true e f = e
     by_test false e f = rw (le-ltb i from h) f
 
-pub offsets-rise : (x y : List ℕ) → rises-from 0 (differing x y) ≡ true
+pub offsets-rise : (x y : List ℕ) → rises_from 0 (differing x y) ≡ true
 offsets-rise x y = rising 0 0 x y (omega arith)
 
 -- ---- the next offset, asked again and again
@@ -98,13 +98,13 @@ abbrev then_on : Offset → (ℕ → List ℕ) → List ℕ
 then_on Nowhere ask-on = []
 then_on (At i) ask-on = i ∷ ask-on (i + 1)
 
-unfoldable pub asked-on : (ℕ → Offset) → ℕ → ℕ → List ℕ
-asked-on ask zero from = []
-asked-on ask (suc k) from = then_on (ask from) (asked-on ask k)
+unfoldable pub asked_on : (ℕ → Offset) → ℕ → ℕ → List ℕ
+asked_on ask zero from = []
+asked_on ask (suc k) from = then_on (ask from) (asked_on ask k)
 
 module _ (x y : List ℕ) where
   abbrev ask : ℕ → Offset
-  ask from = next-from from (differing x y)
+  ask from = next_from from (differing x y)
 
   split-here : (from i : ℕ) (rest : List ℕ) (t : Bool) → (from_offset x y (from + 1) ≡ i ∷ rest → rest ≡ from_offset x y (i + 1))
       → pick t (from ∷ from_offset x y (from + 1)) (from_offset x y (from + 1)) ≡ i ∷ rest → rest ≡ from_offset x y (i + 1)
@@ -123,23 +123,23 @@ module _ (x y : List ℕ) where
       (λ l. absurd (let f : ◌≡◌ {A = List ℕ} [] (i ∷ rest) = sym (none-there x y from l) ∙ e in let z : ◌≡◌ {A = ℕ} 0 1 = cc in omega arith))
       (below_or_not from (max (length x) (length y)))
 
-  asks : (k from : ℕ) (l : List ℕ) → from_offset x y from ≡ l → length l ≤ k → asked-on ask k from ≡ l
-  unfolding asked-on
+  asks : (k from : ℕ) (l : List ℕ) → from_offset x y from ≡ l → length l ≤ k → asked_on ask k from ≡ l
+  unfolding asked_on
   asks zero from [] e h = refl
   asks zero from (i ∷ l) e h = absurd (omega arith)
-  asks (suc k) from [] e h = ap (λ o. then_on o (asked-on ask k)) (next_start x y from ∙ ap first_of e)
+  asks (suc k) from [] e h = ap (λ o. then_on o (asked_on ask k)) (next_start x y from ∙ ap first_of e)
   asks (suc k) from (i ∷ l) e h =
-      ap (λ o. then_on o (asked-on ask k)) (next_start x y from ∙ ap first_of e)
+      ap (λ o. then_on o (asked_on ask k)) (next_start x y from ∙ ap first_of e)
       ∙ ap (λ r. i ∷ r) (asks k (i + 1) l (sym (split_off (max (length x) (length y)) from i l (omega arith) e)) (omega arith))
 
   -- from offset 0 on, this gives the whole list, in order
-  pub next-gives-all : (k : ℕ) → length (differing x y) ≤ k → asked-on ask k 0 ≡ differing x y
+  pub next-gives-all : (k : ℕ) → length (differing x y) ≤ k → asked_on ask k 0 ≡ differing x y
   next-gives-all k h = asks k 0 (differing x y) refl h
 
 -- ---- the list is empty exactly for equal bytes
 
-none_differ : (i : ℕ) (x y : List ℕ) → differing-from i x y ≡ [] → x ≡ y
-unfolding differing-from
+none_differ : (i : ℕ) (x y : List ℕ) → differing_from i x y ≡ [] → x ≡ y
+unfolding differing_from
 none_differ i [] [] e = refl
 none_differ i [] (n ∷ y) e = absurd (let z : ◌≡◌ {A = ℕ} 0 1 = cc in omega arith)
 none_differ i (m ∷ x) [] e = absurd (let z : ◌≡◌ {A = ℕ} 0 1 = cc in omega arith)
@@ -148,12 +148,12 @@ none_differ i (m ∷ x) (n ∷ y) e =
     let a : m ≡ n = eqb-true m n p.0 in
     rw (a, none_differ (i + 1) x y p.1)
   where
-    by_test : (t : Bool) → pick t (differing-from (i + 1) x y) (i ∷ differing-from (i + 1) x y) ≡ [] → (t ≡ true) × (differing-from (i + 1) x y ≡ [])
+    by_test : (t : Bool) → pick t (differing_from (i + 1) x y) (i ∷ differing_from (i + 1) x y) ≡ [] → (t ≡ true) × (differing_from (i + 1) x y ≡ [])
     by_test true e = (refl, e)
     by_test false e = absurd (let z : ◌≡◌ {A = ℕ} 0 1 = cc in omega arith)
 
-same_none : (i : ℕ) (x : List ℕ) → differing-from i x x ≡ []
-unfolding differing-from
+same_none : (i : ℕ) (x : List ℕ) → differing_from i x x ≡ []
+unfolding differing_from
 same_none i [] = refl
 same_none i (m ∷ x) = rw (eq-eqb m m refl) (same_none (i + 1) x)
 

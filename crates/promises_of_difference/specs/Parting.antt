@@ -4,7 +4,7 @@ use Rattle.std.proofs.Common.{sym, ap, ◌∙◌, arith}
 use Rattle.rules.specs.Lists.{Found, nth}
 use Rattle.rules.specs.Lists.Found.{none, found}
 use Rattle.rules.specs.Dump.{Listed}
-use Rattle.rules.specs.Difference.{class-both, class_of, parted_by, parted}
+use Rattle.rules.specs.Difference.{class_both, class_of, parted_by, parted}
 use Rattle.rules.specs.declared.Class.{Class}
 use Rattle.rules.specs.declared.Class.TheVariants.{Equal, SameOpcode, OtherOpcode, OnlyFirst, OnlySecond, Neither}
 use Rattle.rules.specs.declared.Parting.{Parting}
@@ -17,8 +17,8 @@ all_bytes ps = map (λ (p : Listed). p.bytes) ps
 
 -- ---- nowhere, exactly if the packets are equal
 
-equal-bytes : (p q : Listed) → class-both p.bytes q.bytes ≡ Equal → p.bytes ≡ q.bytes
-equal-bytes p q e = by-class (class-both p.bytes q.bytes) e (class-means (found p) (found q))
+equal-bytes : (p q : Listed) → class_both p.bytes q.bytes ≡ Equal → p.bytes ≡ q.bytes
+equal-bytes p q e = by-class (class_both p.bytes q.bytes) e (class-means (found p) (found q))
   where
     by-class : (c : Class) → c ≡ Equal → Means c (found p) (found q) → p.bytes ≡ q.bytes
     by-class c e m =
@@ -30,7 +30,7 @@ equal-bytes p q e = by-class (class-both p.bytes q.bytes) e (class-means (found 
         same : (u v : Listed) → found v ≡ found u → u ≡ v
         same u v e = cc
 
-bytes-equal : (p q : Listed) → p.bytes ≡ q.bytes → class-both p.bytes q.bytes ≡ Equal
+bytes-equal : (p q : Listed) → p.bytes ≡ q.bytes → class_both p.bytes q.bytes ≡ Equal
 bytes-equal p q e = means-class Equal (found p) (found q) (record { p = p; q = q; first = refl; second = refl; bytes = e })
 
 never_on : (c : Class) (i : ℕ) (later : Parting) → (c ≡ Neither → ⊥) → parted_by c i later ≡ Never → (c ≡ Equal) × (later ≡ Never)
@@ -41,7 +41,7 @@ never_on OnlyFirst i later n e = absurd (let z : ◌≡◌ {A = ℕ} 0 1 = cc in
 never_on OnlySecond i later n e = absurd (let z : ◌≡◌ {A = ℕ} 0 1 = cc in omega arith)
 never_on Neither i later n e = absurd (n refl)
 
-two-there : (p q : Listed) → class-both p.bytes q.bytes ≡ Neither → ⊥
+two-there : (p q : Listed) → class_both p.bytes q.bytes ≡ Neither → ⊥
 two-there p q e =
     let m : Means Neither (found p) (found q) = rw e at (class-means (found p) (found q)) in
     let f : ◌≡◌ {A = Found Listed} (found p) none = m.0 in
@@ -54,7 +54,7 @@ never-equal i [] [] e = refl
 never-equal i [] (q ∷ qs) e = absurd (let z : ◌≡◌ {A = ℕ} 0 1 = cc in omega arith)
 never-equal i (p ∷ ps) [] e = absurd (let z : ◌≡◌ {A = ℕ} 0 1 = cc in omega arith)
 never-equal i (p ∷ ps) (q ∷ qs) e =
-    let n = never_on (class-both p.bytes q.bytes) i (parted (i + 1) ps qs) (two-there p q) e in
+    let n = never_on (class_both p.bytes q.bytes) i (parted (i + 1) ps qs) (two-there p q) e in
     rw (equal-bytes p q n.0, never-equal (i + 1) ps qs n.1)
 
 pub equal-never : (i : ℕ) (ps qs : List Listed) → all_bytes ps ≡ all_bytes qs → parted i ps qs ≡ Never
@@ -98,7 +98,7 @@ at_first : (i j : ℕ) (ps qs : List Listed) → i ≡ j → (class_of (nth ps 0
 at_first i j ps qs e n m = record { further = 0; is = omega arith; parts = record { before = λ k h. absurd (omega arith); here = n; there = m } }
 
 -- behind an equal pair
-at-later : (i j : ℕ) (p q : Listed) (ps qs : List Listed) → class-both p.bytes q.bytes ≡ Equal → PartsAfter (i + 1) ps qs j → PartsAfter i (p ∷ ps) (q ∷ qs) j
+at-later : (i j : ℕ) (p q : Listed) (ps qs : List Listed) → class_both p.bytes q.bytes ≡ Equal → PartsAfter (i + 1) ps qs j → PartsAfter i (p ∷ ps) (q ∷ qs) j
 unfolding nth
 at-later i j p q ps qs e a =
     let is : j ≡ i + 1 + a.further = a.is in
@@ -122,9 +122,9 @@ parts-after i j (p ∷ ps) [] e =
     let s : i ≡ j = cc in
     at_first i j (p ∷ ps) [] s (λ h. let z : ◌≡◌ {A = ℕ} 0 1 = cc in omega arith) (λ h. let z : ◌≡◌ {A = ℕ} 0 1 = cc in omega arith)
 parts-after i j (p ∷ ps) (q ∷ qs) e =
-    by-split (splits (class-both p.bytes q.bytes) i j (parted (i + 1) ps qs) e) (λ d. parts-after (i + 1) j ps qs d)
+    by-split (splits (class_both p.bytes q.bytes) i j (parted (i + 1) ps qs) e) (λ d. parts-after (i + 1) j ps qs d)
   where
-    by-split : Splits (class-both p.bytes q.bytes) i j (parted (i + 1) ps qs) → (parted (i + 1) ps qs ≡ At j → PartsAfter (i + 1) ps qs j) → PartsAfter i (p ∷ ps) (q ∷ qs) j
+    by-split : Splits (class_both p.bytes q.bytes) i j (parted (i + 1) ps qs) → (parted (i + 1) ps qs ≡ At j → PartsAfter (i + 1) ps qs j) → PartsAfter i (p ∷ ps) (q ∷ qs) j
     by-split (at_once n s) on = at_first i j (p ∷ ps) (q ∷ qs) s n (two-there p q)
     by-split (behind c d) on = at-later i j p q ps qs c (on d)
 

@@ -6,7 +6,7 @@ use Rattle.rules.specs.Layouts.{word}
 use Rattle.rules.specs.Lists.{Found, nth}
 use Rattle.rules.specs.Lists.Found.{none, found}
 use Rattle.rules.specs.Dump.{Listed}
-use Rattle.rules.specs.Difference.{packets, fault, checked, check, differing-from, differing, same_opcode, class-both, offsets-both, class_of, offsets_of, class_at, offsets_at, parted_by, parted}
+use Rattle.rules.specs.Difference.{packets, fault, checked, check, differing_from, differing, same_opcode, class_both, offsets_both, class_of, offsets_of, class_at, offsets_at, parted_by, parted}
 use Rattle.rules.specs.declared.Checked.{Checked}
 use Rattle.rules.specs.declared.Checked.TheVariants.{Valid, Refused}
 use Rattle.rules.specs.declared.Class.{Class}
@@ -34,25 +34,25 @@ eqb-swaps m n = by_test (eqb m n) refl
     by_test true e = eq-eqb n m (sym (eqb-true m n e))
     by_test false e = other (eqb n m) e refl
 
-differing-swaps : (i : ℕ) (x y : List ℕ) → differing-from i y x ≡ differing-from i x y
-unfolding differing-from
+differing-swaps : (i : ℕ) (x y : List ℕ) → differing_from i y x ≡ differing_from i x y
+unfolding differing_from
 differing-swaps i [] [] = refl
 differing-swaps i [] (n ∷ y) = ap (λ l. i ∷ l) (differing-swaps (i + 1) [] y)
 differing-swaps i (m ∷ x) [] = ap (λ l. i ∷ l) (differing-swaps (i + 1) x [])
 differing-swaps i (m ∷ x) (n ∷ y) = rw (eqb-swaps m n, differing-swaps (i + 1) x y)
 
 module _ (x y : List ℕ) where
-  class-both-swaps : class-both y x ≡ class-both x y
-  unfolding class-both
+  class-both-swaps : class_both y x ≡ class_both x y
+  unfolding class_both
   class-both-swaps = rw (eqb-swaps (word x 0) (word y 0), differing-swaps 0 x y)
 
-  offsets-both-swap : offsets-both y x ≡ offsets-both x y
-  unfolding offsets-both
+  offsets-both-swap : offsets_both y x ≡ offsets_both x y
+  unfolding offsets_both
   offsets-both-swap = rw (eqb-swaps (word x 0) (word y 0), differing-swaps 0 x y)
 
 -- a class of two packets is neither of "only in one"
-both-keep : (x y : List ℕ) → class-both x y ≡ swapped (class-both x y)
-unfolding class-both
+both-keep : (x y : List ℕ) → class_both x y ≡ swapped (class_both x y)
+unfolding class_both
 both-keep x y = by_test (eqb (word x 0) (word y 0)) (differing x y)
   where
     by_test : (t : Bool) (l : List ℕ) → pick t (same_opcode l) OtherOpcode ≡ swapped (pick t (same_opcode l) OtherOpcode)
@@ -83,7 +83,7 @@ parted-swaps i [] (q ∷ qs) = refl
 parted-swaps i (p ∷ ps) [] = refl
 parted-swaps i (p ∷ ps) (q ∷ qs) =
     ap (λ c. parted_by c i (parted (i + 1) qs ps)) (class-both-swaps p.bytes q.bytes)
-    ∙ ap (λ l. parted_by (class-both p.bytes q.bytes) i l) (parted-swaps (i + 1) ps qs)
+    ∙ ap (λ l. parted_by (class_both p.bytes q.bytes) i l) (parted-swaps (i + 1) ps qs)
 
 -- the same refusal, of the other stream
 abbrev pub other_stream : Checked → Checked

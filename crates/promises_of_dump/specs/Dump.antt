@@ -6,17 +6,17 @@ use Prim.Native.Nat.{ℕ, zero, suc, ◌+◌, ◌≤◌, ◌<◌}
 use native.Mathlib.Omega.{arith}
 use borrow.Author.Tests.{lt-ltb, le-ltb}
 use Rattle.machine.specs.Machine.{pick}
-use Rattle.rules.specs.Layouts.{stream-header, stream_header_size}
+use Rattle.rules.specs.Layouts.{stream_header, stream_header_size}
 use Rattle.rules.specs.Lists.{Found}
 use Rattle.rules.specs.Lists.Found.{none, found}
-use Rattle.rules.specs.Stream.{stream-rules, stream_of, frame-of, packet-of, size_of, Piece, before, cut, packets_of}
+use Rattle.rules.specs.Stream.{stream_rules, stream_of, frame_of, packet_of, size_of, Piece, before, cut, packets_of}
 use Rattle.rules.specs.Stream.Piece.{packet, misframed}
 use Rattle.rules.specs.declared.Refusal.{Refusal}
 use Rattle.rules.specs.declared.Verdict.TheVariants.{Fine, Broken}
 use Rattle.rules.specs.declared.Frame.{Frame}
 use Rattle.rules.specs.declared.Frame.TheVariants.{Whole, Misframed}
 use Rattle.stream_packets.specs.Framing.{frame-sound}
-use Rattle.rules.specs.Dump.{Listed, Ending, ending-text, Dump, ends, first_then, stops, listed_at, listed_before, listed, dump-of, lines_of, text_of, longest_dump, bad_input, listing}
+use Rattle.rules.specs.Dump.{Listed, Ending, ending_text, Dump, ends, first_then, stops, listed_at, listed_before, listed, dump_of, lines_of, text_of, longest_dump, bad_input, listing}
 use Rattle.rules.specs.Dump.Ending.{complete, stopped, refused}
 
 -- ---- which packets are accepted: those of the rule book's own list of a stream's packets, up to the first that is bad or, with the strict
@@ -30,20 +30,20 @@ accepted strict (misframed at r ∷ ps) = []
 -- a packet of a listing is that packet of the stream
 unfoldable pub pieces : List Listed → List Piece
 pieces [] = []
-pieces (p ∷ ps) = packet p.at (packet-of p.opcode p.bytes) ∷ pieces ps
+pieces (p ∷ ps) = packet p.at (packet_of p.opcode p.bytes) ∷ pieces ps
 
 module _ (strict : Bool) where
   whole-pieces : (at op size : ℕ) (b : List ℕ) (d : Dump) (ps : List Piece) → pieces d.packets ≡ accepted strict ps → (t : Bool)
       → pieces (pick t (ends (stopped (listed_at at op size b))) (first_then (listed_at at op size b) d)).packets
-      ≡ pick t [] (packet at (packet-of op (take size b)) ∷ accepted strict ps)
+      ≡ pick t [] (packet at (packet_of op (take size b)) ∷ accepted strict ps)
   unfolding pieces
   whole-pieces at op size b d ps h true = refl
-  whole-pieces at op size b d ps h false = ap (λ x. packet at (packet-of op (take size b)) ∷ x) h
+  whole-pieces at op size b d ps h false = ap (λ x. packet at (packet_of op (take size b)) ∷ x) h
 
   before-pieces : (at : ℕ) (f : Frame) (b : List ℕ) (d : Dump) (ps : List Piece) → pieces d.packets ≡ accepted strict ps
       → pieces (listed_before strict at f b d).packets ≡ accepted strict (before at f b ps)
   unfolding accepted pieces
-  before-pieces at (Whole op size) b d ps h = whole-pieces at op size b d ps h (stops strict (packet-of op (take size b)))
+  before-pieces at (Whole op size) b d ps h = whole-pieces at op size b d ps h (stops strict (packet_of op (take size b)))
   before-pieces at (Misframed r) b d ps h = refl
 
   test-pieces : (t : Bool) (d : Dump) (ps : List Piece) → pieces d.packets ≡ accepted strict ps → pieces (pick t (ends complete) d).packets ≡ accepted strict (pick t [] ps)
@@ -56,17 +56,17 @@ module _ (strict : Bool) where
   listed-pieces zero at b = refl
   listed-pieces (suc k) at b =
       test-pieces (eqb (length b) 0) _ _
-      (before-pieces at (frame-of b) b _ _ (listed-pieces k (at + size_of (frame-of b)) (drop (size_of (frame-of b)) b)))
+      (before-pieces at (frame_of b) b _ _ (listed-pieces k (at + size_of (frame_of b)) (drop (size_of (frame_of b)) b)))
 
   -- "every accepted packet appears once, in order": the lines are of the accepted packets of the stream, one each, and of no other
-  pub lists-each-once : (b : List ℕ) → stream-rules (length b) (stream-header b 0) ≡ Fine
-      → pieces (dump-of strict b).packets ≡ accepted strict (packets_of b (stream_of 0 (stream-header b 0)))
-  unfolding dump-of
-  lists-each-once b fine = rw fine (listed-pieces (stream-header b 0).size stream_header_size (drop stream_header_size (take (stream-header b 0).size b)))
+  pub lists-each-once : (b : List ℕ) → stream_rules (length b) (stream_header b 0) ≡ Fine
+      → pieces (dump_of strict b).packets ≡ accepted strict (packets_of b (stream_of 0 (stream_header b 0)))
+  unfolding dump_of
+  lists-each-once b fine = rw fine (listed-pieces (stream_header b 0).size stream_header_size (drop stream_header_size (take (stream_header b 0).size b)))
 
 -- the whole text is those lines, in that order, and how it ends
 pub listing-is-lines : (first : ℕ) (b : List ℕ) → first ≤ 1 → length b ≤ longest_dump
-    → listing (first ∷ b) ≡ lines_of (dump-of (eqb first 1) b).packets ++ ending-text (dump-of (eqb first 1) b).ending
+    → listing (first ∷ b) ≡ lines_of (dump_of (eqb first 1) b).packets ++ ending_text (dump_of (eqb first 1) b).ending
 unfolding listing text_of
 listing-is-lines first b h l = rw (le-ltb 1 first h, le-ltb longest_dump (length b) l)
 
@@ -88,9 +88,9 @@ module _ (strict : Bool) where
   whole-rises at op size b d h r true = tt
   whole-rises at op size b d h r false = (omega arith, rising-later (at + 8) (at + size) d.packets (omega arith) r)
 
-  before-rises : (at : ℕ) (f : Frame) (b : List ℕ) (d : Dump) → frame-of b ≡ f → RisingFrom (at + size_of f) d.packets → RisingFrom at (listed_before strict at f b d).packets
+  before-rises : (at : ℕ) (f : Frame) (b : List ℕ) (d : Dump) → frame_of b ≡ f → RisingFrom (at + size_of f) d.packets → RisingFrom at (listed_before strict at f b d).packets
   unfolding RisingFrom
-  before-rises at (Whole op size) b d e r = whole-rises at op size b d (frame-sound b op size e).header r (stops strict (packet-of op (take size b)))
+  before-rises at (Whole op size) b d e r = whole-rises at op size b d (frame-sound b op size e).header r (stops strict (packet_of op (take size b)))
   before-rises at (Misframed q) b d e r = tt
 
   test-rises : (t : Bool) (at : ℕ) (d : Dump) → RisingFrom at d.packets → RisingFrom at (pick t (ends complete) d).packets
@@ -101,15 +101,15 @@ module _ (strict : Bool) where
   pub offsets-rise : (k at : ℕ) (b : List ℕ) → RisingFrom at (listed strict k at b).packets
   unfolding listed RisingFrom
   offsets-rise zero at b = tt
-  offsets-rise (suc k) at b = test-rises (eqb (length b) 0) at _ (before-rises at (frame-of b) b _ refl (offsets-rise k (at + size_of (frame-of b)) (drop (size_of (frame-of b)) b)))
+  offsets-rise (suc k) at b = test-rises (eqb (length b) 0) at _ (before-rises at (frame_of b) b _ refl (offsets-rise k (at + size_of (frame_of b)) (drop (size_of (frame_of b)) b)))
 
 -- ---- "A bad header or packet ends the listing with its error number."
 
 -- the error that the packets of a stream end with: that of the first bad one, unless the strict setting stops before it
-unfoldable pub error-of : Bool → List Piece → Found Refusal
-error-of strict [] = none
-error-of strict (packet at p ∷ ps) = pick (stops strict p) none (error-of strict ps)
-error-of strict (misframed at r ∷ ps) = found r
+unfoldable pub error_of : Bool → List Piece → Found Refusal
+error_of strict [] = none
+error_of strict (packet at p ∷ ps) = pick (stops strict p) none (error_of strict ps)
+error_of strict (misframed at r ∷ ps) = found r
 
 abbrev pub error_in : Ending → Found Refusal
 error_in complete = none
@@ -117,37 +117,37 @@ error_in (stopped p) = none
 error_in (refused r) = found r
 
 module _ (strict : Bool) where
-  whole-error : (at op size : ℕ) (b : List ℕ) (d : Dump) (ps : List Piece) → error_in d.ending ≡ error-of strict ps → (t : Bool)
-      → error_in (pick t (ends (stopped (listed_at at op size b))) (first_then (listed_at at op size b) d)).ending ≡ pick t none (error-of strict ps)
+  whole-error : (at op size : ℕ) (b : List ℕ) (d : Dump) (ps : List Piece) → error_in d.ending ≡ error_of strict ps → (t : Bool)
+      → error_in (pick t (ends (stopped (listed_at at op size b))) (first_then (listed_at at op size b) d)).ending ≡ pick t none (error_of strict ps)
   whole-error at op size b d ps h true = refl
   whole-error at op size b d ps h false = h
 
-  before-error : (at : ℕ) (f : Frame) (b : List ℕ) (d : Dump) (ps : List Piece) → error_in d.ending ≡ error-of strict ps
-      → error_in (listed_before strict at f b d).ending ≡ error-of strict (before at f b ps)
-  unfolding error-of
-  before-error at (Whole op size) b d ps h = whole-error at op size b d ps h (stops strict (packet-of op (take size b)))
+  before-error : (at : ℕ) (f : Frame) (b : List ℕ) (d : Dump) (ps : List Piece) → error_in d.ending ≡ error_of strict ps
+      → error_in (listed_before strict at f b d).ending ≡ error_of strict (before at f b ps)
+  unfolding error_of
+  before-error at (Whole op size) b d ps h = whole-error at op size b d ps h (stops strict (packet_of op (take size b)))
   before-error at (Misframed r) b d ps h = refl
 
-  test-error : (t : Bool) (d : Dump) (ps : List Piece) → error_in d.ending ≡ error-of strict ps → error_in (pick t (ends complete) d).ending ≡ error-of strict (pick t [] ps)
-  unfolding error-of
+  test-error : (t : Bool) (d : Dump) (ps : List Piece) → error_in d.ending ≡ error_of strict ps → error_in (pick t (ends complete) d).ending ≡ error_of strict (pick t [] ps)
+  unfolding error_of
   test-error true d ps h = refl
   test-error false d ps h = h
 
-  listed_error : (k at : ℕ) (b : List ℕ) → error_in (listed strict k at b).ending ≡ error-of strict (cut k at b)
-  unfolding listed cut error-of
+  listed_error : (k at : ℕ) (b : List ℕ) → error_in (listed strict k at b).ending ≡ error_of strict (cut k at b)
+  unfolding listed cut error_of
   listed_error zero at b = refl
   listed_error (suc k) at b =
       test-error (eqb (length b) 0) _ _
-      (before-error at (frame-of b) b _ _ (listed_error k (at + size_of (frame-of b)) (drop (size_of (frame-of b)) b)))
+      (before-error at (frame_of b) b _ _ (listed_error k (at + size_of (frame_of b)) (drop (size_of (frame_of b)) b)))
 
   module _ (b : List ℕ) where
-    pub bad-packet-ends-it : stream-rules (length b) (stream-header b 0) ≡ Fine
-        → error_in (dump-of strict b).ending ≡ error-of strict (packets_of b (stream_of 0 (stream-header b 0)))
-    unfolding dump-of
-    bad-packet-ends-it fine = rw fine (listed_error (stream-header b 0).size stream_header_size (drop stream_header_size (take (stream-header b 0).size b)))
+    pub bad-packet-ends-it : stream_rules (length b) (stream_header b 0) ≡ Fine
+        → error_in (dump_of strict b).ending ≡ error_of strict (packets_of b (stream_of 0 (stream_header b 0)))
+    unfolding dump_of
+    bad-packet-ends-it fine = rw fine (listed_error (stream_header b 0).size stream_header_size (drop stream_header_size (take (stream_header b 0).size b)))
 
-    pub bad-header-ends-it : (r : Refusal) → stream-rules (length b) (stream-header b 0) ≡ Broken r → text_of (dump-of strict b) ≡ ending-text (refused r)
-    unfolding dump-of text_of lines_of
+    pub bad-header-ends-it : (r : Refusal) → stream_rules (length b) (stream_header b 0) ≡ Broken r → text_of (dump_of strict b) ≡ ending_text (refused r)
+    unfolding dump_of text_of lines_of
     bad-header-ends-it r bad = rw bad
 
 -- ---- "Any other first byte, none, or a longer dump gives one fixed line."

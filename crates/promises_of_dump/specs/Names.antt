@@ -10,13 +10,13 @@ use Rattle.machine.specs.Machine.{pick}
 use Rattle.rules.specs.Numbers.{create_buffer, create_texture, destroy, dirty_range, copy_buffer, set_target, set_viewport, set_scissor, clear, export_surface, import_surface, release_token}
 use Rattle.rules.specs.Bytes.{le}
 use Rattle.rules.specs.Floats.{nan_among}
-use Rattle.rules.specs.Headers.{wrong-header}
-use Rattle.rules.specs.Layouts.{stream-header, viewport_floats, viewport-fields, clear_floats, clear-fields}
+use Rattle.rules.specs.Headers.{wrong_header}
+use Rattle.rules.specs.Layouts.{stream_header, viewport_floats, viewport_fields, clear_floats, clear_fields}
 use Rattle.rules.specs.Lists.{Found}
 use Rattle.rules.specs.Lists.Found.{none, found}
-use Rattle.rules.specs.Stream.{Known, known, unless_nan, least_size, packet-of, stream-rules, frame-of, frame-rules}
-use Rattle.rules.specs.Text.{ascii, hex, hex-digit, decimal, decimal-in}
-use Rattle.rules.specs.Dump.{fields_text, opcode_text, line, line_in, is_unknown, listing, text_of, dump-of, lines_of, line_of, ending-text, listed}
+use Rattle.rules.specs.Stream.{Known, known, unless_nan, least_size, packet_of, stream_rules, frame_of, frame_rules}
+use Rattle.rules.specs.Text.{ascii, hex, hex_digit, decimal, decimal_in}
+use Rattle.rules.specs.Dump.{fields_text, opcode_text, line, line_in, is_unknown, listing, text_of, dump_of, lines_of, line_of, ending_text, listed}
 use Rattle.rules.specs.declared.Packet.{Packet}
 use Rattle.rules.specs.declared.Packet.TheVariants.{Viewport, Clear, NotANumber}
 use Rattle.stream_opcodes.specs.Opcodes.{none-known}
@@ -80,12 +80,12 @@ module _ (op : ℕ) where
         by_test true = refl
         by_test false = h
 
-    pub stops-exactly : is_unknown (packet-of op b) ≡ in_no_row (known op)
-    unfolding packet-of known
+    pub stops-exactly : is_unknown (packet_of op b) ≡ in_no_row (known op)
+    unfolding packet_of known
     stops-exactly =
-        by_row (λ o. is_unknown (packet-of o b) ≡ in_no_row (known o)) refl refl refl refl refl refl
-        (not-nan (viewport_floats b) (Viewport (viewport-fields b)) refl) refl
-        (not-nan (clear_floats b) (Clear (clear-fields b)) refl) refl refl refl
+        by_row (λ o. is_unknown (packet_of o b) ≡ in_no_row (known o)) refl refl refl refl refl refl
+        (not-nan (viewport_floats b) (Viewport (viewport_fields b)) refl) refl
+        (not-nan (clear_floats b) (Clear (clear_fields b)) refl) refl refl refl
         (λ e. rw e)
 
 -- a listing worked out: a destroy of handle 4294967295, and four bytes, which are no packet
@@ -96,5 +96,5 @@ pub worked : listing
     ∷ 2 ∷ 1 ∷ 0 ∷ 0
     ∷ [])
     ≡ ascii "0x00000018 Destroy size_bytes=16 handle=4294967295\nerror=17\n"
-unfolding listing text_of dump-of lines_of line_of ending-text listed line hex hex-digit decimal decimal-in stream-rules frame-of frame-rules least_size known packet-of stream-header le wrong-header
+unfolding listing text_of dump_of lines_of line_of ending_text listed line hex hex_digit decimal decimal_in stream_rules frame_of frame_rules least_size known packet_of stream_header le wrong_header
 worked = refl

@@ -11,7 +11,7 @@ use Rattle.rules.specs.Layouts.{head_offset}
 use Rattle.rules.specs.State.{State, World}
 use Rattle.rules.specs.Settle.{written}
 use Rattle.rules.specs.Steps.{step}
-use Rattle.rules.specs.Listed.{Named, submission-listed}
+use Rattle.rules.specs.Listed.{Named, submission_listed}
 use Rattle.words.specs.Over.{below_or_not}
 use Rattle.settle.specs.Only.{Apart, written-length, written_byte, written_stands, answered-keeps-length}
 use Rattle.promises_of_packets.specs.Held.{Every}
@@ -36,7 +36,7 @@ headed m ring now = written (ring + head_offset) (take 4 (drop (ring + head_offs
 
 -- what the submission that is opened in a world lists, read in the memory that was first lent but for the head
 abbrev pub listed_at_first : List ℕ → World → List Named
-listed_at_first m v = submission-listed (headed m v.state.regs.ring v.mem) v.state.regs.ring v.state.regs.ringsize
+listed_at_first m v = submission_listed (headed m v.state.regs.ring v.mem) v.state.regs.ring v.state.regs.ringsize
 
 -- of these fields none has been written since, but the head's own
 abbrev pub Unwritten : List ℕ → World → Type 0

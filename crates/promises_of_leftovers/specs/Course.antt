@@ -9,12 +9,12 @@ use Rattle.machine.specs.Machine.{pick, Out, run_none, run-stop, run-go}
 use Rattle.rules.specs.Numbers.{done, other_memory, nothing_waits}
 use Rattle.rules.specs.State.{State, World}
 use Rattle.rules.specs.Steps.{step, go, run_for, waits, answered}
-use Rattle.rules.specs.Calls.{lent_another, not_run, ending, Ran, ran, call-write, call-run, call-answer}
+use Rattle.rules.specs.Calls.{lent_another, not_run, ending, Ran, ran, call_write, call_run, call_answer}
 use Rattle.rules.specs.Listed.{Named, where_true, unit_listed}
 use Rattle.promises_of_submissions.specs.Reads.{AgreeOn}
 use Rattle.promises_of_submissions.specs.Locality.{lent, answer-reads-nothing}
 use Rattle.promises_of_units.specs.Runs.{of-answer, taken-and-run}
-use Rattle.promises_of_units.specs.Called.{Call, after, after-all}
+use Rattle.promises_of_units.specs.Called.{Call, after, after_all}
 use Rattle.promises_of_units.specs.Called.Call.{writes, reads, runs, records, answers}
 use Rattle.promises_of_leftovers.specs.Opening.{front_of, back-of}
 use Rattle.promises_of_leftovers.specs.Unit.{unit-by-the-listed, SameStill, still-on, end-still, still-agree-on}
@@ -22,22 +22,22 @@ use Rattle.promises_of_leftovers.specs.Unit.{unit-by-the-listed, SameStill, stil
 -- ---- what units list, and calls
 
 -- the units of a run, by its allowance
-unfoldable pub units-listed : ℕ → World → List Named
-units-listed zero w = []
-units-listed (suc n) w = where_true (go w) (unit_listed w.state.regs w.state.work w.mem ++ units-listed n (step w))
+unfoldable pub units_listed : ℕ → World → List Named
+units_listed zero w = []
+units_listed (suc n) w = where_true (go w) (unit_listed w.state.regs w.state.work w.mem ++ units_listed n (step w))
 
 -- those of a call: one that is refused has none
-unfoldable pub call-units-listed : Call → World → List Named
-call-units-listed (writes offset v) w = []
-call-units-listed (reads offset) w = []
-call-units-listed (runs n) w = where_true (eqb (call-run w n).answer done) (units-listed n w)
-call-units-listed (records i) w = []
-call-units-listed (answers good n) w = where_true (eqb (call-answer w good n).answer done) (units-listed n (answered good w))
+unfoldable pub call_units_listed : Call → World → List Named
+call_units_listed (writes offset v) w = []
+call_units_listed (reads offset) w = []
+call_units_listed (runs n) w = where_true (eqb (call_run w n).answer done) (units_listed n w)
+call_units_listed (records i) w = []
+call_units_listed (answers good n) w = where_true (eqb (call_answer w good n).answer done) (units_listed n (answered good w))
 
 -- and of calls one after the other
-unfoldable pub calls-units-listed : List Call → World → List Named
-calls-units-listed [] w = []
-calls-units-listed (c ∷ cs) w = call-units-listed c w ++ calls-units-listed cs (after c w)
+unfoldable pub calls_units_listed : List Call → World → List Named
+calls_units_listed [] w = []
+calls_units_listed (c ∷ cs) w = call_units_listed c w ++ calls_units_listed cs (after c w)
 
 -- ---- a unit and a run, of two worlds in one state
 
@@ -74,19 +74,19 @@ pub record SameUnits (x x' : World) (o o' : Out World) : Type 0 where
   pub units : o.units ≡ o'.units
   pub end : Still x x' o.state o'.state
 
-pub run-alike : (n : ℕ) (x x' : World) → x.state ≡ x'.state → length x.mem ≡ length x'.mem → Alike x x' (units-listed n x) → SameUnits x x' (run_for n x) (run_for n x')
-unfolding units-listed
+pub run-alike : (n : ℕ) (x x' : World) → x.state ≡ x'.state → length x.mem ≡ length x'.mem → Alike x x' (units_listed n x) → SameUnits x x' (run_for n x) (run_for n x')
+unfolding units_listed
 run-alike zero x x' e len same = rw (run_none go step x, run_none go step x') (record { units = refl; end = stands x x' e len })
 run-alike (suc n) x x' e len same = by_test (go x) refl same (run-alike n (step x) (step x'))
   where
-    by_test : (t : Bool) → go x ≡ t → Alike x x' (where_true t (unit_listed x.state.regs x.state.work x.mem ++ units-listed n (step x)))
-        → ((step x).state ≡ (step x').state → length (step x).mem ≡ length (step x').mem → Alike (step x) (step x') (units-listed n (step x))
+    by_test : (t : Bool) → go x ≡ t → Alike x x' (where_true t (unit_listed x.state.regs x.state.work x.mem ++ units_listed n (step x)))
+        → ((step x).state ≡ (step x').state → length (step x).mem ≡ length (step x').mem → Alike (step x) (step x') (units_listed n (step x))
         → SameUnits (step x) (step x') (run_for n (step x)) (run_for n (step x')))
         → SameUnits x x' (run_for (suc n) x) (run_for (suc n) x')
     by_test true g s later =
         let one : Still x x' (step x) (step x') = unit-alike x x' e len (front_of x.mem x'.mem _ _ s) in
         let rest : SameUnits (step x) (step x') (run_for n (step x)) (run_for n (step x')) =
-        later one.state one.long (after-still x x' (step x) (step x') one (units-listed n (step x)) (back-of x.mem x'.mem (unit_listed x.state.regs x.state.work x.mem) _ s)) in
+        later one.state one.long (after-still x x' (step x) (step x') one (units_listed n (step x)) (back-of x.mem x'.mem (unit_listed x.state.regs x.state.work x.mem) _ s)) in
         rw (run-go go step n x g, run-go go step n x' (sym (same-go x x' e) ∙ g))
         (record { units = ap (λ (k : ℕ). 1 + k) rest.units; end = still-on one.still rest.end })
     by_test false g s later =
@@ -111,44 +111,44 @@ ran-alike : (x x' : World) (o o' : Out World) → SameUnits x x' o o' → SameRe
 ran-alike x x' o o' k = record { answer = refl; units = k.units; ended = ap ending k.end.state; end = k.end }
 
 module _ (x x' : World) (e : x.state ≡ x'.state) (len : length x.mem ≡ length x'.mem) where
-  pub run-call-alike : (n : ℕ) → Alike x x' (call-units-listed (runs n) x) → SameReport x x' (call-run x n) (call-run x' n)
-  unfolding call-run call-units-listed
+  pub run-call-alike : (n : ℕ) → Alike x x' (call_units_listed (runs n) x) → SameReport x x' (call_run x n) (call_run x' n)
+  unfolding call_run call_units_listed
   run-call-alike n same = rw (← same-lent x x' e len) (by_test (lent_another x) same)
     where
-      by_test : (t : Bool) → Alike x x' (where_true (eqb (pick t (not_run other_memory x) (ran (run_for n x))).answer done) (units-listed n x))
+      by_test : (t : Bool) → Alike x x' (where_true (eqb (pick t (not_run other_memory x) (ran (run_for n x))).answer done) (units_listed n x))
           → SameReport x x' (pick t (not_run other_memory x) (ran (run_for n x))) (pick t (not_run other_memory x') (ran (run_for n x')))
       by_test true s = refused-alike x x' other_memory e len
       by_test false s = ran-alike x x' (run_for n x) (run_for n x') (run-alike n x x' e len s)
 
-  pub answer-call-alike : (good : Bool) (n : ℕ) → Alike x x' (call-units-listed (answers good n) x) → SameReport x x' (call-answer x good n) (call-answer x' good n)
-  unfolding call-units-listed
+  pub answer-call-alike : (good : Bool) (n : ℕ) → Alike x x' (call_units_listed (answers good n) x) → SameReport x x' (call_answer x good n) (call_answer x' good n)
+  unfolding call_units_listed
   answer-call-alike good n =
-      of-answer (λ (r : Ran). Alike x x' (where_true (eqb r.answer done) (units-listed n (answered good x))) → SameReport x x' r (call-answer x' good n)) x good n
+      of-answer (λ (r : Ran). Alike x x' (where_true (eqb r.answer done) (units_listed n (answered good x))) → SameReport x x' r (call_answer x' good n)) x good n
       (λ l s. rw (other (sym (same-lent x x' e len) ∙ l)) (refused-alike x x' other_memory e len))
       (λ l k s. rw (nothing (sym (same-lent x x' e len) ∙ l) (ap waits (sym e) ∙ k)) (refused-alike x x' nothing_waits e len))
       (λ l k s. rw (taken-and-run x' good n (sym (same-lent x x' e len) ∙ l) (ap waits (sym e) ∙ k)) (taken s))
     where
-      other : lent_another x' ≡ true → call-answer x' good n ≡ not_run other_memory x'
+      other : lent_another x' ≡ true → call_answer x' good n ≡ not_run other_memory x'
       other l =
           of-answer (λ (r : Ran). r ≡ not_run other_memory x') x' good n (λ k. refl) (λ k q. absurd (let z : ◌≡◌ {A = ℕ} 0 1 = cc in omega arith))
           (λ k q. absurd (let z : ◌≡◌ {A = ℕ} 0 1 = cc in omega arith))
 
-      nothing : lent_another x' ≡ false → waits x'.state ≡ false → call-answer x' good n ≡ not_run nothing_waits x'
+      nothing : lent_another x' ≡ false → waits x'.state ≡ false → call_answer x' good n ≡ not_run nothing_waits x'
       nothing l h =
           of-answer (λ (r : Ran). r ≡ not_run nothing_waits x') x' good n (λ k. absurd (let z : ◌≡◌ {A = ℕ} 0 1 = cc in omega arith)) (λ k q. refl)
           (λ k q. absurd (let z : ◌≡◌ {A = ℕ} 0 1 = cc in omega arith))
 
-      taken : Alike x x' (units-listed n (answered good x)) → SameReport x x' (ran (run_for n (answered good x))) (ran (run_for n (answered good x')))
+      taken : Alike x x' (units_listed n (answered good x)) → SameReport x x' (ran (run_for n (answered good x))) (ran (run_for n (answered good x')))
       taken s =
           let one : Still x x' (answered good x) (answered good x') = answered-alike good x x' e len in
           let rest : SameUnits (answered good x) (answered good x') (run_for n (answered good x)) (run_for n (answered good x')) =
-          run-alike n (answered good x) (answered good x') one.state one.long (after-still x x' (answered good x) (answered good x') one (units-listed n (answered good x)) s) in
+          run-alike n (answered good x) (answered good x') one.state one.long (after-still x x' (answered good x) (answered good x') one (units_listed n (answered good x)) s) in
           ran-alike x x' (run_for n (answered good x)) (run_for n (answered good x')) (record { units = rest.units; end = still-on one.still rest.end })
 
   -- where a call leads
-  pub call-leads-alike : (c : Call) → Alike x x' (call-units-listed c x) → Still x x' (after c x) (after c x')
+  pub call-leads-alike : (c : Call) → Alike x x' (call_units_listed c x) → Still x x' (after c x) (after c x')
   unfolding after
-  call-leads-alike (writes offset v) s = record { state = ap (λ (t : State). (call-write t offset v).state) e; long = len; still = λ i h. h }
+  call-leads-alike (writes offset v) s = record { state = ap (λ (t : State). (call_write t offset v).state) e; long = len; still = λ i h. h }
   call-leads-alike (reads offset) s = stands x x' e len
   call-leads-alike (runs n) s = (run-call-alike n s).end
   call-leads-alike (records i) s = stands x x' e len
@@ -156,12 +156,12 @@ module _ (x x' : World) (e : x.state ≡ x'.state) (len : length x.mem ≡ lengt
 
 -- ---- and any calls
 
-pub calls-lead-alike : (cs : List Call) (x x' : World) → x.state ≡ x'.state → length x.mem ≡ length x'.mem → Alike x x' (calls-units-listed cs x)
-    → Still x x' (after-all cs x) (after-all cs x')
-unfolding calls-units-listed after-all
+pub calls-lead-alike : (cs : List Call) (x x' : World) → x.state ≡ x'.state → length x.mem ≡ length x'.mem → Alike x x' (calls_units_listed cs x)
+    → Still x x' (after_all cs x) (after_all cs x')
+unfolding calls_units_listed after_all
 calls-lead-alike [] x x' e len same = stands x x' e len
 calls-lead-alike (c ∷ cs) x x' e len same =
     let one : Still x x' (after c x) (after c x') = call-leads-alike x x' e len c (front_of x.mem x'.mem _ _ same) in
     still-on one.still
     (calls-lead-alike cs (after c x) (after c x') one.state one.long
-    (after-still x x' (after c x) (after c x') one (calls-units-listed cs (after c x)) (back-of x.mem x'.mem (call-units-listed c x) _ same)))
+    (after-still x x' (after c x) (after c x') one (calls_units_listed cs (after c x)) (back-of x.mem x'.mem (call_units_listed c x) _ same)))

@@ -3,21 +3,21 @@
 -- fence page. Two such desks agree on all that is listed, whatever the two numbers; a night over them is told alike. Assumes nothing.
 use Rattle.std.specs.Prelude.{◌≡◌, refl, Bool, true, false, ◌&&◌, ◌||◌, List, [], ◌∷◌, ◌++◌, ℕ, zero, suc, ◌+◌, ◌%◌, leb, eqb, length, take, drop, get_or}
 use Rattle.std.proofs.Common.{ap, ◌∙◌, inl, inr, arith, eqb-true, leb-true}
-use Rattle.machine.specs.Machine.{runFor}
+use Rattle.machine.specs.Machine.{run_while}
 use Rattle.rules.specs.Numbers.{ring_magic, table_magic, stream_magic, version, create_buffer}
 use Rattle.rules.specs.Bytes.{le, bytes_of}
 use Rattle.rules.specs.Lists.{over, nth, lookup}
-use Rattle.rules.specs.Layouts.{head_offset, ring-header, descriptor, table-header, entry, stream-header, buffer-fields, page-bytes}
-use Rattle.rules.specs.Headers.{wrong-header}
-use Rattle.rules.specs.Table.{header-rules, entry-rules, take-entry}
-use Rattle.rules.specs.Stream.{known, stream-rules, least_size, frame-rules, frame-of, packet-of}
-use Rattle.rules.specs.Ring.{descriptor-rules, range-rules, submission-rules, submission-opening, power-of-two, good-header, good-ring, ring-opening, opening_of}
-use Rattle.rules.specs.Packets.{create-backed, create, on-buffer-packet, apply, target-after, pass, take-packet, tokens-after}
+use Rattle.rules.specs.Layouts.{head_offset, ring_header, descriptor, table_header, entry, stream_header, buffer_fields, page_bytes}
+use Rattle.rules.specs.Headers.{wrong_header}
+use Rattle.rules.specs.Table.{header_rules, entry_rules, take_entry}
+use Rattle.rules.specs.Stream.{known, stream_rules, least_size, frame_rules, frame_of, packet_of}
+use Rattle.rules.specs.Ring.{descriptor_rules, range_rules, submission_rules, submission_opening, power_of_two, good_header, good_ring, ring_opening, opening_of}
+use Rattle.rules.specs.Packets.{create_backed, create, on_buffer_packet, apply, target_after, pass, take_packet, tokens_after}
 use Rattle.rules.specs.State.{State, World, made, with_regs, registers_of, no_error}
-use Rattle.rules.specs.Settle.{faulted, signalled, doorbell-cleared, ended_by, written, head-written, page-written, marked, settled}
-use Rattle.rules.specs.Steps.{open_step, entry-step, packet_step, step, go, answered}
-use Rattle.rules.specs.Calls.{ending, call-run, call-record, answer-alone, call-answer}
-use Rattle.rules.specs.Listed.{placed, Named, ranges-listed, slot-listed, opening-listed, entries-listed, packet-listed, packets-listed, submission-listed, packet-layout}
+use Rattle.rules.specs.Settle.{faulted, signalled, doorbell_cleared, ended_by, written, head_written, page_written, marked, settled}
+use Rattle.rules.specs.Steps.{open_step, entry_step, packet_step, step, go, answered}
+use Rattle.rules.specs.Calls.{ending, call_run, call_record, answer_alone, call_answer}
+use Rattle.rules.specs.Listed.{placed, Named, ranges_listed, slot_listed, opening_listed, entries_listed, packet_listed, packets_listed, submission_listed, packet_layout}
 use Rattle.rules.specs.declared.Form.{Form}
 use Rattle.rules.specs.declared.Ended.TheVariants.{Idle, Waiting, Paused}
 use Rattle.settle.specs.Only.{Apart}
@@ -29,10 +29,10 @@ use Rattle.promises_of_units.specs.Called.{Call, after}
 use Rattle.promises_of_units.specs.Called.Call.{runs, records, answers}
 use Rattle.promises_of_units.specs.Asked.{Asked}
 use Rattle.promises_of_units.specs.Asked.Asked.{calls, saves, loads, moves}
-use Rattle.promises_of_units.specs.Replies.{reply-to, spending, handing}
-use Rattle.promises_of_leftovers.specs.Submissions.{run-openings, call-openings, openings, listed_there}
-use Rattle.promises_of_leftovers.specs.Matter.{replies-of, as_it_is, AgreeOnListed, SameResults, bytes-not-listed-cannot-matter}
-use Rattle.promises_of_leftovers.specs.AskedOver.{asked-openings, SameResultsAsked, whatever-is-asked-bytes-not-listed-cannot-matter}
+use Rattle.promises_of_units.specs.Replies.{reply_to, spending, handing}
+use Rattle.promises_of_leftovers.specs.Submissions.{run_openings, call_openings, openings, listed_there}
+use Rattle.promises_of_leftovers.specs.Matter.{replies_of, as_it_is, AgreeOnListed, SameResults, bytes-not-listed-cannot-matter}
+use Rattle.promises_of_leftovers.specs.AskedOver.{asked_openings, SameResultsAsked, whatever-is-asked-bytes-not-listed-cannot-matter}
 use Rattle.promises_of_leftovers.specs.Beyond.{headed, listed_at_first}
 use Rattle.promises_of_leftovers.specs.Touch.{Untouched, TouchNoListed, AgreeInFirst}
 
@@ -51,23 +51,23 @@ unfoldable pub ring_words : ℕ → List ℕ
 ring_words x = ring_magic ∷ version ∷ 224 ∷ 2 ∷ 80 ∷ x ∷ 0 ∷ 2 ∷ times 8 x
 
 -- a slot: stream and table, if there are such, and its fence
-unfoldable pub slot-words : ℕ → ℕ → ℕ → ℕ → ℕ → ℕ → List ℕ
-slot-words x cmd cmdsize table tablesize fence =
+unfoldable pub slot_words : ℕ → ℕ → ℕ → ℕ → ℕ → ℕ → List ℕ
+slot_words x cmd cmdsize table tablesize fence =
     64 ∷ 0 ∷ x ∷ x ∷ cmd ∷ 0 ∷ cmdsize ∷ x ∷ table ∷ 0 ∷ tablesize ∷ x ∷ fence ∷ 0 ∷ times 6 x
 
 -- at 224, a table of one entry with stride 40, and 8 bytes behind its header size
-unfoldable pub table-words : ℕ → List ℕ
-table-words x = table_magic ∷ version ∷ 64 ∷ 1 ∷ 40 ∷ x ∷ 5 ∷ 0 ∷ 64 ∷ 0 ∷ 128 ∷ 0 ∷ x ∷ x ∷ x ∷ x ∷ x ∷ x ∷ []
+unfoldable pub table_words : ℕ → List ℕ
+table_words x = table_magic ∷ version ∷ 64 ∷ 1 ∷ 40 ∷ x ∷ 5 ∷ 0 ∷ 64 ∷ 0 ∷ 128 ∷ 0 ∷ x ∷ x ∷ x ∷ x ∷ x ∷ x ∷ []
 
 -- at 296, a stream of 84 bytes in a range of 92: an unknown packet with 8 bytes of payload, and create buffer with a field appended
-unfoldable pub stream-words : ℕ → List ℕ
-stream-words x =
+unfoldable pub stream_words : ℕ → List ℕ
+stream_words x =
     stream_magic ∷ version ∷ 84 ∷ x ∷ x ∷ x ∷ 9999 ∷ 16 ∷ x ∷ x ∷ create_buffer ∷ 44 ∷ 1 ∷ x ∷ 32 ∷ 0 ∷ 5 ∷ 16 ∷ x ∷ x ∷ x ∷ x ∷ x ∷ []
 
 -- and from 388 on nothing that is named: the fence page is at 400
 unfoldable pub desk : ℕ → List ℕ
 desk x =
-    in_bytes (ring_words x ++ (slot-words x 296 92 224 72 7 ++ (slot-words x 0 0 0 0 8 ++ (table-words x ++ (stream-words x ++ times 7 x)))))
+    in_bytes (ring_words x ++ (slot_words x 296 92 224 72 7 ++ (slot_words x 0 0 0 0 8 ++ (table_words x ++ (stream_words x ++ times 7 x)))))
 
 unfoldable pub rung : State
 rung = with_regs (registers_of 0 224 true 400 0 false false 0 no_error true) (made 416)
@@ -101,30 +101,30 @@ unfolding agrees Every
 agrees-true m m' [] h = omega arith
 agrees-true m m' (f ∷ fs) h = (same-bytes-true _ _ (both_left _ _ h), agrees-true m m' fs (both_right (same_bytes (take f.width (drop f.at m)) _) _ h))
 
-unfoldable pub agrees-each : List ℕ → List ℕ → List World → Bool
-agrees-each m m' [] = true
-agrees-each m m' (v ∷ vs) = agrees m m' (listed_there v) && agrees-each m m' vs
+unfoldable pub agrees_each : List ℕ → List ℕ → List World → Bool
+agrees_each m m' [] = true
+agrees_each m m' (v ∷ vs) = agrees m m' (listed_there v) && agrees_each m m' vs
 
-agrees-each-true : (m m' : List ℕ) (vs : List World) → agrees-each m m' vs ≡ true → Every (λ (v : World). AgreeOn m m' (listed_there v)) vs
-unfolding agrees-each Every
+agrees-each-true : (m m' : List ℕ) (vs : List World) → agrees_each m m' vs ≡ true → Every (λ (v : World). AgreeOn m m' (listed_there v)) vs
+unfolding agrees_each Every
 agrees-each-true m m' [] h = omega arith
 agrees-each-true m m' (v ∷ vs) h = (agrees-true m m' (listed_there v) (both_left _ _ h), agrees-each-true m m' vs (both_right (agrees m m' (listed_there v)) _ h))
 
 -- ---- the night over two desks
 
 -- what is told of it, whatever the number: a record and a resource among it
-pub told-of-any : (x : ℕ) → replies-of as_it_is night (lent rung (desk x))
+pub told-of-any : (x : ℕ) → replies_of as_it_is night (lent rung (desk x))
     ≡ spending 0 2 Paused ∷ spending 0 2 Waiting ∷ handing 0 (record { kind = 1; handle = 1; id = 5; gpa = 80; length = 32 }) ∷ spending 0 1 Waiting ∷ spending 0 1 Idle ∷ []
-unfolding in_bytes times ring_words slot-words table-words stream-words desk rung night replies-of reply-to le bytes_of over nth lookup ring-header descriptor table-header entry stream-header buffer-fields page-bytes wrong-header header-rules entry-rules take-entry known stream-rules least_size frame-rules frame-of packet-of descriptor-rules range-rules submission-rules submission-opening power-of-two good-header good-ring ring-opening opening_of create-backed create on-buffer-packet apply target-after pass take-packet tokens-after faulted signalled doorbell-cleared ended_by written head-written page-written marked settled open_step entry-step packet_step step go runFor answered ending call-run call-record answer-alone call-answer after
+unfolding in_bytes times ring_words slot_words table_words stream_words desk rung night replies_of reply_to le bytes_of over nth lookup ring_header descriptor table_header entry stream_header buffer_fields page_bytes wrong_header header_rules entry_rules take_entry known stream_rules least_size frame_rules frame_of packet_of descriptor_rules range_rules submission_rules submission_opening power_of_two good_header good_ring ring_opening opening_of create_backed create on_buffer_packet apply target_after pass take_packet tokens_after faulted signalled doorbell_cleared ended_by written head_written page_written marked settled open_step entry_step packet_step step go run_while answered ending call_run call_record answer_alone call_answer after
 told-of-any x = refl
 
-listed-agrees : (x y : ℕ) → agrees-each (desk x) (desk y) (openings night (lent rung (desk x))) ≡ true
-unfolding in_bytes times ring_words slot-words table-words stream-words desk rung night same_bytes agrees agrees-each openings call-openings run-openings placed packet-layout ranges-listed slot-listed opening-listed entries-listed packet-listed packets-listed submission-listed le bytes_of over nth lookup ring-header descriptor table-header entry stream-header buffer-fields page-bytes wrong-header header-rules entry-rules take-entry known stream-rules least_size frame-rules frame-of packet-of descriptor-rules range-rules submission-rules submission-opening power-of-two good-header good-ring ring-opening opening_of create-backed create on-buffer-packet apply target-after pass take-packet tokens-after faulted signalled doorbell-cleared ended_by written head-written page-written marked settled open_step entry-step packet_step step go runFor answered ending call-run call-record answer-alone call-answer after
+listed-agrees : (x y : ℕ) → agrees_each (desk x) (desk y) (openings night (lent rung (desk x))) ≡ true
+unfolding in_bytes times ring_words slot_words table_words stream_words desk rung night same_bytes agrees agrees_each openings call_openings run_openings placed packet_layout ranges_listed slot_listed opening_listed entries_listed packet_listed packets_listed submission_listed le bytes_of over nth lookup ring_header descriptor table_header entry stream_header buffer_fields page_bytes wrong_header header_rules entry_rules take_entry known stream_rules least_size frame_rules frame_of packet_of descriptor_rules range_rules submission_rules submission_opening power_of_two good_header good_ring ring_opening opening_of create_backed create on_buffer_packet apply target_after pass take_packet tokens_after faulted signalled doorbell_cleared ended_by written head_written page_written marked settled open_step entry_step packet_step step go run_while answered ending call_run call_record answer_alone call_answer after
 listed-agrees x y = refl
 
 -- the two agree on all that is listed
 pub desks-agree : (x y : ℕ) → AgreeOnListed night rung (desk x) (desk y)
-unfolding in_bytes times ring_words slot-words table-words stream-words desk rung night bytes_of Every
+unfolding in_bytes times ring_words slot_words table_words stream_words desk rung night bytes_of Every
 desks-agree x y =
     record {
       as_long = refl;
@@ -136,8 +136,8 @@ pub desks-are-told-alike : (x y : ℕ) → SameResults night rung (desk x) (desk
 desks-are-told-alike x y = bytes-not-listed-cannot-matter night rung (desk x) (desk y) (desks-agree x y)
 
 -- and with a save and a move between its calls, of any form, buffers and file, and at its end a load of any file
-unfoldable pub asked-night : Form → List ℕ → List ℕ → List Asked
-asked-night f buffer b =
+unfoldable pub asked_night : Form → List ℕ → List ℕ → List Asked
+asked_night f buffer b =
     calls (runs 2) []
     ∷ saves f buffer
     ∷ calls (runs 9) []
@@ -148,10 +148,10 @@ asked-night f buffer b =
     ∷ loads b
     ∷ []
 
-pub desks-are-told-alike-whatever-is-asked : (f : Form) (buffer b : List ℕ) (x y : ℕ) → SameResultsAsked (asked-night f buffer b) rung (desk x) (desk y)
-unfolding night asked-night openings asked-openings
+pub desks-are-told-alike-whatever-is-asked : (f : Form) (buffer b : List ℕ) (x y : ℕ) → SameResultsAsked (asked_night f buffer b) rung (desk x) (desk y)
+unfolding night asked_night openings asked_openings
 desks-are-told-alike-whatever-is-asked f buffer b x y =
-    whatever-is-asked-bytes-not-listed-cannot-matter (asked-night f buffer b) rung (desk x) (desk y)
+    whatever-is-asked-bytes-not-listed-cannot-matter (asked_night f buffer b) rung (desk x) (desk y)
     (record { as_long = (desks-agree x y).as_long; in_work = (desks-agree x y).in_work; opened = (desks-agree x y).opened })
 
 -- and yet they differ, in a byte of each kind: the ring header's gaps (20, 32), a slot's gaps (72, 92, 108, 120) and what its stride leaves (128, 208), the table header's gap
@@ -161,13 +161,13 @@ abbrev pub spare : List ℕ
 spare = 20 ∷ 32 ∷ 72 ∷ 92 ∷ 108 ∷ 120 ∷ 128 ∷ 208 ∷ 244 ∷ 272 ∷ 280 ∷ 288 ∷ 308 ∷ 328 ∷ 348 ∷ 368 ∷ 376 ∷ 380 ∷ 388 ∷ 400 ∷ []
 
 pub desks-differ : (x y : ℕ) → Every (λ (i : ℕ). (get_or (desk x) i 0 ≡ x % 256) × (get_or (desk y) i 0 ≡ y % 256)) spare
-unfolding in_bytes times ring_words slot-words table-words stream-words desk rung night bytes_of Every
+unfolding in_bytes times ring_words slot_words table_words stream_words desk rung night bytes_of Every
 desks-differ x y = ((refl, refl), ((refl, refl), ((refl, refl), ((refl, refl), ((refl, refl), ((refl, refl), ((refl, refl), ((refl, refl), ((refl, refl), ((refl, refl), ((refl, refl), ((refl, refl), ((refl, refl), ((refl, refl), ((refl, refl), ((refl, refl), ((refl, refl), ((refl, refl), ((refl, refl), ((refl, refl), omega arith))))))))))))))))))))
 
 -- ---- and beyond its settlings: no listed byte but the head's own lies in the head or in the page, and they agree on what is listed in the desk as it was first lent
 
-unfoldable pub is-untouched : ℕ → ℕ → Named → Bool
-is-untouched ring page f =
+unfoldable pub is_untouched : ℕ → ℕ → Named → Bool
+is_untouched ring page f =
     (eqb f.at (ring + head_offset) && eqb f.width 4)
     || ((leb (f.at + f.width) (ring + head_offset) || leb (ring + head_offset + 4) f.at) && (leb (f.at + f.width) page || leb (page + 16) f.at))
 
@@ -178,8 +178,8 @@ apart i n at k h = by_test (leb (i + n) at) refl h
     by_test true e h = inl (leb-true (i + n) at e)
     by_test false e h = inr (leb-true (at + k) i h)
 
-untouched-true : (ring page : ℕ) (f : Named) → is-untouched ring page f ≡ true → Untouched ring page f
-unfolding is-untouched
+untouched-true : (ring page : ℕ) (f : Named) → is_untouched ring page f ≡ true → Untouched ring page f
+unfolding is_untouched
 untouched-true ring page f h = by_test (eqb f.at (ring + head_offset) && eqb f.width 4) refl h
   where
     by_test : (t : Bool) → eqb f.at (ring + head_offset) && eqb f.width 4 ≡ t
@@ -190,35 +190,35 @@ untouched-true ring page f h = by_test (eqb f.at (ring + head_offset) && eqb f.w
         inl (ap {B = Named} (λ (i : ℕ). record { at = i; width = f.width }) a ∙ ap {B = Named} (λ (n : ℕ). record { at = ring + head_offset; width = n }) w)
     by_test false e h = inr (apart f.at f.width (ring + head_offset) 4 (both_left _ _ h), inr (apart f.at f.width page 16 (both_right (leb (f.at + f.width) (ring + head_offset) || leb (ring + head_offset + 4) f.at) _ h)))
 
-unfoldable pub all-untouched : ℕ → ℕ → List Named → Bool
-all-untouched ring page [] = true
-all-untouched ring page (f ∷ fs) = is-untouched ring page f && all-untouched ring page fs
+unfoldable pub all_untouched : ℕ → ℕ → List Named → Bool
+all_untouched ring page [] = true
+all_untouched ring page (f ∷ fs) = is_untouched ring page f && all_untouched ring page fs
 
-all-untouched-true : (ring page : ℕ) (fs : List Named) → all-untouched ring page fs ≡ true → Every (Untouched ring page) fs
-unfolding all-untouched Every
+all-untouched-true : (ring page : ℕ) (fs : List Named) → all_untouched ring page fs ≡ true → Every (Untouched ring page) fs
+unfolding all_untouched Every
 all-untouched-true ring page [] h = omega arith
-all-untouched-true ring page (f ∷ fs) h = (untouched-true ring page f (both_left _ _ h), all-untouched-true ring page fs (both_right (is-untouched ring page f) _ h))
+all-untouched-true ring page (f ∷ fs) h = (untouched-true ring page f (both_left _ _ h), all-untouched-true ring page fs (both_right (is_untouched ring page f) _ h))
 
-unfoldable pub first-each : (List Named → Bool) → List ℕ → List World → Bool
-first-each test m [] = true
-first-each test m (v ∷ vs) = test (listed_at_first m v) && first-each test m vs
+unfoldable pub first_each : (List Named → Bool) → List ℕ → List World → Bool
+first_each test m [] = true
+first_each test m (v ∷ vs) = test (listed_at_first m v) && first_each test m vs
 
-first-each-true : (test : List Named → Bool) (P : List Named → Type 0) → ((fs : List Named) → test fs ≡ true → P fs) → (m : List ℕ) (vs : List World) → first-each test m vs ≡ true
+first-each-true : (test : List Named → Bool) (P : List Named → Type 0) → ((fs : List Named) → test fs ≡ true → P fs) → (m : List ℕ) (vs : List World) → first_each test m vs ≡ true
     → Every (λ (v : World). P (listed_at_first m v)) vs
-unfolding first-each Every
+unfolding first_each Every
 first-each-true test P sound m [] h = omega arith
 first-each-true test P sound m (v ∷ vs) h = (sound (listed_at_first m v) (both_left _ _ h), first-each-true test P sound m vs (both_right (test (listed_at_first m v)) _ h))
 
-first-agrees : (x y : ℕ) → first-each (agrees (desk x) (desk y)) (desk x) (openings night (lent rung (desk x))) ≡ true
-unfolding in_bytes times ring_words slot-words table-words stream-words desk rung night headed same_bytes agrees first-each openings call-openings run-openings placed packet-layout ranges-listed slot-listed opening-listed entries-listed packet-listed packets-listed submission-listed le bytes_of over nth lookup ring-header descriptor table-header entry stream-header buffer-fields page-bytes wrong-header header-rules entry-rules take-entry known stream-rules least_size frame-rules frame-of packet-of descriptor-rules range-rules submission-rules submission-opening power-of-two good-header good-ring ring-opening opening_of create-backed create on-buffer-packet apply target-after pass take-packet tokens-after faulted signalled doorbell-cleared ended_by written head-written page-written marked settled open_step entry-step packet_step step go runFor answered ending call-run call-record answer-alone call-answer after
+first-agrees : (x y : ℕ) → first_each (agrees (desk x) (desk y)) (desk x) (openings night (lent rung (desk x))) ≡ true
+unfolding in_bytes times ring_words slot_words table_words stream_words desk rung night headed same_bytes agrees first_each openings call_openings run_openings placed packet_layout ranges_listed slot_listed opening_listed entries_listed packet_listed packets_listed submission_listed le bytes_of over nth lookup ring_header descriptor table_header entry stream_header buffer_fields page_bytes wrong_header header_rules entry_rules take_entry known stream_rules least_size frame_rules frame_of packet_of descriptor_rules range_rules submission_rules submission_opening power_of_two good_header good_ring ring_opening opening_of create_backed create on_buffer_packet apply target_after pass take_packet tokens_after faulted signalled doorbell_cleared ended_by written head_written page_written marked settled open_step entry_step packet_step step go run_while answered ending call_run call_record answer_alone call_answer after
 first-agrees x y = refl
 
-first-untouched : (x : ℕ) → first-each (all-untouched 0 400) (desk x) (openings night (lent rung (desk x))) ≡ true
-unfolding in_bytes times ring_words slot-words table-words stream-words desk rung night headed is-untouched all-untouched first-each openings call-openings run-openings placed packet-layout ranges-listed slot-listed opening-listed entries-listed packet-listed packets-listed submission-listed le bytes_of over nth lookup ring-header descriptor table-header entry stream-header buffer-fields page-bytes wrong-header header-rules entry-rules take-entry known stream-rules least_size frame-rules frame-of packet-of descriptor-rules range-rules submission-rules submission-opening power-of-two good-header good-ring ring-opening opening_of create-backed create on-buffer-packet apply target-after pass take-packet tokens-after faulted signalled doorbell-cleared ended_by written head-written page-written marked settled open_step entry-step packet_step step go runFor answered ending call-run call-record answer-alone call-answer after
+first-untouched : (x : ℕ) → first_each (all_untouched 0 400) (desk x) (openings night (lent rung (desk x))) ≡ true
+unfolding in_bytes times ring_words slot_words table_words stream_words desk rung night headed is_untouched all_untouched first_each openings call_openings run_openings placed packet_layout ranges_listed slot_listed opening_listed entries_listed packet_listed packets_listed submission_listed le bytes_of over nth lookup ring_header descriptor table_header entry stream_header buffer_fields page_bytes wrong_header header_rules entry_rules take_entry known stream_rules least_size frame_rules frame_of packet_of descriptor_rules range_rules submission_rules submission_opening power_of_two good_header good_ring ring_opening opening_of create_backed create on_buffer_packet apply target_after pass take_packet tokens_after faulted signalled doorbell_cleared ended_by written head_written page_written marked settled open_step entry_step packet_step step go run_while answered ending call_run call_record answer_alone call_answer after
 first-untouched x = refl
 
 pub desks-agree-at-first : (x y : ℕ) → AgreeInFirst night rung (desk x) (desk y)
-unfolding in_bytes times ring_words slot-words table-words stream-words desk rung night bytes_of Every
+unfolding in_bytes times ring_words slot_words table_words stream_words desk rung night bytes_of Every
 desks-agree-at-first x y =
     record {
       as_long = refl;
@@ -232,5 +232,5 @@ the-night-touches-no-listed-byte x =
     record {
       places = (omega arith, (omega arith, (omega arith, (omega arith, (omega arith, omega arith)))));
       on-ring = omega arith;
-      untouched = first-each-true (all-untouched 0 400) (Every (Untouched 0 400)) (all-untouched-true 0 400) (desk x) (openings night (lent rung (desk x))) (first-untouched x);
+      untouched = first-each-true (all_untouched 0 400) (Every (Untouched 0 400)) (all-untouched-true 0 400) (desk x) (openings night (lent rung (desk x))) (first-untouched x);
     }

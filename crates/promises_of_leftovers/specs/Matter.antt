@@ -6,25 +6,25 @@ use Rattle.promises_of_packets.specs.Held.{Every}
 use Rattle.promises_of_submissions.specs.Reads.{AgreeOn, SameIn}
 use Rattle.promises_of_submissions.specs.LocalWrites.{AgreeAt}
 use Rattle.promises_of_submissions.specs.Locality.{lent}
-use Rattle.promises_of_units.specs.Called.{Call, after, after-all}
+use Rattle.promises_of_units.specs.Called.{Call, after, after_all}
 use Rattle.promises_of_units.specs.Called.Call.{writes, reads, runs, records, answers}
-use Rattle.promises_of_units.specs.Replies.{Reply, reply-to}
+use Rattle.promises_of_units.specs.Replies.{Reply, reply_to}
 use Rattle.promises_of_leftovers.specs.Opening.{front_of, back-of}
 use Rattle.promises_of_leftovers.specs.Unit.{SameStill}
-use Rattle.promises_of_leftovers.specs.Course.{call-units-listed, calls-units-listed, Alike, Still, SameReport, after-still, run-call-alike, answer-call-alike, call-leads-alike, calls-lead-alike}
+use Rattle.promises_of_leftovers.specs.Course.{call_units_listed, calls_units_listed, Alike, Still, SameReport, after-still, run-call-alike, answer-call-alike, call-leads-alike, calls-lead-alike}
 use Rattle.promises_of_leftovers.specs.Submissions.{openings, listed_there, listed_in_work, listed-covers}
 
 -- ---- what calls reply, one after the other
 
 -- as some host is told it
-unfoldable pub replies-of : {X : Type 0} → (Call → Reply → X) → List Call → World → List X
-replies-of say [] w = []
-replies-of say (c ∷ cs) w = say c (reply-to c w) ∷ replies-of say cs (after c w)
+unfoldable pub replies_of : {X : Type 0} → (Call → Reply → X) → List Call → World → List X
+replies_of say [] w = []
+replies_of say (c ∷ cs) w = say c (reply_to c w) ∷ replies_of say cs (after c w)
 
 module _ (x x' : World) (e : x.state ≡ x'.state) (len : length x.mem ≡ length x'.mem) where
   -- "records, errors, .. units": a read shows what the state has, a record call hands out what it has, a run reports alike
-  pub reply-alike : (c : Call) → Alike x x' (call-units-listed c x) → reply-to c x ≡ reply-to c x'
-  unfolding reply-to
+  pub reply-alike : (c : Call) → Alike x x' (call_units_listed c x) → reply_to c x ≡ reply_to c x'
+  unfolding reply_to
   reply-alike (writes offset v) s = rw e
   reply-alike (reads offset) s = rw e
   reply-alike (runs n) s = let r : SameReport x x' _ _ = run-call-alike x x' e len n s in rw (r.answer, r.units, r.ended)
@@ -32,16 +32,16 @@ module _ (x x' : World) (e : x.state ≡ x'.state) (len : length x.mem ≡ lengt
   reply-alike (answers good n) s = let r : SameReport x x' _ _ = answer-call-alike x x' e len good n s in rw (r.answer, r.units, r.ended)
 
 pub replies-alike : {X : Type 0} (say : Call → Reply → X) (cs : List Call) (x x' : World) → x.state ≡ x'.state → length x.mem ≡ length x'.mem
-    → Alike x x' (calls-units-listed cs x) → replies-of say cs x ≡ replies-of say cs x'
-unfolding replies-of calls-units-listed
+    → Alike x x' (calls_units_listed cs x) → replies_of say cs x ≡ replies_of say cs x'
+unfolding replies_of calls_units_listed
 replies-alike say [] x x' e len same = refl
 replies-alike say (c ∷ cs) x x' e len same =
-    let here : Alike x x' (call-units-listed c x) = front_of x.mem x'.mem _ _ same in
+    let here : Alike x x' (call_units_listed c x) = front_of x.mem x'.mem _ _ same in
     let one : Still x x' (after c x) (after c x') = call-leads-alike x x' e len c here in
     rw (reply-alike x x' e len c here)
-    (ap (λ l. say c (reply-to c x') ∷ l)
+    (ap (λ l. say c (reply_to c x') ∷ l)
     (replies-alike say cs (after c x) (after c x') one.state one.long
-    (after-still x x' (after c x) (after c x') one (calls-units-listed cs (after c x)) (back-of x.mem x'.mem (call-units-listed c x) _ same))))
+    (after-still x x' (after c x) (after c x') one (calls_units_listed cs (after c x)) (back-of x.mem x'.mem (call_units_listed c x) _ same))))
 
 -- ---- the theorem
 
@@ -51,9 +51,9 @@ as_it_is c r = r
 -- two courses of the same calls: every call replies the same (answer, units, how it ended, the register's value, the record); and in the end the devices have the same
 -- registers, errors with their places, resources, names, tokens, and work with its records. A byte of memory that differs after them differed before.
 pub record SameResults (cs : List Call) (s : State) (m m' : List ℕ) : Type 0 where
-  pub replies : replies-of as_it_is cs (lent s m) ≡ replies-of as_it_is cs (lent s m')
-  pub state : (after-all cs (lent s m)).state ≡ (after-all cs (lent s m')).state
-  pub bytes : (i : ℕ) → AgreeAt i m m' → AgreeAt i (after-all cs (lent s m)).mem (after-all cs (lent s m')).mem
+  pub replies : replies_of as_it_is cs (lent s m) ≡ replies_of as_it_is cs (lent s m')
+  pub state : (after_all cs (lent s m)).state ≡ (after_all cs (lent s m')).state
+  pub bytes : (i : ℕ) → AgreeAt i m m' → AgreeAt i (after_all cs (lent s m)).mem (after_all cs (lent s m')).mem
 
 -- the two memories agree on what is listed: of the submission in work, what is still to be read; and of each submission that the calls open, as memory is when it is
 -- opened, all of it
@@ -67,6 +67,6 @@ pub record AgreeOnListed (cs : List Call) (s : State) (m m' : List ℕ) : Type 0
 -- register writes too.
 pub bytes-not-listed-cannot-matter : (cs : List Call) (s : State) (m m' : List ℕ) → AgreeOnListed cs s m m' → SameResults cs s m m'
 bytes-not-listed-cannot-matter cs s m m' same =
-    let units : AgreeOn m m' (calls-units-listed cs (lent s m)) = listed-covers (SameIn m m') cs (lent s m) same.in_work same.opened in
-    let end : SameStill m m' (after-all cs (lent s m)) (after-all cs (lent s m')) = calls-lead-alike cs (lent s m) (lent s m') refl same.as_long units in
+    let units : AgreeOn m m' (calls_units_listed cs (lent s m)) = listed-covers (SameIn m m') cs (lent s m) same.in_work same.opened in
+    let end : SameStill m m' (after_all cs (lent s m)) (after_all cs (lent s m')) = calls-lead-alike cs (lent s m) (lent s m') refl same.as_long units in
     record { replies = replies-alike as_it_is cs (lent s m) (lent s m') refl same.as_long units; state = end.state; bytes = end.still }

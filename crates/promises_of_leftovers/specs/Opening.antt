@@ -4,9 +4,9 @@ use Rattle.std.proofs.Math.Bool.{not}
 use borrow.Author.Tests.{le-leb, ne_eqb}
 use Rattle.std.proofs.Math.Dec.{leb}
 use Rattle.rules.specs.Judging.{◌▹◌}
-use Rattle.rules.specs.Layouts.{ring-header, ring_header_size, descriptor, table_header_size, stream_header_size, descriptor_layout}
-use Rattle.rules.specs.Ring.{descriptor-rules, range-rules, good-ring, slot_place, opening_of}
-use Rattle.rules.specs.Listed.{placed, Named, where_true, where_fine, ranges-listed, slot-listed, opening-listed, table_fine}
+use Rattle.rules.specs.Layouts.{ring_header, ring_header_size, descriptor, table_header_size, stream_header_size, descriptor_layout}
+use Rattle.rules.specs.Ring.{descriptor_rules, range_rules, good_ring, slot_place, opening_of}
+use Rattle.rules.specs.Listed.{placed, Named, where_true, where_fine, ranges_listed, slot_listed, opening_listed, table_fine}
 use Rattle.rules.specs.declared.Descriptor.{Descriptor}
 use Rattle.rules.specs.declared.Verdict.{Verdict}
 use Rattle.rules.specs.declared.Verdict.TheVariants.{Fine}
@@ -28,8 +28,8 @@ module _ (m m' : List ℕ) where
   pub back-of : (xs ys : List Named) → AgreeOn m m' (xs ++ ys) → AgreeOn m m' ys
   back-of = every_back (SameIn m m')
 
-  ranges-read : (d : Descriptor) → AgreeOn m m' (ranges-listed m d) → RangesRead m m' d
-  unfolding ranges-listed
+  ranges-read : (d : Descriptor) → AgreeOn m m' (ranges_listed m d) → RangesRead m m' d
+  unfolding ranges_listed
   ranges-read d s =
       record {
         table = λ h. named-table-header m m' d.table (on-true (leb table_header_size d.tablesize) _ (le-leb _ _ h) (front_of _ _ s));
@@ -38,28 +38,28 @@ module _ (m m' : List ℕ) where
             (on-true (leb stream_header_size d.cmdsize) _ (le-leb _ _ h) (on_fine (table_fine m d) _ f (back-of (where_true (leb table_header_size d.tablesize) _) _ s)));
       }
 
-  slot_read : (at stride : ℕ) → AgreeOn m m' (slot-listed m at stride) → SlotRead m m' at stride
-  unfolding slot-listed
+  slot_read : (at stride : ℕ) → AgreeOn m m' (slot_listed m at stride) → SlotRead m m' at stride
+  unfolding slot_listed
   slot_read at stride s =
       record {
         slot = named-descriptor m m' at (front_of _ _ s);
         ranges = λ f g.
             ranges-read (descriptor m at)
-            (on_fine (descriptor-rules stride (descriptor m at) ▹ range-rules (length m) (descriptor m at)) _ (rw (f, g)) (back-of (placed at descriptor_layout) _ s));
+            (on_fine (descriptor_rules stride (descriptor m at) ▹ range_rules (length m) (descriptor m at)) _ (rw (f, g)) (back-of (placed at descriptor_layout) _ s));
       }
 
-  module _ (ring size : ℕ) (s : AgreeOn m m' (opening-listed m ring size)) where
+  module _ (ring size : ℕ) (s : AgreeOn m m' (opening_listed m ring size)) where
     pub opening-read : OpeningRead m m' ring size
-    unfolding opening-listed
+    unfolding opening_listed
     opening-read =
         record {
           header = λ h k.
               named-ring-header m m' ring
               (on-true (leb ring_header_size size && leb (ring + size) (length m)) _ (rw (le-leb ring_header_size size h, le-leb (ring + size) (length m) k)) (front_of _ _ s));
           pending = λ good some.
-              slot_read (slot_place ring (ring-header m ring)) (ring-header m ring).stride
-              (on-true (good-ring m ring size && not (eqb (ring-header m ring).head (ring-header m ring).tail)) _
-              (rw (good, ne_eqb (ring-header m ring).head (ring-header m ring).tail some))
+              slot_read (slot_place ring (ring_header m ring)) (ring_header m ring).stride
+              (on-true (good_ring m ring size && not (eqb (ring_header m ring).head (ring_header m ring).tail)) _
+              (rw (good, ne_eqb (ring_header m ring).head (ring_header m ring).tail some))
               (back-of (where_true (leb ring_header_size size && leb (ring + size) (length m)) _) _ s));
         }
 

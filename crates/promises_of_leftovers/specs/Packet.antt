@@ -10,9 +10,9 @@ use Rattle.std.proofs.Math.Dec.{ltb}
 use Rattle.std.proofs.Math.ListN.{length}
 use Rattle.rules.specs.Fields.{Field, width_of}
 use Rattle.rules.specs.Layouts.{packet_header_size, packet_header_layout}
-use Rattle.rules.specs.Stream.{least_size, frame-rules, frame-of, left}
-use Rattle.rules.specs.Packets.{Progress, pass, take-packet}
-use Rattle.rules.specs.Listed.{placed, where_true, frame_listed, packet-listed, packet-layout}
+use Rattle.rules.specs.Stream.{least_size, frame_rules, frame_of, left}
+use Rattle.rules.specs.Packets.{Progress, pass, take_packet}
+use Rattle.rules.specs.Listed.{placed, where_true, frame_listed, packet_listed, packet_layout}
 use Rattle.rules.specs.declared.Entry.{Entry}
 use Rattle.rules.specs.declared.Stream.{Stream}
 use Rattle.rules.specs.declared.Packet.{Packet}
@@ -55,21 +55,21 @@ module _ (s : Stream) (at : ℕ) where
 -- ---- some bytes, whatever they are a part of
 
 module _ (b b' : List ℕ) (len : length b ≡ length b') (header : packet_header_size ≤ length b → AgreeOn b b' (placed 0 packet_header_layout)) where
-  named-frame : frame-of b ≡ frame-of b'
-  unfolding frame-of frame-rules Every placed
+  named-frame : frame_of b ≡ frame_of b'
+  unfolding frame_of frame_rules Every placed
   named-frame = by_test (ltb (length b') packet_header_size) refl
     where
-      by_test : (t : Bool) → ltb (length b') packet_header_size ≡ t → frame-of b ≡ frame-of b'
+      by_test : (t : Bool) → ltb (length b') packet_header_size ≡ t → frame_of b ≡ frame_of b'
       by_test true t = rw (len, t)
       by_test false t =
           let s : AgreeOn b b' (placed 0 packet_header_layout) = header (rw len (ltb-false (length b') packet_header_size t)) in
           rw (len, s.0, s.1.0)
 
-  named-taken : (es : List Entry) (h : Progress) → ((op size : ℕ) → frame-of b ≡ Whole op size → AgreeOn b b' (placed 0 (packet-layout op))) → take-packet es h b ≡ take-packet es h b'
-  unfolding take-packet
-  named-taken es h same = by_frame (frame-of b) refl
+  named-taken : (es : List Entry) (h : Progress) → ((op size : ℕ) → frame_of b ≡ Whole op size → AgreeOn b b' (placed 0 (packet_layout op))) → take_packet es h b ≡ take_packet es h b'
+  unfolding take_packet
+  named-taken es h same = by_frame (frame_of b) refl
     where
-      by_frame : (f : Frame) → frame-of b ≡ f → take-packet es h b ≡ take-packet es h b'
+      by_frame : (f : Frame) → frame_of b ≡ f → take_packet es h b ≡ take_packet es h b'
       by_frame (Whole op size) e =
           framed-is-read b es h op size e
           ∙ (ap (λ (p : Packet). pass es h p) (named-packet op b b' (same op size e)) ∙ sym (framed-is-read b' es h op size (sym named-frame ∙ e)))
@@ -77,22 +77,22 @@ module _ (b b' : List ℕ) (len : length b ≡ length b') (header : packet_heade
 
 -- ---- the packet at a place
 
-module _ (s : Stream) (at : ℕ) (m m' : List ℕ) (len : length m ≡ length m') (same : AgreeOn m m' (packet-listed m s at)) where
+module _ (s : Stream) (at : ℕ) (m m' : List ℕ) (len : length m ≡ length m') (same : AgreeOn m m' (packet_listed m s at)) where
   header-same : packet_header_size ≤ length (left m s at) → AgreeOn (left m s at) (left m' s at) (placed 0 packet_header_layout)
-  unfolding packet-listed Every
+  unfolding packet_listed Every
   header-same h =
       left-same s at m m' len packet_header_layout (omega arith, (omega arith, omega arith))
       (rw (le-leb packet_header_size (length (left m s at)) h) at (front_of m m' (where_true (leb packet_header_size (length (left m s at))) (placed (s.gpa + at) packet_header_layout)) _ same))
 
-  fields-same : (op size : ℕ) → frame-of (left m s at) ≡ Whole op size → AgreeOn (left m s at) (left m' s at) (placed 0 (packet-layout op))
-  unfolding packet-listed
+  fields-same : (op size : ℕ) → frame_of (left m s at) ≡ Whole op size → AgreeOn (left m s at) (left m' s at) (placed 0 (packet_layout op))
+  unfolding packet_listed
   fields-same op size e =
       let fits : FrameFits (left m s at) op size = frame-sound (left m s at) op size e in
-      left-same s at m m' len (packet-layout op) (in-more (least_size op) (length (left m s at)) (packet-layout op) (omega (arith, fits.known, fits.inside)) (named-inside op))
-      (rw e at (back-of m m' (where_true (leb packet_header_size (length (left m s at))) (placed (s.gpa + at) packet_header_layout)) (frame_listed (frame-of (left m s at)) (s.gpa + at)) same))
+      left-same s at m m' len (packet_layout op) (in-more (least_size op) (length (left m s at)) (packet_layout op) (omega (arith, fits.known, fits.inside)) (named-inside op))
+      (rw e at (back-of m m' (where_true (leb packet_header_size (length (left m s at))) (placed (s.gpa + at) packet_header_layout)) (frame_listed (frame_of (left m s at)) (s.gpa + at)) same))
 
-  pub listed-frame : frame-of (left m s at) ≡ frame-of (left m' s at)
+  pub listed-frame : frame_of (left m s at) ≡ frame_of (left m' s at)
   listed-frame = named-frame (left m s at) (left m' s at) (left-length s at m m' len) header-same
 
-  pub listed-taken : (es : List Entry) (h : Progress) → take-packet es h (left m s at) ≡ take-packet es h (left m' s at)
+  pub listed-taken : (es : List Entry) (h : Progress) → take_packet es h (left m s at) ≡ take_packet es h (left m' s at)
   listed-taken es h = named-taken (left m s at) (left m' s at) (left-length s at m m' len) header-same es h fields-same

@@ -10,8 +10,8 @@ use Rattle.std.proofs.Math.Dec.{leb}
 use Rattle.rules.specs.Lists.Found.{none}
 use Rattle.rules.specs.Fields.{Field}
 use Rattle.rules.specs.Layouts.{packet_header_size, stream_header_size, ring_header_layout, descriptor_layout, table_header_layout, entry_layout, stream_header_layout, packet_header_layout}
-use Rattle.rules.specs.Stream.{known, least_size, frame-of, size_of, left}
-use Rattle.rules.specs.Listed.{placed, Named, where_true, frame_listed, packet-listed, behind, packets-listed, stream_listed, packet-layout}
+use Rattle.rules.specs.Stream.{known, least_size, frame_of, size_of, left}
+use Rattle.rules.specs.Listed.{placed, Named, where_true, frame_listed, packet_listed, behind, packets_listed, stream_listed, packet_layout}
 use Rattle.rules.specs.declared.Stream.{Stream}
 use Rattle.rules.specs.declared.Frame.{Frame}
 use Rattle.rules.specs.declared.Frame.TheVariants.{Whole, Misframed}
@@ -39,16 +39,16 @@ module _ (m m' : List ℕ) (len : length m ≡ length m') where
 -- ---- what is not named
 
 -- of an unknown packet nothing but opcode and size; of a known one nothing past its table size, so no appended field
-pub payloads-are-not-named : (op : ℕ) → (known op ≡ none → packet-layout op ≡ []) × Ends (least_size op) (packet-layout op)
+pub payloads-are-not-named : (op : ℕ) → (known op ≡ none → packet_layout op ≡ []) × Ends (least_size op) (packet_layout op)
 payloads-are-not-named op = (unknown-names-nothing op, named-inside op)
 
 -- of a slot nothing past its first 56 bytes, of an entry nothing past its first 24, whatever the stride; of the headers nothing past 32, 20, 12 and 8
 pub record SpareBytes : Type 0 where
-  pub ring-header : Ends 32 ring_header_layout
+  pub ring_header : Ends 32 ring_header_layout
   pub slot : Ends 56 descriptor_layout
-  pub table-header : Ends 20 table_header_layout
+  pub table_header : Ends 20 table_header_layout
   pub entry : Ends 24 entry_layout
-  pub stream-header : Ends 12 stream_header_layout
+  pub stream_header : Ends 12 stream_header_layout
   pub packet-header : Ends 8 packet_header_layout
 
 pub strides_have_spare_bytes : SpareBytes
@@ -75,10 +75,10 @@ module _ (m : List ℕ) (s : Stream) where
   within-less at at' h [] k = k
   within-less at at' h (f ∷ fs) k = ((omega (arith, k.0.0), k.0.1), within-less at at' h fs k.1)
 
-  packet-within : (at : ℕ) → Every (Within at) (packet-listed m s at)
-  unfolding packet-listed
+  packet-within : (at : ℕ) → Every (Within at) (packet_listed m s at)
+  unfolding packet_listed
   packet-within at =
-      every-both (Within at) _ _ (by_test (leb packet_header_size (length (left m s at))) refl) (by_frame (frame-of (left m s at)) refl)
+      every-both (Within at) _ _ (by_test (leb packet_header_size (length (left m s at))) refl) (by_frame (frame_of (left m s at)) refl)
     where
       by_test : (t : Bool) → leb packet_header_size (length (left m s at)) ≡ t → Every (Within at) (where_true t (placed (s.gpa + at) packet_header_layout))
       by_test true t =
@@ -86,21 +86,21 @@ module _ (m : List ℕ) (s : Stream) where
           (omega (arith, left-inside s at m packet_header_size (omega arith) (leb-true packet_header_size (length (left m s at)) t)))
       by_test false t = every-none (Within at)
 
-      by_frame : (f : Frame) → frame-of (left m s at) ≡ f → Every (Within at) (frame_listed f (s.gpa + at))
+      by_frame : (f : Frame) → frame_of (left m s at) ≡ f → Every (Within at) (frame_listed f (s.gpa + at))
       by_frame (Whole op size) e =
           let fits : FrameFits (left m s at) op size = frame-sound (left m s at) op size e in
           let ends : at + size ≤ s.size = left-inside s at m size (omega (arith, fits.header)) fits.inside in
-          placed-between (least_size op) (s.gpa + at) (s.gpa + at) (s.gpa + s.size) (packet-layout op) (named-inside op) (omega arith) (omega (arith, fits.known))
+          placed-between (least_size op) (s.gpa + at) (s.gpa + at) (s.gpa + s.size) (packet_layout op) (named-inside op) (omega arith) (omega (arith, fits.known))
       by_frame (Misframed r) e = every-none (Within at)
 
-  packets-within : (k at : ℕ) → Every (Within at) (packets-listed k m s at)
-  unfolding packets-listed
+  packets-within : (k at : ℕ) → Every (Within at) (packets_listed k m s at)
+  unfolding packets_listed
   packets-within zero at = every-none (Within at)
   packets-within (suc k) at =
-      every-both (Within at) (packet-listed m s at) _ (packet-within at)
-      (by_frame (frame-of (left m s at)) (λ n. within-less at (at + n) (omega arith) (packets-listed k m s (at + n)) (packets-within k (at + n))))
+      every-both (Within at) (packet_listed m s at) _ (packet-within at)
+      (by_frame (frame_of (left m s at)) (λ n. within-less at (at + n) (omega arith) (packets_listed k m s (at + n)) (packets-within k (at + n))))
     where
-      by_frame : (f : Frame) → ((n : ℕ) → Every (Within at) (packets-listed k m s (at + n))) → Every (Within at) (behind f (packets-listed k m s (at + size_of f)))
+      by_frame : (f : Frame) → ((n : ℕ) → Every (Within at) (packets_listed k m s (at + n))) → Every (Within at) (behind f (packets_listed k m s (at + size_of f)))
       by_frame (Whole op size) later = later size
       by_frame (Misframed r) later = every-none (Within at)
 

@@ -13,8 +13,8 @@ use Rattle.rules.specs.State.{Work, State, World}
 use Rattle.rules.specs.State.Work.{resting, entries, packets, waiting}
 use Rattle.rules.specs.Settle.{settled}
 use Rattle.rules.specs.Steps.{step, go, run_for, answer_on, answered}
-use Rattle.rules.specs.Calls.{at_rest, Ran, call-run, call-answer}
-use Rattle.rules.specs.Listed.{Named, where_true, submission-listed, listed_at, listed}
+use Rattle.rules.specs.Calls.{at_rest, Ran, call_run, call_answer}
+use Rattle.rules.specs.Listed.{Named, where_true, submission_listed, listed_at, listed}
 use Rattle.promises_of_packets.specs.Held.{Every, every-none, every-both, every_front, every_back}
 use Rattle.promises_of_units.specs.Writes.{Written, write-keeps-or-drops}
 use Rattle.promises_of_units.specs.Writes.Written.{keeps, drops}
@@ -23,7 +23,7 @@ use Rattle.promises_of_units.specs.Units.{Unit, unit}
 use Rattle.promises_of_units.specs.Units.Unit.{works-on, finds-bad-ring, finds-no-work, settles}
 use Rattle.promises_of_units.specs.Called.{Call, after}
 use Rattle.promises_of_units.specs.Called.Call.{writes, reads, runs, records, answers}
-use Rattle.promises_of_leftovers.specs.Course.{units-listed, call-units-listed, calls-units-listed}
+use Rattle.promises_of_leftovers.specs.Course.{units_listed, call_units_listed, calls_units_listed}
 use Rattle.promises_of_leftovers.specs.Cover.{unit-of-listed, next-listed}
 
 -- ---- where calls open a submission
@@ -32,26 +32,26 @@ abbrev pub where_so : {A : Type 0} → Bool → List A → List A
 where_so t l = pick t l []
 
 -- a run, by its allowance: each world in which it makes an opening
-unfoldable pub run-openings : ℕ → World → List World
-run-openings zero w = []
-run-openings (suc n) w = where_so (go w) (where_so (at_rest w.state.work) (w ∷ []) ++ run-openings n (step w))
+unfoldable pub run_openings : ℕ → World → List World
+run_openings zero w = []
+run_openings (suc n) w = where_so (go w) (where_so (at_rest w.state.work) (w ∷ []) ++ run_openings n (step w))
 
 -- a call: one that is refused makes none
-unfoldable pub call-openings : Call → World → List World
-call-openings (writes offset v) w = []
-call-openings (reads offset) w = []
-call-openings (runs n) w = where_so (eqb (call-run w n).answer done) (run-openings n w)
-call-openings (records i) w = []
-call-openings (answers good n) w = where_so (eqb (call-answer w good n).answer done) (run-openings n (answered good w))
+unfoldable pub call_openings : Call → World → List World
+call_openings (writes offset v) w = []
+call_openings (reads offset) w = []
+call_openings (runs n) w = where_so (eqb (call_run w n).answer done) (run_openings n w)
+call_openings (records i) w = []
+call_openings (answers good n) w = where_so (eqb (call_answer w good n).answer done) (run_openings n (answered good w))
 
 -- and calls one after the other
 unfoldable pub openings : List Call → World → List World
 openings [] w = []
-openings (c ∷ cs) w = call-openings c w ++ openings cs (after c w)
+openings (c ∷ cs) w = call_openings c w ++ openings cs (after c w)
 
 -- what the submission lists that is opened in a world
 abbrev pub listed_there : World → List Named
-listed_there v = submission-listed v.mem v.state.regs.ring v.state.regs.ringsize
+listed_there v = submission_listed v.mem v.state.regs.ring v.state.regs.ringsize
 
 -- what is still to be read of the submission in work, if one is
 abbrev pub in_work : Work → List Named → List Named
@@ -93,17 +93,17 @@ module _ (P : Named → Type 0) where
   after-unit w w' (settles j f h) s = no-work w' refl
 
   pub record Covered (n : ℕ) (w : World) : Type 0 where
-    pub units : Every P (units-listed n w)
+    pub units : Every P (units_listed n w)
     pub rest : InWork (run_for n w).state
 
-  pub run-covered : (n : ℕ) (w : World) → InWork w → Every There (run-openings n w) → Covered n w
-  unfolding run-openings units-listed
+  pub run-covered : (n : ℕ) (w : World) → InWork w → Every There (run_openings n w) → Covered n w
+  unfolding run_openings units_listed
   run-covered zero w i s = record { units = every-none P; rest = rw (run_none go step w) i }
   run-covered (suc n) w i s = by_test (go w) refl s (run-covered n (step w))
     where
       by_test : (t : Bool) → go w ≡ t
-          → Every There (where_so t (where_so (at_rest w.state.work) (w ∷ []) ++ run-openings n (step w)))
-          → (InWork (step w) → Every There (run-openings n (step w)) → Covered n (step w)) → Covered (suc n) w
+          → Every There (where_so t (where_so (at_rest w.state.work) (w ∷ []) ++ run_openings n (step w)))
+          → (InWork (step w) → Every There (run_openings n (step w)) → Covered n (step w)) → Covered (suc n) w
       by_test true g s later =
           let here : Every P (listed w.state w.mem) = all_here w w.state.work (every_front There _ _ s) i in
           let all : Covered n (step w) =
@@ -137,26 +137,26 @@ module _ (P : Named → Type 0) where
       other-registers (waiting j es held) h s = s
   in-work-written w offset v s' (drops h) i = no-work (record { state = reset (bit_of 0 v) w.state; mem = w.mem }) refl
 
-  pub call-covered : (c : Call) (w : World) → InWork w → Every There (call-openings c w) → Every P (call-units-listed c w) × InWork (after c w)
-  unfolding call-openings call-units-listed after
+  pub call-covered : (c : Call) (w : World) → InWork w → Every There (call_openings c w) → Every P (call_units_listed c w) × InWork (after c w)
+  unfolding call_openings call_units_listed after
   call-covered (writes offset v) w i s = (every-none P, in-work-written w offset v _ (write-keeps-or-drops w.state offset v) i)
   call-covered (reads offset) w i s = (every-none P, i)
   call-covered (runs n) w i s =
-      of-run (λ (r : Ran). Every There (where_so (eqb r.answer done) (run-openings n w)) → Every P (where_true (eqb r.answer done) (units-listed n w)) × InWork r.world) w n
+      of-run (λ (r : Ran). Every There (where_so (eqb r.answer done) (run_openings n w)) → Every P (where_true (eqb r.answer done) (units_listed n w)) × InWork r.world) w n
       (λ l s. (every-none P, i)) (λ l s. let all : Covered n w = run-covered n w i s in (all.units, all.rest)) s
   call-covered (records j) w i s = (every-none P, i)
   call-covered (answers good n) w i s =
-      of-answer (λ (r : Ran). Every There (where_so (eqb r.answer done) (run-openings n (answered good w)))
-      → Every P (where_true (eqb r.answer done) (units-listed n (answered good w))) × InWork r.world) w good n
+      of-answer (λ (r : Ran). Every There (where_so (eqb r.answer done) (run_openings n (answered good w)))
+      → Every P (where_true (eqb r.answer done) (units_listed n (answered good w))) × InWork r.world) w good n
       (λ l s. (every-none P, i)) (λ l k s. (every-none P, i))
       (λ l k s. let all : Covered n (answered good w) = run-covered n (answered good w) (in-work-answered good w i) s in (all.units, all.rest)) s
 
-  calls-covered : (cs : List Call) (w : World) → InWork w → Every There (openings cs w) → Every P (calls-units-listed cs w)
-  unfolding openings calls-units-listed
+  calls-covered : (cs : List Call) (w : World) → InWork w → Every There (openings cs w) → Every P (calls_units_listed cs w)
+  unfolding openings calls_units_listed
   calls-covered [] w i s = every-none P
   calls-covered (c ∷ cs) w i s =
-      let one : Every P (call-units-listed c w) × InWork (after c w) = call-covered c w i (every_front There _ _ s) in
-      every-both P _ _ one.0 (calls-covered cs (after c w) one.1 (every_back There (call-openings c w) _ s))
+      let one : Every P (call_units_listed c w) × InWork (after c w) = call-covered c w i (every_front There _ _ s) in
+      every-both P _ _ one.0 (calls-covered cs (after c w) one.1 (every_back There (call_openings c w) _ s))
 
   pub in-work-at-first : (w : World) → Every P (listed_in_work w.state w.mem) → InWork w
   in-work-at-first w i h = by-work w.state.work h i
@@ -168,5 +168,5 @@ module _ (P : Named → Type 0) where
       by-work (waiting j es held) h s = s
 
   -- of any calls
-  pub listed-covers : (cs : List Call) (w : World) → Every P (listed_in_work w.state w.mem) → Every There (openings cs w) → Every P (calls-units-listed cs w)
+  pub listed-covers : (cs : List Call) (w : World) → Every P (listed_in_work w.state w.mem) → Every There (openings cs w) → Every P (calls_units_listed cs w)
   listed-covers cs w i s = calls-covered cs w (in-work-at-first w i) s

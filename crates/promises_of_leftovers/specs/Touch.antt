@@ -12,17 +12,17 @@ use Rattle.rules.specs.Lists.{Found, lookup}
 use Rattle.rules.specs.Lists.Found.{none, found}
 use Rattle.rules.specs.Judging.{Finding}
 use Rattle.rules.specs.Judging.Finding.{broken}
-use Rattle.rules.specs.Layouts.{ring-header, head_offset, descriptor, stream_header_size}
-use Rattle.rules.specs.Ring.{job_of, opened_of, concluded, slot_place, submission-rules, submission-opening, good-ring, ring-opening, opening_of}
-use Rattle.rules.specs.Registers.{bit_of, with_enabled, reset-registers, reset, controlled, Write, write_offset, writable, write-of}
-use Rattle.rules.specs.Packets.{Progress, Belongings, at_first, take-packet}
-use Rattle.rules.specs.Table.{take-entry}
+use Rattle.rules.specs.Layouts.{ring_header, head_offset, descriptor, stream_header_size}
+use Rattle.rules.specs.Ring.{job_of, opened_of, concluded, slot_place, submission_rules, submission_opening, good_ring, ring_opening, opening_of}
+use Rattle.rules.specs.Registers.{bit_of, with_enabled, reset_registers, reset, controlled, Write, write_offset, writable, write_of}
+use Rattle.rules.specs.Packets.{Progress, Belongings, at_first, take_packet}
+use Rattle.rules.specs.Table.{take_entry}
 use Rattle.rules.specs.Stream.{left}
 use Rattle.rules.specs.State.{Work, State, World, with_regs, with_state}
 use Rattle.rules.specs.State.Work.{resting, entries, packets, waiting}
-use Rattle.rules.specs.Settle.{faulted, doorbell-cleared, ended_by, next_head, head-written, page-written, marked, settled}
+use Rattle.rules.specs.Settle.{faulted, doorbell_cleared, ended_by, next_head, head_written, page_written, marked, settled}
 use Rattle.rules.specs.Steps.{packets_at, entries_at, next_place, step, answer_on, answered}
-use Rattle.rules.specs.Calls.{wrote, call-write}
+use Rattle.rules.specs.Calls.{wrote, call_write}
 use Rattle.rules.specs.Listed.{Named}
 use Rattle.rules.specs.declared.Entry.{Entry}
 use Rattle.rules.specs.declared.Job.{Job}
@@ -76,11 +76,11 @@ RingIs ring (Refused j r) = j.ring ≡ ring
 RingIs ring (Started o) = o.job.ring ≡ ring
 
 opening_ring : (m : List ℕ) (ring size : ℕ) → RingIs ring (opening_of m ring size)
-unfolding opening_of ring-opening submission-opening
-opening_ring m ring size = by_tests (good-ring m ring size) (eqb h.head h.tail) (submission-rules m h.stride d)
+unfolding opening_of ring_opening submission_opening
+opening_ring m ring size = by_tests (good_ring m ring size) (eqb h.head h.tail) (submission_rules m h.stride d)
   where
     h : RingHeader
-    h = ring-header m ring
+    h = ring_header m ring
 
     d : Descriptor
     d = descriptor m (slot_place ring h)
@@ -106,7 +106,7 @@ module _ (s : State) (v : ℕ) where
   alike a b c = record { ring = a; page = b; work = c }
 
   control-fits : SamePlaces s (controlled v s)
-  unfolding controlled reset reset-registers
+  unfolding controlled reset reset_registers
   control-fits = by_bit (bit_of 1 v)
     where
       by_bit : (b : Bool) → SamePlaces s (pick b (reset (bit_of 0 v) s) (with_regs (with_enabled (bit_of 0 v) s.regs) s))
@@ -118,8 +118,8 @@ module _ (s : State) (v : ℕ) where
   all_fit =
       (λ k. absurd (k.0 refl), (λ k. absurd (k.1.0 refl), (λ k. alike refl refl (λ r h. h), (λ k. control-fits, (λ k. absurd (k.1.1.0 refl), (λ k. absurd (k.1.1.1 refl), (λ k. alike refl refl (λ r h. h), (λ k. alike refl refl (λ r h. h), (λ k. alike refl refl (λ r h. h), omega arith)))))))))
 
-  write-fits : (offset : ℕ) → MovesNeither offset → SamePlaces s (call-write s offset v).state
-  unfolding call-write write-of
+  write-fits : (offset : ℕ) → MovesNeither offset → SamePlaces s (call_write s offset v).state
+  unfolding call_write write_of
   write-fits offset k = by_found (lookup write_offset offset (writable s v)) refl
     where
       by_found : (f : Found Write) → lookup write_offset offset (writable s v) ≡ f → SamePlaces s (wrote s f).state
@@ -142,7 +142,7 @@ module _ (m : List ℕ) (ring page : ℕ) where
 
   -- settling writes that ring's head and that page
   marked-outside : (j : Job) (r : Registers) (x : List ℕ) (i : ℕ) → j.ring ≡ ring → r.fencepage ≡ page → Outside i → get_or (marked j r x) i 0 ≡ get_or x i 0
-  unfolding marked page-written head-written bytes_of
+  unfolding marked page_written head_written bytes_of
   marked-outside j r x i e p h = by-page h.1
     where
       by-page : (page ≡ 0) ⊎ Apart i 1 page 16 → get_or (marked j r x) i 0 ≡ get_or x i 0
@@ -179,9 +179,9 @@ module _ (m : List ℕ) (ring page : ℕ) where
 
   next-on-ring : (w : World) (k next : Work) → w.state.regs.ring ≡ ring → Next w k next → OnRing ring k → OnRing ring next
   next-on-ring w resting next e h on = rw h.first (entries-on-ring h.what [] w.state.belongings (opened-ring w (Started h.what) e h.here))
-  next-on-ring w (entries o kept) next e h on = rw h.1 (entries-on-ring o (take-entry w.mem o.table kept).kept w.state.belongings on)
+  next-on-ring w (entries o kept) next e h on = rw h.1 (entries-on-ring o (take_entry w.mem o.table kept).kept w.state.belongings on)
   next-on-ring w (packets j t at es held) next e h on =
-      rw h.1 (packets-on-ring j t (next_place at (left w.mem t at)) es (take-packet es held (left w.mem t at)).held on)
+      rw h.1 (packets-on-ring j t (next_place at (left w.mem t at)) es (take_packet es held (left w.mem t at)).held on)
   next-on-ring w (waiting j es held) next e h on = rw h on
 
   breaks-on-ring : (w : World) (k : Work) (j : Job) (f : Fault) → w.state.regs.ring ≡ ring → Breaks w k j f → OnRing ring k → j.ring ≡ ring
@@ -192,7 +192,7 @@ module _ (m : List ℕ) (ring page : ℕ) where
 
   -- a unit, an answer, a write of another register
   unit-stays : (w w' : World) → Unit w w' → Stays w → Stays w'
-  unfolding faulted doorbell-cleared
+  unfolding faulted doorbell_cleared
   unit-stays w w' (works-on next h) k =
       record { its-ring = k.its-ring; its-page = k.its-page; its-work = next-on-ring w w.state.work next k.its-ring h k.its-work; bytes = k.bytes }
   unit-stays w w' (finds-bad-ring e h) k = record { its-ring = k.its-ring; its-page = k.its-page; its-work = k.its-work; bytes = k.bytes }
@@ -211,9 +211,9 @@ module _ (m : List ℕ) (ring page : ℕ) where
       by-work true (waiting j es h) on = settled-stays j _ _ w on k
       by-work false (waiting j es h) on = settled-stays j _ _ w on k
 
-  write-stays : (w : World) (offset v : ℕ) → MovesNeither offset → Stays w → Stays (with_state (call-write w.state offset v).state w)
+  write-stays : (w : World) (offset v : ℕ) → MovesNeither offset → Stays w → Stays (with_state (call_write w.state offset v).state w)
   write-stays w offset v free k =
-      let same : SamePlaces w.state (call-write w.state offset v).state = write-fits w.state v offset free in
+      let same : SamePlaces w.state (call_write w.state offset v).state = write-fits w.state v offset free in
       record { its-ring = same.ring ∙ k.its-ring; its-page = same.page ∙ k.its-page; its-work = same.work ring k.its-work; bytes = k.bytes }
 
   -- ---- so a field outside both has not been written

@@ -6,13 +6,13 @@ use mathlib.Core.List.{List, [], ◌∷◌}
 use Rattle.std.proofs.Math.Nat.{min-le_left}
 use Rattle.rules.specs.Layouts.{entry_layout}
 use Rattle.rules.specs.Judging.{at_place}
-use Rattle.rules.specs.Table.{entry_place, take-entry}
+use Rattle.rules.specs.Table.{entry_place, take_entry}
 use Rattle.rules.specs.Stream.{left}
 use Rattle.rules.specs.Ring.{opening_of}
-use Rattle.rules.specs.Packets.{take-packet}
+use Rattle.rules.specs.Packets.{take_packet}
 use Rattle.rules.specs.State.{Work, State, World}
 use Rattle.rules.specs.State.Work.{resting, entries, packets, waiting}
-use Rattle.rules.specs.Steps.{open_step, entry-step, next_place, packet_step, step_on, step}
+use Rattle.rules.specs.Steps.{open_step, entry_step, next_place, packet_step, step_on, step}
 use Rattle.rules.specs.Listed.{placed, Named, unit_listed}
 use Rattle.rules.specs.declared.Entry.{Entry}
 use Rattle.rules.specs.declared.Table.{Table}
@@ -29,20 +29,20 @@ use Rattle.promises_of_leftovers.specs.Packet.{listed-frame, listed-taken}
 -- ---- one unit
 
 listed-entry : (m m' : List ℕ) → length m ≡ length m' → (t : Table) (kept : List Entry) → AgreeOn m m' (placed (entry_place t (length kept)) entry_layout)
-    → take-entry m t kept ≡ take-entry m' t kept
-unfolding take-entry
+    → take_entry m t kept ≡ take_entry m' t kept
+unfolding take_entry
 listed-entry m m' len t kept same = rw (len, named-entry m m' (entry_place t (length kept)) same)
 
 module _ (s : State) (m m' : List ℕ) (len : length m ≡ length m') where
   on-listed : (k : Work) → AgreeOn m m' (unit_listed s.regs k m) → SameEnd m m' (step_on (lent s m) k) (step_on (lent s m') k)
-  unfolding open_step entry-step packet_step
+  unfolding open_step entry_step packet_step
   on-listed resting same =
       rw (← listed-opening m m' s.regs.ring s.regs.ringsize same len) (opening-blind s m m' (opening_of m s.regs.ring s.regs.ringsize))
   on-listed (entries o kept) same =
-      rw (← listed-entry m m' len o.table kept same) (entry-blind s m m' o (take-entry m o.table kept).kept (at_place (length kept) (take-entry m o.table kept).verdict))
+      rw (← listed-entry m m' len o.table kept same) (entry-blind s m m' o (take_entry m o.table kept).kept (at_place (length kept) (take_entry m o.table kept).verdict))
   on-listed (packets j t at es h) same =
       rw (← listed-frame t at m m' len same, ← listed-taken t at m m' len same es h)
-      (packet-blind s m m' j t (next_place at (left m t at)) es (take-packet es h (left m t at)).held (at_place at (take-packet es h (left m t at)).verdict))
+      (packet-blind s m m' j t (next_place at (left m t at)) es (take_packet es h (left m t at)).held (at_place at (take_packet es h (left m t at)).verdict))
   on-listed (waiting j es h) same = record { state = refl; writes = unwritten }
 
   -- one unit, of one device over two memories of one length that agree on what the unit lists

@@ -15,7 +15,7 @@ use Rattle.rules.specs.Packets.{Progress, at_first}
 use Rattle.rules.specs.Settle.{settled}
 use Rattle.rules.specs.Unsliced.{submission, finished, submitted_on, submitted}
 use Rattle.rules.specs.Calls.{at_rest}
-use Rattle.rules.specs.Listed.{submission-listed, listed}
+use Rattle.rules.specs.Listed.{submission_listed, listed}
 use Rattle.rules.specs.declared.Entry.{Entry}
 use Rattle.rules.specs.declared.Job.{Job}
 use Rattle.rules.specs.declared.Opening.{Opening}
@@ -28,7 +28,7 @@ use Rattle.promises_of_submissions.specs.Submission.{Submits, submits}
 use Rattle.promises_of_submissions.specs.Locality.{lent}
 use Rattle.promises_of_units.specs.Called.{Call}
 use Rattle.promises_of_leftovers.specs.Course.{SameUnits, run-alike}
-use Rattle.promises_of_leftovers.specs.Submissions.{where_so, run-openings, openings, listed_there, in_work, There, no-work, run-covered}
+use Rattle.promises_of_leftovers.specs.Submissions.{where_so, run_openings, openings, listed_there, in_work, There, no-work, run-covered}
 use Rattle.promises_of_leftovers.specs.Matter.{SameResults, bytes-not-listed-cannot-matter}
 
 -- ---- calls whose openings all come before a settling: each opening finds the memory first lent, and the ring where it was
@@ -36,7 +36,7 @@ use Rattle.promises_of_leftovers.specs.Matter.{SameResults, bytes-not-listed-can
 abbrev pub Before : State → List ℕ → World → Type 0
 Before s m v = (v.mem ≡ m) × ((v.state.regs.ring ≡ s.regs.ring) × (v.state.regs.ringsize ≡ s.regs.ringsize))
 
-each-before : (s : State) (m m' : List ℕ) → AgreeOn m m' (submission-listed m s.regs.ring s.regs.ringsize) → (vs : List World) → Every (Before s m) vs
+each-before : (s : State) (m m' : List ℕ) → AgreeOn m m' (submission_listed m s.regs.ring s.regs.ringsize) → (vs : List World) → Every (Before s m) vs
     → Every (λ (v : World). AgreeOn m m' (listed_there v)) vs
 unfolding Every
 each-before s m m' same [] h = h
@@ -44,7 +44,7 @@ each-before s m m' same (v ∷ vs) h = (rw (h.0.0, h.0.1.0, h.0.1.1) same, each-
 
 module _ (s : State) (m m' : List ℕ) (len : length m ≡ length m') where
   -- a device at rest: "up to each settling" of the next submission
-  pub up-to-the-settling : s.work ≡ resting → AgreeOn m m' (submission-listed m s.regs.ring s.regs.ringsize)
+  pub up-to-the-settling : s.work ≡ resting → AgreeOn m m' (submission_listed m s.regs.ring s.regs.ringsize)
       → (cs : List Call) → Every (Before s m) (openings cs (lent s m)) → SameResults cs s m m'
   up-to-the-settling rest same cs before =
       bytes-not-listed-cannot-matter cs s m m' (record { as_long = len; in_work = rw rest (every-none (SameIn m m')); opened = each-before s m m' same (openings cs (lent s m)) before })
@@ -69,24 +69,24 @@ midst-works (packets j t at es held) h = refl
 midst-works (waiting j es held) h = refl
 
 -- a run that is at rest before no unit makes no opening
-none-opened : (n : ℕ) (w : World) → ((i : ℕ) → i < n → midst (run_for i w).state.state.work ≡ true) → run-openings n w ≡ []
-unfolding run-openings
+none-opened : (n : ℕ) (w : World) → ((i : ℕ) → i < n → midst (run_for i w).state.state.work ≡ true) → run_openings n w ≡ []
+unfolding run_openings
 none-opened zero w h = refl
 none-opened (suc n) w h = by_test (go w) refl (none-opened n (step w))
   where
     works : at_rest w.state.work ≡ false
     works = midst-works w.state.work (ap (λ (o : Out World). midst o.state.state.work) (sym (run_none go step w)) ∙ h 0 (omega arith))
 
-    by_test : (t : Bool) → go w ≡ t → (((i : ℕ) → i < n → midst (run_for i (step w)).state.state.work ≡ true) → run-openings n (step w) ≡ [])
-        → where_so t (where_so (at_rest w.state.work) (w ∷ []) ++ run-openings n (step w)) ≡ []
+    by_test : (t : Bool) → go w ≡ t → (((i : ℕ) → i < n → midst (run_for i (step w)).state.state.work ≡ true) → run_openings n (step w) ≡ [])
+        → where_so t (where_so (at_rest w.state.work) (w ∷ []) ++ run_openings n (step w)) ≡ []
     by_test true g later =
         rw (works, later (λ i b. ap (λ (o : Out World). midst o.state.state.work) (sym (run-go go step i w g)) ∙ h (suc i) (omega arith)))
     by_test false g later = refl
 
 -- so the units of one submission make the one
 one-opened : (n : ℕ) (w : World) → w.state.work ≡ resting → go w ≡ true → ((i : ℕ) → 0 < i → i < n → midst (run_for i w).state.state.work ≡ true)
-    → (P : World → Type 0) → P w → Every P (run-openings n w)
-unfolding run-openings Every
+    → (P : World → Type 0) → P w → Every P (run_openings n w)
+unfolding run_openings Every
 one-opened zero w rest g h P p = omega arith
 one-opened (suc n) w rest g h P p =
     let idle : at_rest w.state.work ≡ true = ap at_rest rest in
@@ -112,7 +112,7 @@ clash : {t : Bool} → t ≡ false → t ≡ true → ⊥
 clash p q = let z : ◌≡◌ {A = ℕ} 0 1 = cc in omega arith
 
 module _ (s : State) (m m' : List ℕ) (len : length m ≡ length m') (rest : s.work ≡ resting) (due : go (lent s m) ≡ true)
-    (same : AgreeOn m m' (submission-listed m s.regs.ring s.regs.ringsize)) where
+    (same : AgreeOn m m' (submission_listed m s.regs.ring s.regs.ringsize)) where
   -- each unit of the submission, up to and with its last
   pub each-unit : (n : ℕ) → n ≤ (submitted (lent s m)).units → SameUnits (lent s m) (lent s m') (run_for n (lent s m)) (run_for n (lent s m'))
   each-unit n h =

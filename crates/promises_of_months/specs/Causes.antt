@@ -10,7 +10,7 @@ use Rattle.std.proofs.Math.ListN.{length}
 use Rattle.rules.specs.Lists.{pushed}
 use Rattle.rules.specs.Numbers.{too_much, bad_feed}
 use Rattle.rules.specs.declared.Record.{Record}
-use Rattle.rules.specs.Month.{Finished, alone, every, listed_kind, good-feed, feed-answer}
+use Rattle.rules.specs.Month.{Finished, alone, every, listed_kind, good_feed, feed_answer}
 use Rattle.rows.specs.Keys.{same_or_not}
 use Rattle.words.specs.Over.{below_or_not}
 use Rattle.promises_of_months.specs.Counted.{ten-when, exactly}
@@ -35,8 +35,8 @@ unfolding every
 with-unlisted [] after c h = rw h
 with-unlisted (b ∷ before) after c h = rw (with-unlisted before after c h) (and-false (listed_kind b))
 
-cause-bad : (s : Finished) → Cause s → good-feed s ≡ false
-unfolding good-feed
+cause-bad : (s : Finished) → Cause s → good_feed s ≡ false
+unfolding good_feed
 cause-bad s (error-below p h) = rw (ne_eqb s.error 0 p, lt-leb 10 s.error h)
 cause-bad s (error-above h) = rw (ne_eqb s.error 0 (λ e. omega arith), le-leb 10 s.error (omega arith), lt-leb s.error 30 h)
 cause-bad s (beside-an-error p q) = rw (ne_eqb s.error 0 p, ne_eqb (length s.records) 0 q, and-false)
@@ -63,9 +63,9 @@ find-unlisted (r ∷ rs) h = by_kind (λ g. find-unlisted rs g) (listed_kind r) 
         let u : Unlisted rs = later (rw e at h) in
         record { before = r ∷ u.before; after = u.after; one = u.one; whole = ap (λ x. r ∷ x) u.whole; kind = u.kind }
 
-module _ (s : Finished) (bad : good-feed s ≡ false) where
+module _ (s : Finished) (bad : good_feed s ≡ false) where
   cause-of-error : (s.error ≡ 0 → ⊥) → 10 ≤ s.error → s.error ≤ 30 → length s.records ≡ 0 → Cause s
-  unfolding good-feed every
+  unfolding good_feed every
   cause-of-error p g h n =
       let none : s.records ≡ [] = nothing s.records n in
       absurd (let z : ◌≡◌ {A = Bool} true false = rw (ne_eqb s.error 0 p, le-leb 10 s.error g, le-leb s.error 30 h, none) at bad in let q : ◌≡◌ {A = ℕ} 0 1 = cc in omega arith)
@@ -75,7 +75,7 @@ module _ (s : Finished) (bad : good-feed s ≡ false) where
       nothing (x ∷ xs) h = absurd (omega arith)
 
   cause-of-records : s.error ≡ 0 → length s.records ≤ 64 → Cause s
-  unfolding good-feed
+  unfolding good_feed
   cause-of-records p h =
       let kinds : every listed_kind s.records ≡ false = rw (eq-eqb s.error 0 p, le-leb (length s.records) 64 h) at bad in
       let u : Unlisted s.records = find-unlisted s.records kinds in
@@ -92,24 +92,24 @@ module _ (s : Finished) (bad : good-feed s ≡ false) where
 
 -- 10 exactly where one of the causes holds, whatever was counted before
 pub record Ten (xs : List Finished) (s : Finished) : Type 0 where
-  pub only : feed-answer xs s ≡ bad_feed → Cause s
-  pub when : Cause s → feed-answer xs s ≡ bad_feed
+  pub only : feed_answer xs s ≡ bad_feed → Cause s
+  pub when : Cause s → feed_answer xs s ≡ bad_feed
 
 pub ten-exactly : (xs : List Finished) (s : Finished) → Ten xs s
 ten-exactly xs s = record { only = λ h. cause-of s ((exactly xs s).ten h); when = λ c. ten-when xs s (cause-bad s c) }
 
 -- 9 exactly where none of them holds and a named total would reach 2^64
 pub record NineBelow (xs : List Finished) (s : Finished) : Type 0 where
-  pub only : feed-answer xs s ≡ too_much → (Cause s → ⊥) × (Small (pushed xs s) → ⊥)
-  pub when : (Cause s → ⊥) → (Small (pushed xs s) → ⊥) → feed-answer xs s ≡ too_much
+  pub only : feed_answer xs s ≡ too_much → (Cause s → ⊥) × (Small (pushed xs s) → ⊥)
+  pub when : (Cause s → ⊥) → (Small (pushed xs s) → ⊥) → feed_answer xs s ≡ too_much
 
 pub nine-after-ten : (xs : List Finished) (s : Finished) → NineBelow xs s
 nine-after-ten xs s =
     record {
-      only = λ h. (λ c. let e : feed-answer xs s ≡ 10 = ten-when xs s (cause-bad s c) in absurd (omega arith), ((nine-exactly xs s).only h).1);
-      when = λ n m. by_test n m (good-feed s) refl;
+      only = λ h. (λ c. let e : feed_answer xs s ≡ 10 = ten-when xs s (cause-bad s c) in absurd (omega arith), ((nine-exactly xs s).only h).1);
+      when = λ n m. by_test n m (good_feed s) refl;
     }
   where
-    by_test : (Cause s → ⊥) → (Small (pushed xs s) → ⊥) → (g : Bool) → good-feed s ≡ g → feed-answer xs s ≡ too_much
+    by_test : (Cause s → ⊥) → (Small (pushed xs s) → ⊥) → (g : Bool) → good_feed s ≡ g → feed_answer xs s ≡ too_much
     by_test n m true e = (nine-exactly xs s).when e m
     by_test n m false e = absurd (n (cause-of s e))

@@ -3,7 +3,7 @@ use Rattle.std.specs.Prelude.{◌≡◌, refl, Bool, true, false, List, [], ◌�
 use Rattle.std.proofs.Common.{sym, ap, ◌∙◌, arith, ltb-true, lt-ltb, get_or-take}
 use Rattle.rules.specs.Numbers.{reads, writes, done}
 use Rattle.rules.specs.Lists.{pushed}
-use Rattle.rules.specs.Month.{Finished, sum, greatest, every, small, below, totals, counts, ended_with, bytes_in, largest_write, counted, good-feed, feed-answer}
+use Rattle.rules.specs.Month.{Finished, sum, greatest, every, small, below, totals, counts, ended_with, bytes_in, largest_write, counted, good_feed, feed_answer}
 use Rattle.rules.specs.Numbers.{too_much}
 use Rattle.month_totals.specs.Views.{totals_in}
 use Rattle.month_totals.specs.Summing.{every-at}
@@ -84,8 +84,8 @@ small-below xs m = every-by (map (λ c. sum c xs) counts) (λ i p. between (λ i
 
 -- 9 exactly where a good submission would make a named total reach 2^64
 pub record Nine (xs : List Finished) (s : Finished) : Type 0 where
-  pub only : feed-answer xs s ≡ too_much → (good-feed s ≡ true) × (Small (pushed xs s) → ⊥)
-  pub when : good-feed s ≡ true → (Small (pushed xs s) → ⊥) → feed-answer xs s ≡ too_much
+  pub only : feed_answer xs s ≡ too_much → (good_feed s ≡ true) × (Small (pushed xs s) → ⊥)
+  pub when : good_feed s ≡ true → (Small (pushed xs s) → ⊥) → feed_answer xs s ≡ too_much
 
 pub nine-exactly : (xs : List Finished) (s : Finished) → Nine xs s
 nine-exactly xs s =
@@ -94,6 +94,6 @@ nine-exactly xs s =
       when = λ g m. by_test g m (below (totals (pushed xs s))) refl;
     }
   where
-    by_test : good-feed s ≡ true → (Small (pushed xs s) → ⊥) → (b : Bool) → below (totals (pushed xs s)) ≡ b → feed-answer xs s ≡ too_much
+    by_test : good_feed s ≡ true → (Small (pushed xs s) → ⊥) → (b : Bool) → below (totals (pushed xs s)) ≡ b → feed_answer xs s ≡ too_much
     by_test g m true e = absurd (m (all_small (pushed xs s) e))
     by_test g m false e = nine-when xs s g e

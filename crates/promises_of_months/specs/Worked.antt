@@ -1,7 +1,7 @@
 -- The example of docs/MONTH.md, which is the stored input of `program_month`, computed by the rule book. Assumes nothing.
 use Rattle.std.specs.Prelude.{◌≡◌, refl, List, [], ◌∷◌, ℕ, replicate}
 use Rattle.rules.specs.declared.Record.{Record}
-use Rattle.rules.specs.Month.{Finished, sum, greatest, every, totals, good-feed, feed-answer, counted-after, answers-after, counted, answers}
+use Rattle.rules.specs.Month.{Finished, sum, greatest, every, totals, good_feed, feed_answer, counted_after, answers_after, counted, answers}
 
 abbrev range : ℕ → ℕ → Record
 range kind length = record { kind = kind; handle = 0; id = 0; gpa = 0; length = length }
@@ -22,11 +22,11 @@ worked =
     ∷ []
 
 pub worked-answers : answers worked ≡ 0 ∷ 0 ∷ 0 ∷ 0 ∷ 10 ∷ 9 ∷ 0 ∷ 10 ∷ []
-unfolding sum greatest every totals good-feed feed-answer answers-after
+unfolding sum greatest every totals good_feed feed_answer answers_after
 worked-answers = refl
 
 pub worked-totals : totals (counted worked) ≡ record { sums = 3 ∷ 0 ∷ 0 ∷ 0 ∷ 0 ∷ 0 ∷ 1 ∷ 0 ∷ 0 ∷ 0 ∷ 0 ∷ 0 ∷ 0 ∷ 0 ∷ 0 ∷ 0 ∷ 0 ∷ 0 ∷ 1 ∷ 0 ∷ 0 ∷ 0 ∷ 22 ∷ 18446744073709551615 ∷ 164 ∷ []; largest = 100 }
-unfolding sum greatest every totals good-feed feed-answer counted-after
+unfolding sum greatest every totals good_feed feed_answer counted_after
 worked-totals = refl
 
 -- one submission on either side of each rule
@@ -46,5 +46,5 @@ edges =
     ∷ []
 
 pub edges-answers : answers edges ≡ 9 ∷ 10 ∷ 10 ∷ 0 ∷ 0 ∷ 10 ∷ 10 ∷ 0 ∷ 0 ∷ 10 ∷ 10 ∷ []
-unfolding sum greatest every totals good-feed feed-answer answers-after
+unfolding sum greatest every totals good_feed feed_answer answers_after
 edges-answers = refl

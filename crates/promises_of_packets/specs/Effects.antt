@@ -11,10 +11,10 @@ use Rattle.rules.specs.Lists.{Found, lookup}
 use Rattle.rules.specs.Lists.Found.{none, found}
 use Rattle.rules.specs.Judging.{refusal}
 use Rattle.rules.specs.Names.{token_of, shareable, with_lowest, under, names_left, tokens_left, names_with, tokens_with, of_another, is_new, with_token, without_token}
-use Rattle.rules.specs.Shapes.{good-shape, good-backed, packed-size, tight}
-use Rattle.rules.specs.StatePackets.{bad-viewport, bad-clear, bad-sides, clip-of}
+use Rattle.rules.specs.Shapes.{good_shape, good_backed, packed_size, tight}
+use Rattle.rules.specs.StatePackets.{bad_viewport, bad_clear, bad_sides, clip_of}
 use Rattle.rules.specs.Table.{matching}
-use Rattle.rules.specs.Packets.{Holdings, Outcome, accepted, refuse, full, live, is_live, on_live, on_kind, on_buffer, on_entry, backed, range_of, recorded, hand-out, stored, create-hosted, create-backed, create, resource_of, on-buffer-packet, on-texture-packet, on-destroy-packet, on-dirty-packet, write-back, on-copy-packet, live-texture, on_texture, on-target-packet, on-viewport-packet, on-clear-packet, on-scissor-packet, without, on-export-packet, bound, on_bound, on-import-packet, on-release-packet, apply, Progress, Passed, passed, target-after, tokens-after, pass}
+use Rattle.rules.specs.Packets.{Holdings, Outcome, accepted, refuse, full, live, is_live, on_live, on_kind, on_buffer, on_entry, backed, range_of, recorded, hand_out, stored, create_hosted, create_backed, create, resource_of, on_buffer_packet, on_texture_packet, on_destroy_packet, on_dirty_packet, write_back, on_copy_packet, live_texture, on_texture, on_target_packet, on_viewport_packet, on_clear_packet, on_scissor_packet, without, on_export_packet, bound, on_bound, on_import_packet, on_release_packet, apply, Progress, Passed, passed, target_after, tokens_after, pass}
 use Rattle.rules.specs.declared.Entry.{Entry}
 use Rattle.rules.specs.declared.Resource.{Resource}
 use Rattle.rules.specs.declared.Shape.{Shape}
@@ -51,15 +51,15 @@ created-by-any-name k n r a = record { bytes = same_bytes r.kind a.bytes; shape 
     same_shape (TextureKind s) h = h
 
 -- a pitch that is kept for a backed texture alone is asked for by a backed texture alone
-pitch-kept : (b : Bool) (s : Shape) (pitch : ℕ) → pick b (packed-size s pitch) 0 ≡ pick b (packed-size s (pick b pitch 0)) 0
+pitch-kept : (b : Bool) (s : Shape) (pitch : ℕ) → pick b (packed_size s pitch) 0 ≡ pick b (packed_size s (pick b pitch 0)) 0
 pitch-kept true s pitch = refl
 pitch-kept false s pitch = refl
 
 -- and is good where the packet's rules are kept
-pitch-good : (b : Bool) (s : Shape) (pitch : ℕ) → pick b (good-backed s pitch) (good-shape s) ≡ true
-    → (good-shape s ≡ true) × (pick b (leb (tight s 0) (pick b pitch 0)) (eqb (pick b pitch 0) 0) ≡ true)
-unfolding good-backed
-pitch-good true s pitch h = (both_left (good-shape s) _ h, both_right (good-shape s) _ h)
+pitch-good : (b : Bool) (s : Shape) (pitch : ℕ) → pick b (good_backed s pitch) (good_shape s) ≡ true
+    → (good_shape s ≡ true) × (pick b (leb (tight s 0) (pick b pitch 0)) (eqb (pick b pitch 0) 0) ≡ true)
+unfolding good_backed
+pitch-good true s pitch h = (both_left (good_shape s) _ h, both_right (good_shape s) _ h)
 pitch-good false s pitch h = (h, refl)
 
 -- a number that is kept for a backed resource alone is 0 for another
@@ -79,8 +79,8 @@ buffer-created handle size backing offset g =
       offset = kept-if-backed (backed backing) offset;
     }
 
-pub texture-created : (handle : ℕ) (s : Shape) (pitch backing offset : ℕ) → pick (backed backing) (good-backed s pitch) (good-shape s) ≡ true
-    → AsCreated (resource_of handle (TextureKind s) (pick (backed backing) (packed-size s pitch) 0) pitch backing offset)
+pub texture-created : (handle : ℕ) (s : Shape) (pitch backing offset : ℕ) → pick (backed backing) (good_backed s pitch) (good_shape s) ≡ true
+    → AsCreated (resource_of handle (TextureKind s) (pick (backed backing) (packed_size s pitch) 0) pitch backing offset)
 texture-created handle s pitch backing offset g =
     record {
       bytes = pitch-kept (backed backing) s pitch;
@@ -108,8 +108,8 @@ pub record InRange (es : List Entry) (h : Holdings) (kind : ℕ) (r : Resource) 
 
 -- a scissor in a submission whose target is a live texture: its sides are not negative, and there was room for its record
 pub record Clipped (target : ℕ) (h : Holdings) (s : Shape) (c : SetScissor) : Type 0 where
-  pub texture : live-texture target h ≡ found s
-  pub sides : bad-sides c ≡ false
+  pub texture : live_texture target h ≡ found s
+  pub sides : bad_sides c ≡ false
   pub room : length h.records < most
 
 -- a token for the live resource that a name means, which may be shared: it is not 0, was not used for another, nor is it spent, and there was room
@@ -176,7 +176,7 @@ module _ (P : Outcome → Type 0) (h : Holdings) (refuses : (r : Refusal) → P 
       (stores : (r : Resource) → Fresh h r → P (accepted (stored r h)))
       (backs-up : (r : Resource) (e : Entry) → Fresh h r → InRange es h backs r e 0 r.bytes → P (accepted (recorded (range_of backs r e 0 r.bytes) (stored r h)))) where
     pub create-or : (good : Bool) (r : Resource) → r.lowest ≡ r.handle → (good ≡ true → AsCreated r) → P (create es h good r)
-    unfolding create create-hosted create-backed
+    unfolding create create_hosted create_backed
     create-or good r own keep =
         refuse-or bad_handle (eqb r.handle 0 || is_live (live r.handle h)) _ (λ a.
         refuse-or bad_shape (not good) _ (λ b.
@@ -198,15 +198,15 @@ module _ (P : Outcome → Type 0) (h : Holdings) (refuses : (r : Refusal) → P 
   module _ (es : List Entry) (keeps : P (accepted h))
       (hands : (kind : ℕ) (r : Resource) (e : Entry) (from size : ℕ) → InRange es h kind r e from size → P (accepted (recorded (range_of kind r e from size) h))) where
     handed-or : (kind : ℕ) (r : Resource) (e : Entry) (from size : ℕ) → backs ≤ kind → kind ≤ writes → matching r.backing es ≡ found e → r.offset + (from + size) ≤ e.size
-        → P (hand-out (range_of kind r e from size) h)
-    unfolding hand-out
+        → P (hand_out (range_of kind r e from size) h)
+    unfolding hand_out
     handed-or kind r e from size low high m i =
         pick-or (eqb size 0) (accepted h) _ (λ _. keeps) (λ _.
         refuse-or too_many (full h.records) _ (λ f.
         hands kind r e from size (record { entry = m; inside = i; room = leb-false most (length h.records) f; low = low; high = high })))
 
-    pub dirty-or : (c : DirtyRange) → P (on-dirty-packet es h c)
-    unfolding on-dirty-packet
+    pub dirty-or : (c : DirtyRange) → P (on_dirty_packet es h c)
+    unfolding on_dirty_packet
     dirty-or c =
         live-or (live c.handle h) _ (λ r _.
         refuse-or host_backed (not (backed r.backing)) _ (λ _.
@@ -215,8 +215,8 @@ module _ (P : Outcome → Type 0) (h : Holdings) (refuses : (r : Refusal) → P 
         refuse-or past_entry (ltb e.size (r.offset + (c.offset + c.size))) _ (λ i.
         handed-or reads r e c.offset c.size (omega arith) (omega arith) m (ltb-false e.size (r.offset + (c.offset + c.size)) i))))))
 
-    pub copy-or : (c : CopyBuffer) → P (on-copy-packet es h c)
-    unfolding on-copy-packet write-back
+    pub copy-or : (c : CopyBuffer) → P (on_copy_packet es h c)
+    unfolding on_copy_packet write_back
     copy-or c =
         buffer-or (live c.dst h) _ (λ d _.
         buffer-or (live c.src h) _ (λ s _.
@@ -233,26 +233,26 @@ module _ (P : Outcome → Type 0) (h : Holdings) (refuses : (r : Refusal) → P 
 
   pub destroy-or : (c : DestroyResource)
       → ((r : Resource) → live c.handle h ≡ found r → P (accepted (record { resources = names_left r (without c.handle h); records = h.records })))
-      → P (on-destroy-packet h c)
-  unfolding on-destroy-packet
+      → P (on_destroy_packet h c)
+  unfolding on_destroy_packet
   destroy-or c removes = live-or (live c.handle h) _ removes
 
-  pub target-or : (c : SetTarget) → ((s : Shape) → live-texture c.handle h ≡ found s → P (accepted h)) → P (on-target-packet h c)
-  unfolding on-target-packet
-  target-or c targets = texture-or bad_handle (live-texture c.handle h) _ targets
+  pub target-or : (c : SetTarget) → ((s : Shape) → live_texture c.handle h ≡ found s → P (accepted h)) → P (on_target_packet h c)
+  unfolding on_target_packet
+  target-or c targets = texture-or bad_handle (live_texture c.handle h) _ targets
 
-  pub scissor-or : (target : ℕ) (c : SetScissor) → ((s : Shape) → Clipped target h s c → P (accepted (recorded (clip-of s c) h))) → P (on-scissor-packet target h c)
-  unfolding on-scissor-packet
+  pub scissor-or : (target : ℕ) (c : SetScissor) → ((s : Shape) → Clipped target h s c → P (accepted (recorded (clip_of s c) h))) → P (on_scissor_packet target h c)
+  unfolding on_scissor_packet
   scissor-or target c clips-to =
-      texture-or bad_state (live-texture target h) _ (λ s t.
-      refuse-or bad_state (bad-sides c) _ (λ b.
+      texture-or bad_state (live_texture target h) _ (λ s t.
+      refuse-or bad_state (bad_sides c) _ (λ b.
       refuse-or too_many (full h.records) _ (λ f. clips-to s (record { texture = t; sides = b; room = leb-false most (length h.records) f }))))
 
   pub import-or : (ts : List Token) (c : ImportSurface)
       → ((r : Resource) → (c.handle ≡ 0 → ⊥) → live c.handle h ≡ none → bound c.token ts h.resources ≡ found r → length h.resources < most
       → P (accepted (record { resources = names_with c.handle r h.resources; records = h.records })))
-      → P (on-import-packet ts h c)
-  unfolding on-import-packet
+      → P (on_import_packet ts h c)
+  unfolding on_import_packet
   import-or ts c imports =
       refuse-or bad_handle (eqb c.handle 0 || is_live (live c.handle h)) _ (λ a.
       let two = neither (eqb c.handle 0) (is_live (live c.handle h)) a in
@@ -260,13 +260,13 @@ module _ (P : Outcome → Type 0) (h : Holdings) (refuses : (r : Refusal) → P 
       refuse-or too_many (full h.resources) _ (λ f.
       imports r (eqb-false c.handle 0 two.0) (unlive (live c.handle h) two.1) e (leb-false most (length h.resources) f))))
 
-  pub release-or : (ts : List Token) (c : ReleaseToken) → ((r : Resource) → bound c.token ts h.resources ≡ found r → P (accepted h)) → P (on-release-packet ts h c)
-  unfolding on-release-packet
+  pub release-or : (ts : List Token) (c : ReleaseToken) → ((r : Resource) → bound c.token ts h.resources ≡ found r → P (accepted h)) → P (on_release_packet ts h c)
+  unfolding on_release_packet
   release-or ts c releases = bound-or (bound c.token ts h.resources) _ releases
 
 module _ (P : Outcome → Type 0) (h : Progress) (refuses : (r : Refusal) → P (record { verdict = Broken r; held = h.holdings })) where
-  pub export-or : (c : ExportSurface) → ((r : Resource) → Exported h c.handle c.token r → P (accepted h.holdings)) → P (on-export-packet h.tokens h.holdings c)
-  unfolding on-export-packet
+  pub export-or : (c : ExportSurface) → ((r : Resource) → Exported h c.handle c.token r → P (accepted h.holdings)) → P (on_export_packet h.tokens h.holdings c)
+  unfolding on_export_packet
   export-or c exports =
       live-or P h.holdings refuses (live c.handle h.holdings) _ (λ r e.
       refuse-or P h.holdings refuses bad_shape (not (shareable r.kind)) _ (λ s.
@@ -316,8 +316,8 @@ module _ (P : Passed → Type 0) (es : List Entry) (h : Progress)
     (backs-up : (r : Resource) (e : Entry) → Fresh h.holdings r → InRange es h.holdings backs r e 0 r.bytes → P (going_on h (recorded (range_of backs r e 0 r.bytes) (stored r h.holdings))))
     (removes : (k : ℕ) (r : Resource) → live k h.holdings ≡ found r → P (destroyed h k r))
     (hands : (kind : ℕ) (r : Resource) (e : Entry) (from size : ℕ) → InRange es h.holdings kind r e from size → P (going_on h (recorded (range_of kind r e from size) h.holdings)))
-    (targets : (k : ℕ) (s : Shape) → live-texture k h.holdings ≡ found s → P (record { verdict = Fine; held = record { holdings = h.holdings; target = k; tokens = h.tokens } }))
-    (cuts : (s : Shape) (c : SetScissor) → Clipped h.target h.holdings s c → P (going_on h (recorded (clip-of s c) h.holdings)))
+    (targets : (k : ℕ) (s : Shape) → live_texture k h.holdings ≡ found s → P (record { verdict = Fine; held = record { holdings = h.holdings; target = k; tokens = h.tokens } }))
+    (cuts : (s : Shape) (c : SetScissor) → Clipped h.target h.holdings s c → P (going_on h (recorded (clip_of s c) h.holdings)))
     (exports : (k token : ℕ) (r : Resource) → Exported h k token r → P (tokens_now h (with_token token r.lowest h.tokens)))
     (imports : (k token : ℕ) (r : Resource) → Imported h k token r → P (imported h k r))
     (releases : (token : ℕ) (r : Resource) → bound token h.tokens h.holdings.resources ≡ found r → P (tokens_now h (without_token token h.tokens))) where
@@ -326,7 +326,7 @@ module _ (P : Passed → Type 0) (es : List Entry) (h : Progress)
   Of p o = P (passed p h o)
 
   pub pass-or : (p : Packet) → P (pass es h p)
-  unfolding pass apply target-after tokens-after on-buffer-packet on-texture-packet on-viewport-packet on-clear-packet
+  unfolding pass apply target_after tokens_after on_buffer_packet on_texture_packet on_viewport_packet on_clear_packet
   pass-or (Buffer c) =
       create-or (Of (Buffer c)) h.holdings refuses es stores backs-up _ _ refl (buffer-created c.handle c.size c.backing c.offset)
   pass-or (Texture c) =
@@ -336,9 +336,9 @@ module _ (P : Passed → Type 0) (es : List Entry) (h : Progress)
   pass-or (Dirty c) = dirty-or (Of (Dirty c)) h.holdings refuses es keeps hands c
   pass-or (Copy c) = copy-or (Of (Copy c)) h.holdings refuses es keeps hands c
   pass-or (Target c) = target-or (Of (Target c)) h.holdings refuses c (targets c.handle)
-  pass-or (Viewport v) = refuse-or (Of (Viewport v)) h.holdings refuses bad_state (bad-viewport v) _ (λ _. keeps)
+  pass-or (Viewport v) = refuse-or (Of (Viewport v)) h.holdings refuses bad_state (bad_viewport v) _ (λ _. keeps)
   pass-or (Scissor c) = scissor-or (Of (Scissor c)) h.holdings refuses h.target c (λ s k. cuts s c k)
-  pass-or (Clear c) = refuse-or (Of (Clear c)) h.holdings refuses bad_state (bad-clear c) _ (λ _. keeps)
+  pass-or (Clear c) = refuse-or (Of (Clear c)) h.holdings refuses bad_state (bad_clear c) _ (λ _. keeps)
   pass-or (Export c) = export-or (Of (Export c)) h refuses c (λ r e. rw e.named (exports c.handle c.token r e))
   pass-or (Import c) =
       import-or (Of (Import c)) h.holdings refuses h.tokens c (λ r some unused e room.

@@ -17,10 +17,10 @@ use Rattle.rules.specs.Numbers.{most, backs, clips}
 use Rattle.rules.specs.Lists.{Found, lookup, index_of, over, pushed, removed}
 use Rattle.rules.specs.Lists.Found.{none, found}
 use Rattle.rules.specs.Table.{matching}
-use Rattle.rules.specs.Stream.{frame-of, packet-of}
-use Rattle.rules.specs.StatePackets.{begins, common, rectangle, unless_empty, clip-of}
-use Rattle.rules.specs.Names.{shareable, renamed, under, rename, lower, lowest-left, names_left, tokens_left, names_with, tokens_with}
-use Rattle.rules.specs.Packets.{Holdings, at_first, left_by, handle_of, live, range_of, shape_in, live-texture, without, Progress, Belongings, Passed, pass, pass_frame, take-packet}
+use Rattle.rules.specs.Stream.{frame_of, packet_of}
+use Rattle.rules.specs.StatePackets.{begins, common, rectangle, unless_empty, clip_of}
+use Rattle.rules.specs.Names.{shareable, renamed, under, rename, lower, lowest_left, names_left, tokens_left, names_with, tokens_with}
+use Rattle.rules.specs.Packets.{Holdings, at_first, left_by, handle_of, live, range_of, shape_in, live_texture, without, Progress, Belongings, Passed, pass, pass_frame, take_packet}
 use Rattle.rules.specs.declared.Entry.{Entry}
 use Rattle.rules.specs.declared.Resource.{Resource}
 use Rattle.rules.specs.declared.Record.{Record}
@@ -121,8 +121,8 @@ empty-or-not left top width height = by_test (eqb width 0 || eqb height 0)
     by_test true = refl
     by_test false = refl
 
-pub clip-kind : (s : Shape) (c : SetScissor) → (clip-of s c).kind ≡ clips
-unfolding clip-of
+pub clip-kind : (s : Shape) (c : SetScissor) → (clip_of s c).kind ≡ clips
+unfolding clip_of
 clip-kind s c = empty-or-not (begins c.x) (begins c.y) (common c.x (nat_abs c.width) s.width) (common c.y (nat_abs c.height) s.height)
 
 -- ---- resources
@@ -161,7 +161,7 @@ pub record SoundHoldings (es : List Entry) (h : Holdings) : Type 0 where
 
 -- a handle is a live texture's
 abbrev pub LiveTexture : ℕ → Holdings → Type 0
-LiveTexture k h = (s : Shape) × (live-texture k h ≡ found s)
+LiveTexture k h = (s : Shape) × (live_texture k h ≡ found s)
 
 -- 0 stands for none; any other target is a live texture
 abbrev pub TargetLives : Progress → Type 0
@@ -188,13 +188,13 @@ left-sound es h s = record { resources = s.holdings.resources; tokens = s.tokens
 -- ---- a live texture is live, and is the same texture where the same is live
 
 module _ (k : ℕ) where
-  pub texture-same : (g h : Holdings) → live k g ≡ live k h → live-texture k g ≡ live-texture k h
-  unfolding live-texture
+  pub texture-same : (g h : Holdings) → live k g ≡ live k h → live_texture k g ≡ live_texture k h
+  unfolding live_texture
   texture-same g h e = ap (λ (f : Found Resource). pick (eqb k 0) none (shape_in f)) e
 
   -- nor does it matter which name of its resource is the lowest
-  pub texture-moved : (old new : ℕ) (g h : Holdings) → live k g ≡ in_found (moved old new) (live k h) → live-texture k g ≡ live-texture k h
-  unfolding live-texture
+  pub texture-moved : (old new : ℕ) (g h : Holdings) → live k g ≡ in_found (moved old new) (live k h) → live_texture k g ≡ live_texture k h
+  unfolding live_texture
   texture-moved old new g h e = ap (λ (f : Found Resource). pick (eqb k 0) none (shape_in f)) e ∙ by_found (live k h)
     where
       by_found : (f : Found Resource) → pick (eqb k 0) none (shape_in (in_found (moved old new) f)) ≡ pick (eqb k 0) none (shape_in f)
@@ -203,8 +203,8 @@ module _ (k : ℕ) where
 
   module _ (h : Holdings) (s : Shape) where
     -- its handle is not 0, and names a resource
-    pub texture-some : live-texture k h ≡ found s → (eqb k 0 ≡ false) × (live k h ≡ none → ⊥)
-    unfolding live-texture
+    pub texture-some : live_texture k h ≡ found s → (eqb k 0 ≡ false) × (live k h ≡ none → ⊥)
+    unfolding live_texture
     texture-some = by_test (eqb k 0) refl
       where
         by_test : (b : Bool) → eqb k 0 ≡ b → pick b none (shape_in (live k h)) ≡ found s → (b ≡ false) × (live k h ≡ none → ⊥)
@@ -279,9 +279,9 @@ module _ (es : List Entry) (h : Progress) (s : SoundProgress es h) where
 
   -- of a clipped rectangle nothing is asked but its kind
   clip-more : (t : Shape) (c : SetScissor) → length held.records < most
-      → SoundHoldings es (record { resources = held.resources; records = pushed held.records (clip-of t c) })
+      → SoundHoldings es (record { resources = held.resources; records = pushed held.records (clip_of t c) })
   clip-more t c room =
-      records-more held.resources (clip-of t c) sound.resources room (λ other. absurd (other (clip-kind t c)))
+      records-more held.resources (clip_of t c) sound.resources room (λ other. absurd (other (clip-kind t c)))
       (rw (clip-kind t c) (omega arith))
 
   module _ (k : ℕ) (r : Resource) (e : live k held ≡ found r) where
@@ -293,7 +293,7 @@ module _ (es : List Entry) (h : Progress) (s : SoundProgress es h) where
 
     resources-destroyed : SoundResources (names_left r (without k held))
     resources-destroyed =
-        left-or-renamed r.lowest (lowest-left r.lowest (without k held)) (without k held)
+        left-or-renamed r.lowest (lowest_left r.lowest (without k held)) (without k held)
         (rw (length_removed place held.resources here) (omega (arith, sound.resources.few)))
         (once-removed handle_of place held.resources sound.resources.once here)
         (lookup-removed-other handle_of k 0 place held.resources sound.resources.once refl here
@@ -344,7 +344,7 @@ module _ (es : List Entry) (h : Progress) (s : SoundProgress es h) where
           lookup-removed-other handle_of k h.target (index_of handle_of k held.resources) held.resources sound.resources.once refl
           (found-place handle_of k held.resources r e) (λ z. eqb-false k h.target t (sym z)) in
           let after = name-after-destroy held.resources sound.resources.once sound.resources.some sound.resources.names k r e h.target in
-          (l.0, texture-moved h.target _ _ _ held (after ∙ ap (in_found (moved r.lowest (lowest-left r.lowest (without k held)))) same) ∙ l.1)
+          (l.0, texture-moved h.target _ _ _ held (after ∙ ap (in_found (moved r.lowest (lowest_left r.lowest (without k held)))) same) ∙ l.1)
 
   target-imported : (k token : ℕ) (r : Resource) (ts : List Token) → Imported h k token r
       → TargetLives (record { holdings = record { resources = names_with k r held.resources; records = held.records }; target = h.target; tokens = ts })
@@ -400,12 +400,12 @@ module _ (es : List Entry) (h : Progress) (s : SoundProgress es h) where
       })
 
   -- and whatever the bytes left of a stream begin with
-  pub take-sound : (b : List ℕ) → SoundProgress es (take-packet es h b).held
-  unfolding take-packet
-  take-sound b = by_frame (frame-of b)
+  pub take-sound : (b : List ℕ) → SoundProgress es (take_packet es h b).held
+  unfolding take_packet
+  take-sound b = by_frame (frame_of b)
     where
       by_frame : (f : Frame) → SoundProgress es (pass_frame es h b f).held
-      by_frame (Whole op size) = pass-sound (packet-of op (take size b))
+      by_frame (Whole op size) = pass-sound (packet_of op (take size b))
       by_frame (Misframed r) = s
 
 -- ---- a packet that is refused changes neither resources nor records, and leaves the target and the tokens
@@ -423,10 +423,10 @@ refused-packet-keeps-progress es h =
     (λ _ _ _ _ r e. absurd (fine-not-broken r e)) (λ _ _ _ r e. absurd (fine-not-broken r e))
 
 -- the same of the packet that some bytes begin with
-pub refused-keeps-progress : (es : List Entry) (h : Progress) (b : List ℕ) → KeepsIfBroken h (take-packet es h b)
-unfolding take-packet
-refused-keeps-progress es h b = by_frame (frame-of b)
+pub refused-keeps-progress : (es : List Entry) (h : Progress) (b : List ℕ) → KeepsIfBroken h (take_packet es h b)
+unfolding take_packet
+refused-keeps-progress es h b = by_frame (frame_of b)
   where
     by_frame : (f : Frame) → KeepsIfBroken h (pass_frame es h b f)
-    by_frame (Whole op size) = refused-packet-keeps-progress es h (packet-of op (take size b))
+    by_frame (Whole op size) = refused-packet-keeps-progress es h (packet_of op (take size b))
     by_frame (Misframed r) = λ n e. refl

@@ -13,7 +13,7 @@ use Rattle.machine.specs.Machine.{pick}
 use Rattle.rules.specs.Numbers.{no_name}
 use Rattle.rules.specs.Lists.{Found, lookup, index_of, over}
 use Rattle.rules.specs.Lists.Found.{none, found}
-use Rattle.rules.specs.Names.{token_of, renamed, with_lowest, rename, rebind, lower_of, lowest-left, without_token}
+use Rattle.rules.specs.Names.{token_of, renamed, with_lowest, rename, rebind, lower_of, lowest_left, without_token}
 use Rattle.rules.specs.Packets.{handle_of}
 use Rattle.rules.specs.declared.Resource.{Resource}
 use Rattle.rules.specs.declared.Token.{Token}
@@ -171,16 +171,16 @@ lower-of-either a b = by_test (eqb b no_name) (ltb a b)
     by_test false false = inr refl
 
 module _ (low : ℕ) where
-  nothing_left : lowest-left low [] ≡ 0
-  unfolding lowest-left
+  nothing_left : lowest_left low [] ≡ 0
+  unfolding lowest_left
   nothing_left = refl
 
-  left_here : (r : Resource) (rs : List Resource) → r.lowest ≡ low → lowest-left low (r ∷ rs) ≡ lower_of r.handle (lowest-left low rs)
-  unfolding lowest-left
+  left_here : (r : Resource) (rs : List Resource) → r.lowest ≡ low → lowest_left low (r ∷ rs) ≡ lower_of r.handle (lowest_left low rs)
+  unfolding lowest_left
   left_here r rs e = rw (eq-eqb r.lowest low e)
 
-  left-later : (r : Resource) (rs : List Resource) → (r.lowest ≡ low → ⊥) → lowest-left low (r ∷ rs) ≡ lowest-left low rs
-  unfolding lowest-left
+  left-later : (r : Resource) (rs : List Resource) → (r.lowest ≡ low → ⊥) → lowest_left low (r ∷ rs) ≡ lowest_left low rs
+  unfolding lowest_left
   left-later r rs n = rw (ne_eqb r.lowest low n)
 
   -- names are not 0
@@ -195,31 +195,31 @@ module _ (low : ℕ) where
 
   module _ (k : ℕ) (r : Resource) (e : r.lowest ≡ low) where
     -- there is one where a name is left, and it is not above that name
-    pub left-least : (rs : List Resource) → lookup handle_of 0 rs ≡ none → lookup handle_of k rs ≡ found r → (lowest-left low rs ≡ 0 → ⊥) × (lowest-left low rs ≤ k)
+    pub left-least : (rs : List Resource) → lookup handle_of 0 rs ≡ none → lookup handle_of k rs ≡ found r → (lowest_left low rs ≡ 0 → ⊥) × (lowest_left low rs ≤ k)
     left-least [] z f = absurd (none-not-found r (sym (lookup-nil handle_of k) ∙ f))
     left-least (x ∷ rs) z f = ⊎_elim here (λ n. later n (left-least rs (rest-nonzero x rs z) (sym (lookup-later handle_of k x rs n) ∙ f))) (same_or_not x.handle k)
       where
-        here : x.handle ≡ k → (lowest-left low (x ∷ rs) ≡ 0 → ⊥) × (lowest-left low (x ∷ rs) ≤ k)
+        here : x.handle ≡ k → (lowest_left low (x ∷ rs) ≡ 0 → ⊥) × (lowest_left low (x ∷ rs) ≤ k)
         here h =
             let is : x.lowest ≡ low = ap (λ (y : Resource). y.lowest) (found-same (sym (lookup-here handle_of k x rs h) ∙ f)) ∙ e in
             rw (left_here x rs is)
             (⊎_elim
-            (λ q. let nz : x.handle ≡ 0 → ⊥ = first-nonzero x rs z in (λ u. nz (sym q ∙ u), omega (arith, lower-of-first x.handle (lowest-left low rs))))
-            (λ q. (by-rest q, omega (arith, lower-of-first x.handle (lowest-left low rs))))
-            (lower-of-either x.handle (lowest-left low rs)))
+            (λ q. let nz : x.handle ≡ 0 → ⊥ = first-nonzero x rs z in (λ u. nz (sym q ∙ u), omega (arith, lower-of-first x.handle (lowest_left low rs))))
+            (λ q. (by-rest q, omega (arith, lower-of-first x.handle (lowest_left low rs))))
+            (lower-of-either x.handle (lowest_left low rs)))
           where
-            by-rest : lower_of x.handle (lowest-left low rs) ≡ (lowest-left low rs) → lower_of x.handle (lowest-left low rs) ≡ 0 → ⊥
+            by-rest : lower_of x.handle (lowest_left low rs) ≡ (lowest_left low rs) → lower_of x.handle (lowest_left low rs) ≡ 0 → ⊥
             by-rest q u =
-                let rest-is : lowest-left low rs ≡ 0 = sym q ∙ u in
-                let is : lower_of x.handle (lowest-left low rs) ≡ x.handle = rw (eq-eqb (lowest-left low rs) 0 rest-is) in
+                let rest-is : lowest_left low rs ≡ 0 = sym q ∙ u in
+                let is : lower_of x.handle (lowest_left low rs) ≡ x.handle = rw (eq-eqb (lowest_left low rs) 0 rest-is) in
                 first-nonzero x rs z (sym is ∙ u)
 
-        later : (x.handle ≡ k → ⊥) → ((lowest-left low rs ≡ 0 → ⊥) × (lowest-left low rs ≤ k)) → (lowest-left low (x ∷ rs) ≡ 0 → ⊥) × (lowest-left low (x ∷ rs) ≤ k)
+        later : (x.handle ≡ k → ⊥) → ((lowest_left low rs ≡ 0 → ⊥) × (lowest_left low rs ≤ k)) → (lowest_left low (x ∷ rs) ≡ 0 → ⊥) × (lowest_left low (x ∷ rs) ≤ k)
         later n its =
             ⊎_elim
             (λ h. rw (left_here x rs h) (
-              ⊎_elim (λ q. λ u. first-nonzero x rs z (sym q ∙ u)) (λ q. λ u. its.0 (sym q ∙ u)) (lower-of-either x.handle (lowest-left low rs)),
-              omega (arith, lower-of-second x.handle (lowest-left low rs) its.0, its.1),
+              ⊎_elim (λ q. λ u. first-nonzero x rs z (sym q ∙ u)) (λ q. λ u. its.0 (sym q ∙ u)) (lower-of-either x.handle (lowest_left low rs)),
+              omega (arith, lower-of-second x.handle (lowest_left low rs) its.0, its.1),
             ))
             (λ h. rw (left-later x rs h) its)
             (same_or_not x.lowest low)
@@ -228,26 +228,26 @@ module _ (low : ℕ) where
   pub record Left (rs : List Resource) (d : Resource) : Type 0 where
     pub place : ℕ
     pub inside : place < length rs
-    pub named : (get_or rs place d).handle ≡ lowest-left low rs
+    pub named : (get_or rs place d).handle ≡ lowest_left low rs
     pub its : (get_or rs place d).lowest ≡ low
 
-  pub left_member : (rs : List Resource) (d : Resource) → (lowest-left low rs ≡ 0 → ⊥) → Left rs d
+  pub left_member : (rs : List Resource) (d : Resource) → (lowest_left low rs ≡ 0 → ⊥) → Left rs d
   left_member [] d n = absurd (n nothing_left)
   left_member (x ∷ rs) d n = ⊎_elim (here (left_member rs d)) (later (left_member rs d)) (same_or_not x.lowest low)
     where
-      after : ((lowest-left low rs ≡ 0 → ⊥) → Left rs d) → lowest-left low rs ≡ lowest-left low (x ∷ rs) → Left (x ∷ rs) d
+      after : ((lowest_left low rs ≡ 0 → ⊥) → Left rs d) → lowest_left low rs ≡ lowest_left low (x ∷ rs) → Left (x ∷ rs) d
       after of-rest e =
           let m : Left rs d = of-rest (λ u. n (sym e ∙ u)) in
           record { place = suc m.place; inside = omega (arith, m.inside); named = m.named ∙ e; its = m.its }
 
-      here : ((lowest-left low rs ≡ 0 → ⊥) → Left rs d) → x.lowest ≡ low → Left (x ∷ rs) d
+      here : ((lowest_left low rs ≡ 0 → ⊥) → Left rs d) → x.lowest ≡ low → Left (x ∷ rs) d
       here of-rest h =
           ⊎_elim
           (λ q. record { place = 0; inside = omega arith; named = sym (left_here x rs h ∙ q); its = h })
           (λ q. after of-rest (sym (left_here x rs h ∙ q)))
-          (lower-of-either x.handle (lowest-left low rs))
+          (lower-of-either x.handle (lowest_left low rs))
 
-      later : ((lowest-left low rs ≡ 0 → ⊥) → Left rs d) → (x.lowest ≡ low → ⊥) → Left (x ∷ rs) d
+      later : ((lowest_left low rs ≡ 0 → ⊥) → Left rs d) → (x.lowest ≡ low → ⊥) → Left (x ∷ rs) d
       later of-rest h = after of-rest (sym (left-later x rs h))
 
 -- ---- a token released: the first that has the number, spent

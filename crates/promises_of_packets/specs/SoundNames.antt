@@ -8,7 +8,7 @@ use Rattle.machine.specs.Machine.{pick}
 use Rattle.rules.specs.Numbers.{most_tokens, no_name}
 use Rattle.rules.specs.Lists.{Found, lookup, index_of, pushed, removed}
 use Rattle.rules.specs.Lists.Found.{none, found}
-use Rattle.rules.specs.Names.{token_of, shareable, with_lowest, under, rename, rebind, lower, lowest-left, names_left, tokens_left, names_with, tokens_with, is_new, with_token, without_token, renamed}
+use Rattle.rules.specs.Names.{token_of, shareable, with_lowest, under, rename, rebind, lower, lowest_left, names_left, tokens_left, names_with, tokens_with, is_new, with_token, without_token, renamed}
 use Rattle.rules.specs.Packets.{handle_of, bound_in, bound}
 use Rattle.rules.specs.declared.Resource.{Resource}
 use Rattle.rules.specs.declared.Token.{Token}
@@ -236,7 +236,7 @@ module _ (rs : List Resource) (once : Once handle_of rs) (some : lookup handle_o
   low = r.lowest
 
   abbrev new : ℕ
-  new = lowest-left low left
+  new = lowest_left low left
 
   here : index_of handle_of k rs < length rs
   here = found-place handle_of k rs r e

@@ -9,15 +9,15 @@ use Rattle.rules.specs.Numbers.{done, other_memory, nothing_waits}
 use Rattle.rules.specs.Lists.{lookup, nth}
 use Rattle.rules.specs.Lists.Found.{found}
 use Rattle.rules.specs.State.{State, World, with_regs}
-use Rattle.rules.specs.Registers.{register, with_low, with_high, bit_of, with_ring, with_ringsize, with_enabled, with_page, with_irqenable, with_doorbell, acknowledged, reset-registers, reset, controlled, Write, write_offset, gives, writable, write-of}
+use Rattle.rules.specs.Registers.{register, with_low, with_high, bit_of, with_ring, with_ringsize, with_enabled, with_page, with_irqenable, with_doorbell, acknowledged, reset_registers, reset, controlled, Write, write_offset, gives, writable, write_of}
 use Rattle.rules.specs.Steps.{run_for, waits, answered}
-use Rattle.rules.specs.Calls.{lent_another, at_rest, ending, Wrote, wrote, call-write, valued, call-read, not_run, Ran, ran, call-run, record_read, call-record, Answered, answer-alone, and_run, call-answer}
+use Rattle.rules.specs.Calls.{lent_another, at_rest, ending, Wrote, wrote, call_write, valued, call_read, not_run, Ran, ran, call_run, record_read, call_record, Answered, answer_alone, and_run, call_answer}
 use Rattle.rules.specs.declared.Registers.{Registers}
 use Rattle.rules.specs.declared.Ended.TheVariants.{Idle, Waiting, Paused}
 use Rattle.promises_of_units.specs.Sound.{SoundState, answer-keeps-sound}
 use Rattle.promises_of_units.specs.Called.{Call, after}
 use Rattle.promises_of_units.specs.Called.Call.{writes, reads, runs, records, answers}
-use Rattle.promises_of_units.specs.Replies.{answering, reply-to}
+use Rattle.promises_of_units.specs.Replies.{answering, reply_to}
 use Rattle.promises_of_same_desks.specs.Desks.{SameDesk, SameWorld, same-waits, same_rest, same-handed-out}
 use Rattle.promises_of_same_desks.specs.Desks.SameWork.{both_rest}
 use Rattle.promises_of_same_desks.specs.Units.{SameOut, run-same, answered-same}
@@ -33,7 +33,7 @@ module _ (s t : State) (d : SameDesk s t) where
   reset-same enabled =
       record {
         memory = d.memory;
-        regs = ap (reset-registers enabled) d.regs;
+        regs = ap (reset_registers enabled) d.regs;
         belongings = record { resources = λ k. refl; tokens = λ k. refl };
         work = both_rest;
       }
@@ -79,18 +79,18 @@ module _ (s t : State) (d : SameDesk s t) where
       (both 0x304 (registers-same s t d (with_irqenable v))
       (both 0x308 (registers-same s t d (acknowledged v)) no_more))))))))
 
-  pub write_same : (offset v : ℕ) → SameWrote (call-write s offset v) (call-write t offset v)
-  unfolding call-write write-of
+  pub write_same : (offset v : ℕ) → SameWrote (call_write s offset v) (call_write t offset v)
+  unfolding call_write write_of
   write_same offset v = lookup-same offset (all_same v)
 
   -- ---- register reads and record calls: nothing changes, and the same is said
 
-  pub read_same : (offset : ℕ) → call-read s offset ≡ call-read t offset
-  unfolding call-read
+  pub read_same : (offset : ℕ) → call_read s offset ≡ call_read t offset
+  unfolding call_read
   read_same offset = ap (λ (r : Registers). valued (register r offset)) d.regs
 
-  pub record_same : (i : ℕ) → call-record s i ≡ call-record t i
-  unfolding call-record
+  pub record_same : (i : ℕ) → call_record s i ≡ call_record t i
+  unfolding call_record
   record_same i = ap (λ l. record_read (nth l i)) (same-handed-out d.work)
 
   pub ending-same : ending s ≡ ending t
@@ -122,14 +122,14 @@ picked : (a b : Bool) (x y p q : Ran) → a ≡ b → SameRan x y → SameRan p 
 picked a true x y p q e h k = rw e h
 picked a false x y p q e h k = rw e k
 
-pub call-run-same : (w v : World) → SoundState w.state → SoundState v.state → SameWorld w v → (n : ℕ) → SameRan (call-run w n) (call-run v n)
-unfolding call-run
+pub call-run-same : (w v : World) → SoundState w.state → SoundState v.state → SameWorld w v → (n : ℕ) → SameRan (call_run w n) (call_run v n)
+unfolding call_run
 call-run-same w v s t d n =
     picked (lent_another w) (lent_another v) _ _ _ _ (lent_same w v d) (not-run-same w v d other_memory) (ran-same (run_for n w) (run_for n v) (run-same n w v s t d))
 
 pub call-answer-same : (w v : World) → SoundState w.state → SoundState v.state → SameWorld w v → (good : Bool) (n : ℕ)
-    → SameRan (call-answer w good n) (call-answer v good n)
-unfolding call-answer answer-alone
+    → SameRan (call_answer w good n) (call_answer v good n)
+unfolding call_answer answer_alone
 call-answer-same w v s t d good n = by_tests (lent_another w) (lent_another v) (waits w.state) (waits v.state) (lent_same w v d) (same-waits d.state.work)
   where
     reply : World → Bool → Bool → Answered
@@ -147,19 +147,19 @@ call-answer-same w v s t d good n = by_tests (lent_another w) (lent_another v) (
 
 -- the same is said, and the same is left
 pub record SameCall (c : Call) (w v : World) : Type 0 where
-  pub reply : reply-to c w ≡ reply-to c v
+  pub reply : reply_to c w ≡ reply_to c v
   pub world : SameWorld (after c w) (after c v)
 
 pub call_same : (c : Call) (w v : World) → SoundState w.state → SoundState v.state → SameWorld w v → SameCall c w v
-unfolding reply-to after
+unfolding reply_to after
 call_same (writes offset x) w v s t d =
-    let e : SameWrote (call-write w.state offset x) (call-write v.state offset x) = write_same w.state v.state d.state offset x in
+    let e : SameWrote (call_write w.state offset x) (call_write v.state offset x) = write_same w.state v.state d.state offset x in
     record { reply = ap answering e.answer; world = record { state = e.state; mem = d.mem } }
 call_same (reads offset) w v s t d = record { reply = rw (read_same w.state v.state d.state offset); world = d }
 call_same (runs n) w v s t d =
-    let e : SameRan (call-run w n) (call-run v n) = call-run-same w v s t d n in
+    let e : SameRan (call_run w n) (call_run v n) = call-run-same w v s t d n in
     record { reply = rw (e.answer, e.units, e.ended); world = e.world }
 call_same (records i) w v s t d = record { reply = rw (record_same w.state v.state d.state i); world = d }
 call_same (answers good n) w v s t d =
-    let e : SameRan (call-answer w good n) (call-answer v good n) = call-answer-same w v s t d good n in
+    let e : SameRan (call_answer w good n) (call_answer v good n) = call-answer-same w v s t d good n in
     record { reply = rw (e.answer, e.units, e.ended); world = e.world }

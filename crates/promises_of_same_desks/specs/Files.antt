@@ -15,8 +15,8 @@ use Rattle.rules.specs.Packets.{handle_of}
 use Rattle.rules.specs.State.{Work, State}
 use Rattle.rules.specs.State.Work.{resting}
 use Rattle.rules.specs.Calls.{at_rest}
-use Rattle.rules.specs.Saved.{is_other_name, other-name-among, beyond-form-1, beyond, saved, Saved, not_saved, call-save}
-use Rattle.rules.specs.Loaded.{bad-place, loaded, Loaded, loaded_or, call-load}
+use Rattle.rules.specs.Saved.{is_other_name, other_name_among, beyond_form_1, beyond, saved, Saved, not_saved, call_save}
+use Rattle.rules.specs.Loaded.{bad_place, loaded, Loaded, loaded_or, call_load}
 use Rattle.rules.specs.declared.Resource.{Resource}
 use Rattle.rules.specs.declared.Registers.{Registers}
 use Rattle.rules.specs.declared.Form.{Form}
@@ -40,13 +40,13 @@ true-or-not false true f g = g refl
 true-or-not false false f g = refl
 
 -- one that is found is among them
-found_among : (k : ℕ) (rs : List Resource) (x : Resource) → lookup handle_of k rs ≡ found x → is_other_name x ≡ true → other-name-among rs ≡ true
-unfolding other-name-among
+found_among : (k : ℕ) (rs : List Resource) (x : Resource) → lookup handle_of k rs ≡ found x → is_other_name x ≡ true → other_name_among rs ≡ true
+unfolding other_name_among
 found_among k [] x e h = absurd (none-not-found x (sym (lookup-nil handle_of k) ∙ e))
 found_among k (r ∷ rs) x e h =
     ⊎_elim
-    (λ q. let same : r ≡ x = found-same (sym (lookup-here handle_of k r rs q) ∙ e) in left (is_other_name r) (other-name-among rs) (ap is_other_name same ∙ h))
-    (λ q. right (is_other_name r) (other-name-among rs) (found_among k rs x (sym (lookup-later handle_of k r rs q) ∙ e) h))
+    (λ q. let same : r ≡ x = found-same (sym (lookup-here handle_of k r rs q) ∙ e) in left (is_other_name r) (other_name_among rs) (ap is_other_name same ∙ h))
+    (λ q. right (is_other_name r) (other_name_among rs) (found_among k rs x (sym (lookup-later handle_of k r rs q) ∙ e) h))
     (same_or_not r.handle k)
   where
     left : (a b : Bool) → a ≡ true → a || b ≡ true
@@ -63,12 +63,12 @@ record OtherName (rs : List Resource) : Type 0 where
   here : lookup handle_of key rs ≡ found what
   other : is_other_name what ≡ true
 
-among-found : (rs : List Resource) → Once handle_of rs → other-name-among rs ≡ true → OtherName rs
-unfolding other-name-among
+among-found : (rs : List Resource) → Once handle_of rs → other_name_among rs ≡ true → OtherName rs
+unfolding other_name_among
 among-found [] o e = absurd (let z : ◌≡◌ {A = ℕ} 0 1 = cc in omega arith)
 among-found (r ∷ rs) o e = by_first (is_other_name r) refl e (among-found rs (once-later handle_of r rs o))
   where
-    by_first : (b : Bool) → is_other_name r ≡ b → b || other-name-among rs ≡ true → (other-name-among rs ≡ true → OtherName rs) → OtherName (r ∷ rs)
+    by_first : (b : Bool) → is_other_name r ≡ b → b || other_name_among rs ≡ true → (other_name_among rs ≡ true → OtherName rs) → OtherName (r ∷ rs)
     by_first true h i later = record { key = r.handle; what = r; here = lookup-here handle_of r.handle r rs refl; other = h }
     by_first false h i later =
         let m : OtherName rs = later i in
@@ -82,9 +82,9 @@ among-found (r ∷ rs) o e = by_first (is_other_name r) refl e (among-found rs (
         }
 
 module _ (rs qs : List Resource) (o : Once handle_of rs) (p : Once handle_of qs) (same : SameMap handle_of rs qs) where
-  other-name-same : other-name-among rs ≡ other-name-among qs
+  other-name-same : other_name_among rs ≡ other_name_among qs
   other-name-same =
-      true-or-not (other-name-among rs) (other-name-among qs)
+      true-or-not (other_name_among rs) (other_name_among qs)
       (λ e. let m : OtherName rs = among-found rs o e in found_among m.key qs m.what (sym (same m.key) ∙ m.here) m.other)
       (λ e. let m : OtherName qs = among-found qs p e in found_among m.key rs m.what (same m.key ∙ m.here) m.other)
 
@@ -96,11 +96,11 @@ same-at-rest s t d e f = record { memory = d.memory; regs = d.regs; resources = 
 
 module _ (s t : State) (a : SoundState s) (b : SoundState t) (d : SameDesk s t) where
   beyond-same : (f : Form) → beyond f s ≡ beyond f t
-  unfolding beyond-form-1
+  unfolding beyond_form_1
   beyond-same One =
       let n : length s.belongings.tokens ≡ length t.belongings.tokens =
       same_length token_of s.belongings.tokens t.belongings.tokens a.belongings.tokens.once b.belongings.tokens.once d.belongings.tokens in
-      let o : other-name-among s.belongings.resources ≡ other-name-among t.belongings.resources =
+      let o : other_name_among s.belongings.resources ≡ other_name_among t.belongings.resources =
       other-name-same s.belongings.resources t.belongings.resources a.belongings.resources.once b.belongings.resources.once d.belongings.resources in
       let r : s.regs.error.detail ≡ t.regs.error.detail = ap (λ (r : Registers). r.error.detail) d.regs in
       rw (n, o, r)
@@ -112,8 +112,8 @@ module _ (s t : State) (a : SoundState s) (b : SoundState t) (d : SameDesk s t) 
   rests-both (both_at_packets j s at es h) e = absurd (let z : ◌≡◌ {A = ℕ} 0 1 = cc in omega arith)
   rests-both (both_wait j es h) e = absurd (let z : ◌≡◌ {A = ℕ} 0 1 = cc in omega arith)
 
-  pub save-same : (f : Form) (buffer : List ℕ) → call-save f s buffer ≡ call-save f t buffer
-  unfolding call-save
+  pub save-same : (f : Form) (buffer : List ℕ) → call_save f s buffer ≡ call_save f t buffer
+  unfolding call_save
   save-same f buffer = by-rest (at_rest t.work) refl
     where
       reply : Bool → Bool → List ℕ → Saved
@@ -122,7 +122,7 @@ module _ (s t : State) (a : SoundState s) (b : SoundState t) (d : SameDesk s t) 
           (pick other (not_saved not_in_form buffer)
           (pick (ltb (length buffer) (length file)) (not_saved too_short buffer) (record { answer = done; length = length file; buffer = over 0 file buffer })))
 
-      by-rest : (r : Bool) → at_rest t.work ≡ r → call-save f s buffer ≡ call-save f t buffer
+      by-rest : (r : Bool) → at_rest t.work ≡ r → call_save f s buffer ≡ call_save f t buffer
       by-rest true e =
           let k = rests-both d.work e in
           ap (λ x. reply x (beyond f s) (saved f s)) (same_rest d.work)
@@ -137,27 +137,27 @@ pub record SameLoaded (l m : Loaded) : Type 0 where
   pub place : l.place ≡ m.place
   pub state : SameDesk l.state m.state
 
-pub load_same : (s t : State) → SameDesk s t → (b : List ℕ) → SameLoaded (call-load s b) (call-load t b)
-unfolding call-load
-load_same s t d b = by_place (bad-place b)
+pub load_same : (s t : State) → SameDesk s t → (b : List ℕ) → SameLoaded (call_load s b) (call_load t b)
+unfolding call_load
+load_same s t d b = by_place (bad_place b)
   where
     by_place : (f : Found ℕ) → SameLoaded (loaded_or f b s) (loaded_or f b t)
     by_place none = record { answer = refl; place = refl; state = desk-itself (loaded b) }
     by_place (found p) = record { answer = refl; place = refl; state = d }
 
-pub load-keeps-sound : (s : State) → SoundState s → (b : List ℕ) → SoundState (call-load s b).state
-unfolding call-load
-load-keeps-sound s k b = by_place (bad-place b) refl
+pub load-keeps-sound : (s : State) → SoundState s → (b : List ℕ) → SoundState (call_load s b).state
+unfolding call_load
+load-keeps-sound s k b = by_place (bad_place b) refl
   where
-    by_place : (f : Found ℕ) → bad-place b ≡ f → SoundState (loaded_or f b s).state
+    by_place : (f : Found ℕ) → bad_place b ≡ f → SoundState (loaded_or f b s).state
     by_place none e = loaded-sound b e
     by_place (found p) e = k
 
 -- and one that is done leaves a sound device, whatever it was
-pub load-is-sound : (s : State) (b : List ℕ) → (call-load s b).answer ≡ done → SoundState (call-load s b).state
-unfolding call-load
-load-is-sound s b = by_place (bad-place b) refl
+pub load-is-sound : (s : State) (b : List ℕ) → (call_load s b).answer ≡ done → SoundState (call_load s b).state
+unfolding call_load
+load-is-sound s b = by_place (bad_place b) refl
   where
-    by_place : (f : Found ℕ) → bad-place b ≡ f → (loaded_or f b s).answer ≡ done → SoundState (loaded_or f b s).state
+    by_place : (f : Found ℕ) → bad_place b ≡ f → (loaded_or f b s).answer ≡ done → SoundState (loaded_or f b s).state
     by_place none e h = loaded-sound b e
     by_place (found p) e h = absurd (omega arith)

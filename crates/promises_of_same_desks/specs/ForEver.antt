@@ -6,8 +6,8 @@ use Rattle.rules.specs.Numbers.{done}
 use Rattle.rules.specs.Lists.Found.{none}
 use Rattle.rules.specs.State.{State}
 use Rattle.rules.specs.Calls.{at_rest}
-use Rattle.rules.specs.Saved.{saved, Saved, not_saved, call-save}
-use Rattle.rules.specs.Loaded.{bad-place, loaded, call-load, call-move}
+use Rattle.rules.specs.Saved.{saved, Saved, not_saved, call_save}
+use Rattle.rules.specs.Loaded.{bad_place, loaded, call_load, call_move}
 use Rattle.rules.specs.declared.Form.{Form}
 use Rattle.rules.specs.declared.Form.TheVariants.{Two}
 use Rattle.promises_of_submissions.specs.LentBytes.{OfBytes}
@@ -22,8 +22,8 @@ use Rattle.promises_of_units.specs.Sound.{SoundState}
 use Rattle.promises_of_units.specs.LoadedSound.{loaded-sound}
 use Rattle.promises_of_units.specs.Called.{Call, after}
 use Rattle.promises_of_units.specs.Ranges.{call-keeps-sound}
-use Rattle.promises_of_units.specs.Replies.{Reply, reply-to}
-use Rattle.promises_of_units.specs.Asked.{Asked, left, left-all}
+use Rattle.promises_of_units.specs.Replies.{Reply, reply_to}
+use Rattle.promises_of_units.specs.Asked.{Asked, left, left_all}
 use Rattle.promises_of_units.specs.Asked.Asked.{calls, saves, loads, moves}
 use Rattle.promises_of_same_desks.specs.Desks.{SameDesk, SameWorld, same-desk}
 use Rattle.promises_of_same_desks.specs.Calls.{SameCall, call_same}
@@ -37,15 +37,15 @@ pub data Told : Type 0 where
   judged : ℕ → ℕ → Told
 
 unfoldable pub told : Asked → State → Told
-told (calls c m) s = replied (reply-to c (lent s m)) (after c (lent s m)).mem
-told (saves f buffer) s = filed (call-save f s buffer)
-told (loads b) s = judged (call-load s b).answer (call-load s b).place
-told (moves b buffer) s = filed (call-move b buffer)
+told (calls c m) s = replied (reply_to c (lent s m)) (after c (lent s m)).mem
+told (saves f buffer) s = filed (call_save f s buffer)
+told (loads b) s = judged (call_load s b).answer (call_load s b).place
+told (moves b buffer) s = filed (call_move b buffer)
 
 -- one after the other: nothing is asked of how the memories hang together
-unfoldable pub told-all : List Asked → State → List Told
-told-all [] s = []
-told-all (a ∷ qs) s = told a s ∷ told-all qs (left a s)
+unfoldable pub told_all : List Asked → State → List Told
+told_all [] s = []
+told_all (a ∷ qs) s = told a s ∷ told_all qs (left a s)
 
 -- ---- one
 
@@ -56,11 +56,11 @@ pub told_same : (a : Asked) (s t : State) → SoundState s → SoundState t → 
 unfolding told
 told_same (calls c m) s t x y d =
     let k : SameCall c (lent s m) (lent t m) = call_same c (lent s m) (lent t m) x y (lent_same s t m d) in
-    ap (λ r. replied r (after c (lent s m)).mem) k.reply ∙ ap (replied (reply-to c (lent t m))) k.world.mem
+    ap (λ r. replied r (after c (lent s m)).mem) k.reply ∙ ap (replied (reply_to c (lent t m))) k.world.mem
 told_same (saves f buffer) s t x y d = ap filed (save-same s t x y d f buffer)
 told_same (loads b) s t x y d =
-    let k : SameLoaded (call-load s b) (call-load t b) = load_same s t d b in
-    ap (λ n. judged n (call-load s b).place) k.answer ∙ ap (judged (call-load t b).answer) k.place
+    let k : SameLoaded (call_load s b) (call_load t b) = load_same s t d b in
+    ap (λ n. judged n (call_load s b).place) k.answer ∙ ap (judged (call_load t b).answer) k.place
 told_same (moves b buffer) s t x y d = refl
 
 pub left-same : (a : Asked) (s t : State) → SoundState s → SoundState t → SameDesk s t → SameDesk (left a s) (left a t)
@@ -81,18 +81,18 @@ left-sound (moves b buffer) s k = k
 
 -- every one of them is told the same, and they are the same desk after it
 pub record SameForEver (s t : State) : Type 0 where
-  pub told : (qs : List Asked) → told-all qs s ≡ told-all qs t
-  pub left : (qs : List Asked) → SameDesk (left-all qs s) (left-all qs t)
+  pub told : (qs : List Asked) → told_all qs s ≡ told_all qs t
+  pub left : (qs : List Asked) → SameDesk (left_all qs s) (left_all qs t)
 
-all_told : (qs : List Asked) (s t : State) → SoundState s → SoundState t → SameDesk s t → told-all qs s ≡ told-all qs t
-unfolding told-all
+all_told : (qs : List Asked) (s t : State) → SoundState s → SoundState t → SameDesk s t → told_all qs s ≡ told_all qs t
+unfolding told_all
 all_told [] s t x y d = refl
 all_told (a ∷ qs) s t x y d =
-    ap (λ r. r ∷ told-all qs (left a s)) (told_same a s t x y d)
+    ap (λ r. r ∷ told_all qs (left a s)) (told_same a s t x y d)
     ∙ ap (λ l. told a t ∷ l) (all_told qs (left a s) (left a t) (left-sound a s x) (left-sound a t y) (left-same a s t x y d))
 
-all_left : (qs : List Asked) (s t : State) → SoundState s → SoundState t → SameDesk s t → SameDesk (left-all qs s) (left-all qs t)
-unfolding left-all
+all_left : (qs : List Asked) (s t : State) → SoundState s → SoundState t → SameDesk s t → SameDesk (left_all qs s) (left_all qs t)
+unfolding left_all
 all_left [] s t x y d = d
 all_left (a ∷ qs) s t x y d = all_left qs (left a s) (left a t) (left-sound a s x) (left-sound a t y) (left-same a s t x y d)
 
@@ -129,13 +129,13 @@ saved_in (judged answer place) = not_saved 0 []
 
 -- one save tells them apart, unless they are the same device
 pub told-the-same-is-the-same : (s t : State) → SoundState s → SoundState t → Fits s → Fits t → at_rest s.work ≡ true
-    → ((qs : List Asked) → told-all qs s ≡ told-all qs t) → SameDevice s t
-unfolding told-all told first_told saved_in
+    → ((qs : List Asked) → told_all qs s ≡ told_all qs t) → SameDevice s t
+unfolding told_all told first_told saved_in
 told-the-same-is-the-same s t x y fits fits' rest same =
     let room : List ℕ = saved Two s in
-    let e : call-save Two s room ≡ call-save Two t room = ap (λ l. saved_in (first_told l)) (same (saves Two room ∷ [])) in
-    let a : (call-save Two s room).answer ≡ done = ap (λ (z : Saved). z.answer) (save-done Two s room rest refl (omega arith)) in
-    let b : (call-save Two t room).answer ≡ done = sym (ap (λ (z : Saved). z.answer) e) ∙ a in
+    let e : call_save Two s room ≡ call_save Two t room = ap (λ l. saved_in (first_told l)) (same (saves Two room ∷ [])) in
+    let a : (call_save Two s room).answer ≡ done = ap (λ (z : Saved). z.answer) (save-done Two s room rest refl (omega arith)) in
+    let b : (call_save Two t room).answer ≡ done = sym (ap (λ (z : Saved). z.answer) e) ∙ a in
     one-file-same-devices Two s t (sound-is-savable s x fits) (sound-is-savable t y fits') rest ((save-done-exactly Two t room).0 b).rest refl refl
     (sym (done-save-keeps-later-bytes Two s room a).file
     ∙ (ap (λ (z : Saved). take z.length z.buffer) e ∙ (done-save-keeps-later-bytes Two t room b).file))
@@ -143,16 +143,16 @@ told-the-same-is-the-same s t x y fits fits' rest same =
 -- ---- a desk that was saved, and loaded elsewhere
 
 -- into whatever device t it is loaded: from then on it is told what the saved one would have been told
-pub a-saved-desk-goes-on-elsewhere : (f : Form) (s t : State) → SoundState s → Fits s → (buffer : List ℕ) → (call-save f s buffer).answer ≡ done
-    → SameForEver (call-load t (take (call-save f s buffer).length (call-save f s buffer).buffer)).state s
+pub a-saved-desk-goes-on-elsewhere : (f : Form) (s t : State) → SoundState s → Fits s → (buffer : List ℕ) → (call_save f s buffer).answer ≡ done
+    → SameForEver (call_load t (take (call_save f s buffer).length (call_save f s buffer).buffer)).state s
 a-saved-desk-goes-on-elsewhere f s t k fits buffer e =
-    let b : List ℕ = take (call-save f s buffer).length (call-save f s buffer).buffer in
-    let l : LoadedBack s (call-load t b) = load-of-save f s (sound-is-savable s k fits) buffer e t in
-    same-devices-for-ever (call-load t b).state s (load-is-sound t b l.answer) k l.device
+    let b : List ℕ = take (call_save f s buffer).length (call_save f s buffer).buffer in
+    let l : LoadedBack s (call_load t b) = load-of-save f s (sound-is-savable s k fits) buffer e t in
+    same-devices-for-ever (call_load t b).state s (load-is-sound t b l.answer) k l.device
 
 -- "Loading either gives the same device": the device of a file and that of the file it was moved to behave the same for ever
-pub a-moved-desk-goes-on-elsewhere : (b buffer : List ℕ) (t : State) → OfBytes b → bad-place b ≡ none → (call-move b buffer).answer ≡ done
-    → SameForEver (call-load t (move_wrote b buffer)).state (loaded b)
+pub a-moved-desk-goes-on-elsewhere : (b buffer : List ℕ) (t : State) → OfBytes b → bad_place b ≡ none → (call_move b buffer).answer ≡ done
+    → SameForEver (call_load t (move_wrote b buffer)).state (loaded b)
 a-moved-desk-goes-on-elsewhere b buffer t o good e =
-    let l : LoadedBack (loaded b) (call-load t (move_wrote b buffer)) = load-of-moved b buffer o e t in
-    same-devices-for-ever (call-load t (move_wrote b buffer)).state (loaded b) (load-is-sound t (move_wrote b buffer) l.answer) (loaded-sound b good) l.device
+    let l : LoadedBack (loaded b) (call_load t (move_wrote b buffer)) = load-of-moved b buffer o e t in
+    same-devices-for-ever (call_load t (move_wrote b buffer)).state (loaded b) (load-is-sound t (move_wrote b buffer) l.answer) (loaded-sound b good) l.device

@@ -6,7 +6,7 @@ use Rattle.std.proofs.Common.{sym, ap, ◌∙◌, inl, inr, ⊎_elim, arith}
 use Rattle.machine.specs.Machine.{pick}
 use Rattle.rules.specs.Lists.{lookup, index_of, pushed, removed}
 use Rattle.rules.specs.Lists.Found.{none, found}
-use Rattle.rules.specs.Names.{token_of, rename, rebind, lowest-left, is_new, with_token, without_token}
+use Rattle.rules.specs.Names.{token_of, rename, rebind, lowest_left, is_new, with_token, without_token}
 use Rattle.rules.specs.Packets.{handle_of}
 use Rattle.rules.specs.declared.Resource.{Resource}
 use Rattle.rules.specs.declared.Token.{Token}
@@ -77,27 +77,27 @@ same-renamed old new rs qs same k =
     lookup-rename old new k rs ∙ (ap (in_found (moved old new)) (same k) ∙ sym (lookup-rename old new k qs))
 
 module _ (low : ℕ) where
-  nothing_left : lowest-left low [] ≡ 0
-  unfolding lowest-left
+  nothing_left : lowest_left low [] ≡ 0
+  unfolding lowest_left
   nothing_left = refl
 
   -- a name that is left in one is left in the other, so the lowest of the other is not above the lowest of the one
-  not-above : (rs qs : List Resource) → Once handle_of rs → lookup handle_of 0 qs ≡ none → SameMap handle_of rs qs → (lowest-left low rs ≡ 0 → ⊥)
-      → (lowest-left low qs ≡ 0 → ⊥) × (lowest-left low qs ≤ lowest-left low rs)
+  not-above : (rs qs : List Resource) → Once handle_of rs → lookup handle_of 0 qs ≡ none → SameMap handle_of rs qs → (lowest_left low rs ≡ 0 → ⊥)
+      → (lowest_left low qs ≡ 0 → ⊥) × (lowest_left low qs ≤ lowest_left low rs)
   not-above [] qs o z same some = absurd (some nothing_left)
   not-above (r ∷ rs) qs o z same some =
       let m : Left low (r ∷ rs) r = left_member low (r ∷ rs) r some in
-      left-least low (lowest-left low (r ∷ rs)) (get_or (r ∷ rs) m.place r) m.its qs z
-      (sym (same (lowest-left low (r ∷ rs))) ∙ lookup-once handle_of (lowest-left low (r ∷ rs)) (r ∷ rs) o r m.place m.inside m.named)
+      left-least low (lowest_left low (r ∷ rs)) (get_or (r ∷ rs) m.place r) m.its qs z
+      (sym (same (lowest_left low (r ∷ rs))) ∙ lookup-once handle_of (lowest_left low (r ∷ rs)) (r ∷ rs) o r m.place m.inside m.named)
 
   pub same-lowest : (rs qs : List Resource) → Once handle_of rs → Once handle_of qs → lookup handle_of 0 rs ≡ none → SameMap handle_of rs qs
-      → lowest-left low rs ≡ lowest-left low qs
-  same-lowest rs qs o p y same = by_both (same_or_not (lowest-left low rs) 0) (same_or_not (lowest-left low qs) 0)
+      → lowest_left low rs ≡ lowest_left low qs
+  same-lowest rs qs o p y same = by_both (same_or_not (lowest_left low rs) 0) (same_or_not (lowest_left low qs) 0)
     where
       z : lookup handle_of 0 qs ≡ none
       z = sym (same 0) ∙ y
 
-      by_both : (lowest-left low rs ≡ 0) ⊎ (lowest-left low rs ≡ 0 → ⊥) → (lowest-left low qs ≡ 0) ⊎ (lowest-left low qs ≡ 0 → ⊥) → lowest-left low rs ≡ lowest-left low qs
+      by_both : (lowest_left low rs ≡ 0) ⊎ (lowest_left low rs ≡ 0 → ⊥) → (lowest_left low qs ≡ 0) ⊎ (lowest_left low qs ≡ 0 → ⊥) → lowest_left low rs ≡ lowest_left low qs
       by_both (inl a) (inl b) = a ∙ sym b
       by_both (inl a) (inr b) = absurd ((not-above qs rs p y (λ k. sym (same k)) b).0 a)
       by_both (inr a) (inl b) = absurd ((not-above rs qs o z same a).0 b)

@@ -8,11 +8,11 @@ use Rattle.rules.specs.Numbers.{bad_handle, too_many, bad_shape, not_in_table, p
 use Rattle.rules.specs.Lists.{Found, lookup, index_of}
 use Rattle.rules.specs.Lists.Found.{none, found}
 use Rattle.rules.specs.Judging.{refusal}
-use Rattle.rules.specs.Names.{token_of, shareable, under, rename, rebind, lower, lowest-left, names_left, tokens_left, names_with, of_another, is_new}
-use Rattle.rules.specs.StatePackets.{bad-viewport, bad-clear, bad-sides, clip-of}
+use Rattle.rules.specs.Names.{token_of, shareable, under, rename, rebind, lower, lowest_left, names_left, tokens_left, names_with, of_another, is_new}
+use Rattle.rules.specs.StatePackets.{bad_viewport, bad_clear, bad_sides, clip_of}
 use Rattle.rules.specs.Table.{matching}
-use Rattle.rules.specs.Stream.{frame-of, packet-of}
-use Rattle.rules.specs.Packets.{Holdings, Outcome, accepted, refuse, full, handle_of, live, is_live, on_live, on_kind, on_buffer, on_entry, backed, range_of, recorded, hand-out, stored, create-hosted, create-backed, create, on-buffer-packet, on-texture-packet, without, on-destroy-packet, on-dirty-packet, write-back, on-copy-packet, live-texture, on_texture, on-target-packet, on-viewport-packet, on-clear-packet, on-scissor-packet, on-export-packet, bound_in, bound, on_bound, on-import-packet, on-release-packet, apply, Progress, target-after, tokens-after, Passed, passed, pass, pass_frame, take-packet}
+use Rattle.rules.specs.Stream.{frame_of, packet_of}
+use Rattle.rules.specs.Packets.{Holdings, Outcome, accepted, refuse, full, handle_of, live, is_live, on_live, on_kind, on_buffer, on_entry, backed, range_of, recorded, hand_out, stored, create_hosted, create_backed, create, on_buffer_packet, on_texture_packet, without, on_destroy_packet, on_dirty_packet, write_back, on_copy_packet, live_texture, on_texture, on_target_packet, on_viewport_packet, on_clear_packet, on_scissor_packet, on_export_packet, bound_in, bound, on_bound, on_import_packet, on_release_packet, apply, Progress, target_after, tokens_after, Passed, passed, pass, pass_frame, take_packet}
 use Rattle.rules.specs.declared.Entry.{Entry}
 use Rattle.rules.specs.declared.Resource.{Resource}
 use Rattle.rules.specs.declared.Token.{Token}
@@ -98,7 +98,7 @@ module _ (P : Outcome → Outcome → Type 0) (g h : Holdings)
     module _ (es : List Entry) (few : length g.resources ≡ length h.resources) (stores : (r : Resource) → P (accepted (stored r g)) (accepted (stored r h)))
         (backs-up : (r : Resource) (c : Record) → P (accepted (recorded c (stored r g))) (accepted (recorded c (stored r h)))) where
       create-both : (good : Bool) (r : Resource) → P (create es g good r) (create es h good r)
-      unfolding create create-hosted create-backed
+      unfolding create create_hosted create_backed
       create-both good r =
           refuse-both bad_handle _ _ _ _ (ap (λ f. eqb r.handle 0 || is_live f) (same r.handle))
           (refuse-both bad_shape (not good) (not good) _ _ refl
@@ -111,12 +111,12 @@ module _ (P : Outcome → Outcome → Type 0) (g h : Holdings)
           (refuse-both too_many (full g.resources) (full h.resources) _ _ (ap (leb most) few) (stores r))))
 
     module _ (es : List Entry) (keeps : P (accepted g) (accepted h)) (hands : (c : Record) → P (accepted (recorded c g)) (accepted (recorded c h))) where
-      handed-both : (c : Record) → P (hand-out c g) (hand-out c h)
-      unfolding hand-out
+      handed-both : (c : Record) → P (hand_out c g) (hand_out c h)
+      unfolding hand_out
       handed-both c = pick-both (eqb c.length 0) _ _ _ _ keeps (refuse-both too_many (full g.records) (full h.records) _ _ full-records (hands c))
 
-      dirty-both : (c : DirtyRange) → P (on-dirty-packet es g c) (on-dirty-packet es h c)
-      unfolding on-dirty-packet
+      dirty-both : (c : DirtyRange) → P (on_dirty_packet es g c) (on_dirty_packet es h c)
+      unfolding on_dirty_packet
       dirty-both c =
           live_both (live c.handle g) (live c.handle h) _ _ (same c.handle) (λ r _.
           refuse-both host_backed (not (backed r.backing)) _ _ _ refl
@@ -125,8 +125,8 @@ module _ (P : Outcome → Outcome → Type 0) (g h : Holdings)
           refuse-both past_entry (ltb e.size (r.offset + (c.offset + c.size))) _ _ _ refl
           (handed-both (range_of reads r e c.offset c.size))))))
 
-      copy-both : (c : CopyBuffer) → P (on-copy-packet es g c) (on-copy-packet es h c)
-      unfolding on-copy-packet write-back
+      copy-both : (c : CopyBuffer) → P (on_copy_packet es g c) (on_copy_packet es h c)
+      unfolding on_copy_packet write_back
       copy-both c =
           buffer-both (live c.dst g) (live c.dst h) _ _ (same c.dst) (λ d.
           buffer-both (live c.src g) (live c.src h) _ _ (same c.src) (λ s.
@@ -144,21 +144,21 @@ module _ (P : Outcome → Outcome → Type 0) (g h : Holdings)
     destroy-both : (c : DestroyResource)
         → ((r : Resource) → live c.handle h ≡ found r
         → P (accepted (record { resources = names_left r (without c.handle g); records = g.records })) (accepted (record { resources = names_left r (without c.handle h); records = h.records })))
-        → P (on-destroy-packet g c) (on-destroy-packet h c)
-    unfolding on-destroy-packet
+        → P (on_destroy_packet g c) (on_destroy_packet h c)
+    unfolding on_destroy_packet
     destroy-both c removes = live_both (live c.handle g) (live c.handle h) _ _ (same c.handle) removes
 
-    target-both : (c : SetTarget) → P (accepted g) (accepted h) → P (on-target-packet g c) (on-target-packet h c)
-    unfolding on-target-packet
+    target-both : (c : SetTarget) → P (accepted g) (accepted h) → P (on_target_packet g c) (on_target_packet h c)
+    unfolding on_target_packet
     target-both c keeps = texture-both bad_handle _ _ _ _ (texture-same c.handle g h (same c.handle)) (λ s. keeps)
 
     scissor-both : (a b : ℕ) (c : SetScissor) → a ≡ b → ((k : Record) → P (accepted (recorded k g)) (accepted (recorded k h)))
-        → P (on-scissor-packet a g c) (on-scissor-packet b h c)
-    unfolding on-scissor-packet
+        → P (on_scissor_packet a g c) (on_scissor_packet b h c)
+    unfolding on_scissor_packet
     scissor-both a b c e hands =
-        texture-both bad_state _ _ _ _ (ap (λ k. live-texture k g) e ∙ texture-same b g h (same b)) (λ s.
-        refuse-both bad_state (bad-sides c) _ _ _ refl
-        (refuse-both too_many (full g.records) (full h.records) _ _ full-records (hands (clip-of s c))))
+        texture-both bad_state _ _ _ _ (ap (λ k. live_texture k g) e ∙ texture-same b g h (same b)) (λ s.
+        refuse-both bad_state (bad_sides c) _ _ _ refl
+        (refuse-both too_many (full g.records) (full h.records) _ _ full-records (hands (clip_of s c))))
 
     module _ (ts us : List Token) (tokens : SameMap token_of ts us) where
       bound-same : (token : ℕ) → bound token ts g.resources ≡ bound token us h.resources
@@ -170,8 +170,8 @@ module _ (P : Outcome → Outcome → Type 0) (g h : Holdings)
           by_found (found t) = ap (pick (eqb t.name 0) none) (same t.name)
 
       export-both : (c : ExportSurface) → length ts ≡ length us → ((r : Resource) → live c.handle h ≡ found r → P (accepted g) (accepted h))
-          → P (on-export-packet ts g c) (on-export-packet us h c)
-      unfolding on-export-packet
+          → P (on_export_packet ts g c) (on_export_packet us h c)
+      unfolding on_export_packet
       export-both c few exports =
           live_both (live c.handle g) (live c.handle h) _ _ (same c.handle) (λ r e.
           refuse-both bad_shape (not (shareable r.kind)) _ _ _ refl
@@ -182,16 +182,16 @@ module _ (P : Outcome → Outcome → Type 0) (g h : Holdings)
       import-both : (c : ImportSurface) → length g.resources ≡ length h.resources
           → ((r : Resource) → bound c.token us h.resources ≡ found r
           → P (accepted (record { resources = names_with c.handle r g.resources; records = g.records })) (accepted (record { resources = names_with c.handle r h.resources; records = h.records })))
-          → P (on-import-packet ts g c) (on-import-packet us h c)
-      unfolding on-import-packet
+          → P (on_import_packet ts g c) (on_import_packet us h c)
+      unfolding on_import_packet
       import-both c few imports =
           refuse-both bad_handle _ _ _ _ (ap (λ f. eqb c.handle 0 || is_live f) (same c.handle))
           (bound-both _ _ _ _ (bound-same c.token) (λ r e.
           refuse-both too_many (full g.resources) (full h.resources) _ _ (ap (leb most) few) (imports r e)))
 
       release-both : (c : ReleaseToken) → ((r : Resource) → bound c.token us h.resources ≡ found r → P (accepted g) (accepted h))
-          → P (on-release-packet ts g c) (on-release-packet us h c)
-      unfolding on-release-packet
+          → P (on_release_packet ts g c) (on_release_packet us h c)
+      unfolding on_release_packet
       release-both c releases = bound-both _ _ _ _ (bound-same c.token) releases
 
 -- ---- one packet, whatever it is
@@ -230,7 +230,7 @@ module _ (es : List Entry) (g h : Progress) (s : SoundProgress es g) (t : SoundP
     once-without q u f =
         once-removed handle_of (index_of handle_of k q.holdings.resources) q.holdings.resources u.holdings.resources.once (found-place handle_of k q.holdings.resources r f)
 
-    lowest-same : lowest-left r.lowest (without k g.holdings) ≡ lowest-left r.lowest (without k h.holdings)
+    lowest-same : lowest_left r.lowest (without k g.holdings) ≡ lowest_left r.lowest (without k h.holdings)
     lowest-same =
         same-lowest r.lowest (without k g.holdings) (without k h.holdings) (once-without g s first) (once-without h t e) some-without
         same-without
@@ -239,18 +239,18 @@ module _ (es : List Entry) (g h : Progress) (s : SoundProgress es g) (t : SoundP
     names-left-same = rw lowest-same (by_test (shareable r.kind))
       where
         by_test : (b : Bool)
-            → SameMap handle_of (pick b (rename r.lowest (lowest-left r.lowest (without k h.holdings)) (without k g.holdings)) (without k g.holdings))
-            (pick b (rename r.lowest (lowest-left r.lowest (without k h.holdings)) (without k h.holdings)) (without k h.holdings))
-        by_test true = same-renamed r.lowest (lowest-left r.lowest (without k h.holdings)) (without k g.holdings) (without k h.holdings) same-without
+            → SameMap handle_of (pick b (rename r.lowest (lowest_left r.lowest (without k h.holdings)) (without k g.holdings)) (without k g.holdings))
+            (pick b (rename r.lowest (lowest_left r.lowest (without k h.holdings)) (without k h.holdings)) (without k h.holdings))
+        by_test true = same-renamed r.lowest (lowest_left r.lowest (without k h.holdings)) (without k g.holdings) (without k h.holdings) same-without
         by_test false = same-without
 
     tokens-left-same : SameMap token_of (tokens_left r (without k g.holdings) g.tokens) (tokens_left r (without k h.holdings) h.tokens)
     tokens-left-same = rw lowest-same (by_test (shareable r.kind))
       where
         by_test : (b : Bool)
-            → SameMap token_of (pick b (rebind r.lowest (lowest-left r.lowest (without k h.holdings)) g.tokens) g.tokens)
-            (pick b (rebind r.lowest (lowest-left r.lowest (without k h.holdings)) h.tokens) h.tokens)
-        by_test true = same-rebound r.lowest (lowest-left r.lowest (without k h.holdings)) g.tokens h.tokens d.tokens
+            → SameMap token_of (pick b (rebind r.lowest (lowest_left r.lowest (without k h.holdings)) g.tokens) g.tokens)
+            (pick b (rebind r.lowest (lowest_left r.lowest (without k h.holdings)) h.tokens) h.tokens)
+        by_test true = same-rebound r.lowest (lowest_left r.lowest (without k h.holdings)) g.tokens h.tokens d.tokens
         by_test false = d.tokens
 
   -- ---- an import
@@ -273,7 +273,7 @@ module _ (es : List Entry) (g h : Progress) (s : SoundProgress es g) (t : SoundP
   handed c = record { resources = d.resources; records = more c; target = d.target; tokens = d.tokens }
 
   pub pass_same : (p : Packet) → SamePassed (pass es g p) (pass es h p)
-  unfolding pass apply target-after tokens-after on-buffer-packet on-texture-packet on-viewport-packet on-clear-packet
+  unfolding pass apply target_after tokens_after on_buffer_packet on_texture_packet on_viewport_packet on_clear_packet
   pass_same (Buffer c) =
       create-both (Of (Buffer c)) g.holdings h.holdings refuses d.resources d.records es few-names
       (λ r. record { verdict = refl; held = record { resources = stores r; records = d.records; target = d.target; tokens = d.tokens } })
@@ -305,11 +305,11 @@ module _ (es : List Entry) (g h : Progress) (s : SoundProgress es g) (t : SoundP
   pass_same (Target c) =
       target-both (Of (Target c)) g.holdings h.holdings refuses d.resources d.records c
       (record { verdict = refl; held = record { resources = d.resources; records = d.records; target = refl; tokens = d.tokens } })
-  pass_same (Viewport v) = refuse-both (Of (Viewport v)) g.holdings h.holdings refuses bad_state (bad-viewport v) _ _ _ refl keeps
+  pass_same (Viewport v) = refuse-both (Of (Viewport v)) g.holdings h.holdings refuses bad_state (bad_viewport v) _ _ _ refl keeps
   pass_same (Scissor c) =
       scissor-both (Of (Scissor c)) g.holdings h.holdings refuses d.resources d.records g.target h.target c d.target
       (λ k. record { verdict = refl; held = handed k })
-  pass_same (Clear c) = refuse-both (Of (Clear c)) g.holdings h.holdings refuses bad_state (bad-clear c) _ _ _ refl keeps
+  pass_same (Clear c) = refuse-both (Of (Clear c)) g.holdings h.holdings refuses bad_state (bad_clear c) _ _ _ refl keeps
   pass_same (Export c) =
       export-both (Of (Export c)) g.holdings h.holdings refuses d.resources d.records g.tokens h.tokens d.tokens c few-tokens (λ r e.
       let f : live c.handle g.holdings ≡ found r = d.resources c.handle ∙ e in
@@ -341,10 +341,10 @@ module _ (es : List Entry) (g h : Progress) (s : SoundProgress es g) (t : SoundP
   pass_same Unknown = keeps
 
   -- and whatever the bytes left of a stream begin with
-  pub take_same : (b : List ℕ) → SamePassed (take-packet es g b) (take-packet es h b)
-  unfolding take-packet
-  take_same b = by_frame (frame-of b)
+  pub take_same : (b : List ℕ) → SamePassed (take_packet es g b) (take_packet es h b)
+  unfolding take_packet
+  take_same b = by_frame (frame_of b)
     where
       by_frame : (f : Frame) → SamePassed (pass_frame es g b f) (pass_frame es h b f)
-      by_frame (Whole op size) = pass_same (packet-of op (take size b))
+      by_frame (Whole op size) = pass_same (packet_of op (take size b))
       by_frame (Misframed r) = refuses r

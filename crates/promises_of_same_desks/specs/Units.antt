@@ -8,14 +8,14 @@ use Rattle.rules.specs.Numbers.{host_failed, bad_ring}
 use Rattle.rules.specs.Judging.{refusal, Finding, at_place, without_place}
 use Rattle.rules.specs.Judging.Finding.{fine, broken}
 use Rattle.rules.specs.Layouts.{stream_header_size}
-use Rattle.rules.specs.Table.{take-entry}
+use Rattle.rules.specs.Table.{take_entry}
 use Rattle.rules.specs.Stream.{left}
 use Rattle.rules.specs.Ring.{opening_of}
-use Rattle.rules.specs.Packets.{Progress, Belongings, at_first, left_by, take-packet}
+use Rattle.rules.specs.Packets.{Progress, Belongings, at_first, left_by, take_packet}
 use Rattle.rules.specs.State.{Work, World, working}
 use Rattle.rules.specs.State.Work.{entries, packets, waiting}
-use Rattle.rules.specs.Settle.{faulted, doorbell-cleared, ended_by, marked, settled, settled_keeping}
-use Rattle.rules.specs.Steps.{packets_at, entries_at, after_opening, open_step, after_entry, entry-step, after_packet, next_place, packet_step, step_on, step, busy, go, run_for, answer_on, answered}
+use Rattle.rules.specs.Settle.{faulted, doorbell_cleared, ended_by, marked, settled, settled_keeping}
+use Rattle.rules.specs.Steps.{packets_at, entries_at, after_opening, open_step, after_entry, entry_step, after_packet, next_place, packet_step, step_on, step, busy, go, run_for, answer_on, answered}
 use Rattle.rules.specs.declared.Entry.{Entry}
 use Rattle.rules.specs.declared.Job.{Job}
 use Rattle.rules.specs.declared.Stream.{Stream}
@@ -67,7 +67,7 @@ module _ (w v : World) (d : SameWorld w v) where
       record {
         state = record {
           memory = d.state.memory;
-          regs = ap (λ (r : Registers). doorbell-cleared (faulted (without_place (refusal bad_ring)) 0 r)) d.state.regs;
+          regs = ap (λ (r : Registers). doorbell_cleared (faulted (without_place (refusal bad_ring)) 0 r)) d.state.regs;
           belongings = d.state.belongings;
           work = d.state.work;
         };
@@ -75,7 +75,7 @@ module _ (w v : World) (d : SameWorld w v) where
       }
   opening-same NoWork =
       record {
-        state = record { memory = d.state.memory; regs = ap doorbell-cleared d.state.regs; belongings = d.state.belongings; work = d.state.work };
+        state = record { memory = d.state.memory; regs = ap doorbell_cleared d.state.regs; belongings = d.state.belongings; work = d.state.work };
         mem = d.mem;
       }
   opening-same (Refused j r) = keeping-same j (broken (without_place r))
@@ -93,26 +93,26 @@ module _ (w v : World) (d : SameWorld w v) where
   after-entry-same o kept fine = working-same _ _ (entries_at_same o kept w.state.belongings v.state.belongings d.state.belongings)
   after-entry-same o kept (broken f) = keeping-same o.job (broken f)
 
-  entry-same : (o : Opened) (kept : List Entry) → SameWorld (entry-step w o kept) (entry-step v o kept)
-  unfolding entry-step
+  entry-same : (o : Opened) (kept : List Entry) → SameWorld (entry_step w o kept) (entry_step v o kept)
+  unfolding entry_step
   entry-same o kept =
-      subst (λ m. SameWorld (after_entry w o (take-entry m o.table kept).kept (at_place (length kept) (take-entry m o.table kept).verdict)) (entry-step v o kept)) (sym d.mem)
-      (after-entry-same o (take-entry v.mem o.table kept).kept (at_place (length kept) (take-entry v.mem o.table kept).verdict))
+      subst (λ m. SameWorld (after_entry w o (take_entry m o.table kept).kept (at_place (length kept) (take_entry m o.table kept).verdict)) (entry_step v o kept)) (sym d.mem)
+      (after-entry-same o (take_entry v.mem o.table kept).kept (at_place (length kept) (take_entry v.mem o.table kept).verdict))
 
   after-packet-same : (j : Job) (s : Stream) (next : ℕ) (es : List Entry) (g h : Progress) (x : Finding) → SameHeld g h
       → SameWorld (after_packet w j s next es g x) (after_packet v j s next es h x)
   after-packet-same j s next es g h fine e = working-same _ _ (packets_at_same j s next es g h e)
   after-packet-same j s next es g h (broken f) e = keeping-same j (broken f)
 
-  packet-same : (j : Job) (s : Stream) (at : ℕ) (es : List Entry) (g h : Progress) → ((b : List ℕ) → SamePassed (take-packet es g b) (take-packet es h b))
+  packet-same : (j : Job) (s : Stream) (at : ℕ) (es : List Entry) (g h : Progress) → ((b : List ℕ) → SamePassed (take_packet es g b) (take_packet es h b))
       → SameWorld (packet_step w j s at es g) (packet_step v j s at es h)
   unfolding packet_step
   packet-same j s at es g h takes =
-      let p : SamePassed (take-packet es g (left v.mem s at)) (take-packet es h (left v.mem s at)) = takes (left v.mem s at) in
-      subst (λ m. SameWorld (after_packet w j s (next_place at (left m s at)) es (take-packet es g (left m s at)).held (at_place at (take-packet es g (left m s at)).verdict)) (packet_step v j s at es h)) (sym d.mem)
-      (subst (λ x. SameWorld (after_packet w j s (next_place at (left v.mem s at)) es (take-packet es g (left v.mem s at)).held (at_place at x)) (packet_step v j s at es h)) (sym p.verdict)
-      (after-packet-same j s (next_place at (left v.mem s at)) es (take-packet es g (left v.mem s at)).held (take-packet es h (left v.mem s at)).held
-      (at_place at (take-packet es h (left v.mem s at)).verdict) p.held))
+      let p : SamePassed (take_packet es g (left v.mem s at)) (take_packet es h (left v.mem s at)) = takes (left v.mem s at) in
+      subst (λ m. SameWorld (after_packet w j s (next_place at (left m s at)) es (take_packet es g (left m s at)).held (at_place at (take_packet es g (left m s at)).verdict)) (packet_step v j s at es h)) (sym d.mem)
+      (subst (λ x. SameWorld (after_packet w j s (next_place at (left v.mem s at)) es (take_packet es g (left v.mem s at)).held (at_place at x)) (packet_step v j s at es h)) (sym p.verdict)
+      (after-packet-same j s (next_place at (left v.mem s at)) es (take_packet es g (left v.mem s at)).held (take_packet es h (left v.mem s at)).held
+      (at_place at (take_packet es h (left v.mem s at)).verdict) p.held))
 
   step-on-same : {k l : Work} → SameWork k l → SoundWork k → SoundWork l → SameWorld (step_on w k) (step_on v l)
   step-on-same both_rest a b = open-same

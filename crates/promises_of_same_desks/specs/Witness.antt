@@ -5,13 +5,13 @@ use Rattle.std.proofs.Common.{sym, ap, ◌∙◌, arith, eqb-true}
 use Rattle.machine.specs.Machine.{pick}
 use Rattle.rules.specs.Lists.{Found, over, removed, lookup, index_of}
 use Rattle.rules.specs.Lists.Found.{none, found}
-use Rattle.rules.specs.Shapes.{block-bytes, halvings, full-chain, good-shape}
-use Rattle.rules.specs.Names.{token_of, rename, rebind, lowest-left}
-use Rattle.rules.specs.Packets.{create-hosted, create, on-buffer-packet, on-texture-packet, on-export-packet, bound, on-import-packet, handle_of, apply, Progress, Belongings, at_first, left_by, target-after, tokens-after, pass}
+use Rattle.rules.specs.Shapes.{block_bytes, halvings, full_chain, good_shape}
+use Rattle.rules.specs.Names.{token_of, rename, rebind, lowest_left}
+use Rattle.rules.specs.Packets.{create_hosted, create, on_buffer_packet, on_texture_packet, on_export_packet, bound, on_import_packet, handle_of, apply, Progress, Belongings, at_first, left_by, target_after, tokens_after, pass}
 use Rattle.rules.specs.State.{State, made, nothing_owned}
 use Rattle.rules.specs.State.Work.{resting}
 use Rattle.rules.specs.Saved.{saved}
-use Rattle.rules.specs.Loaded.{Loaded, loaded, call-load}
+use Rattle.rules.specs.Loaded.{Loaded, loaded, call_load}
 use Rattle.rules.specs.declared.Form.TheVariants.{Two}
 use Rattle.rules.specs.declared.Shape.{Shape}
 use Rattle.rules.specs.declared.Resource.{Resource}
@@ -86,11 +86,11 @@ abbrev bound_as : ℕ → Token
 bound_as n = record { name = 3; token = n }
 
 one-is : one.belongings ≡ record { resources = named 5 ∷ the_buffer ∷ named 3 ∷ []; tokens = bound_as 7 ∷ bound_as 8 ∷ [] }
-unfolding one having held_after lookup index_of removed over rename rebind lowest-left block-bytes halvings full-chain good-shape create-hosted create on-buffer-packet on-texture-packet on-export-packet bound on-import-packet apply target-after tokens-after pass
+unfolding one having held_after lookup index_of removed over rename rebind lowest_left block_bytes halvings full_chain good_shape create_hosted create on_buffer_packet on_texture_packet on_export_packet bound on_import_packet apply target_after tokens_after pass
 one-is = refl
 
 other-is : other.belongings ≡ record { resources = the_buffer ∷ named 3 ∷ named 5 ∷ []; tokens = bound_as 8 ∷ bound_as 7 ∷ [] }
-unfolding other having held_after lookup index_of removed over rename rebind lowest-left block-bytes halvings full-chain good-shape create-hosted create on-buffer-packet on-texture-packet on-export-packet bound on-import-packet apply target-after tokens-after pass
+unfolding other having held_after lookup index_of removed over rename rebind lowest_left block_bytes halvings full_chain good_shape create_hosted create on_buffer_packet on_texture_packet on_export_packet bound on_import_packet apply target_after tokens_after pass
 other-is = refl
 
 -- ---- they are the same, and are not equal
@@ -157,7 +157,7 @@ shared-sound =
       error = v.error;
     }
 
-pub loaded-in-another-order : (call-load (made 0) (saved Two shared_device)).state ≡ shared_device → ⊥
+pub loaded-in-another-order : (call_load (made 0) (saved Two shared_device)).state ≡ shared_device → ⊥
 unfolding first_handle
 loaded-in-another-order e =
     let z : ◌≡◌ {A = ℕ} 3 7 =

@@ -6,7 +6,7 @@ use Rattle.rules.specs.Lists.{lookup, over}
 use Rattle.rules.specs.Lists.Found.{found}
 use Rattle.rules.specs.Bytes.{le, bytes_of}
 use Rattle.rules.specs.Names.{token_of, under}
-use Rattle.rules.specs.Shapes.{block-bytes, block-side, halvings, full-chain, mip-side, blocks, tight, rows, mip-bytes, offset-of, good-shape, good-backed, texture-bytes, packed-size}
+use Rattle.rules.specs.Shapes.{block_bytes, block_side, halvings, full_chain, mip_side, blocks, tight, rows, mip_bytes, offset_of, good_shape, good_backed, texture_bytes, packed_size}
 use Rattle.rules.specs.Packets.{handle_of, resource_of}
 use Rattle.rules.specs.State.{State, registers_of, made}
 use Rattle.rules.specs.State.Work.{resting}
@@ -14,8 +14,8 @@ use Rattle.rules.specs.declared.Shape.{Shape}
 use Rattle.rules.specs.declared.Kind.TheVariants.{Buffer, Texture}
 use Rattle.rules.specs.declared.Resource.{Resource}
 use Rattle.rules.specs.declared.Token.{Token}
-use Rattle.rules.specs.Saved.{resources-fields, file-of, other-name-among, beyond-form-1, not_saved, next-above, rising-above, rising, those, head-fields, names-fields, tokens-fields, saved-fields, saved, call-save}
-use Rattle.rules.specs.Loaded.{resources-rules, first-broken, loaded-resource, loaded-resources, first_field, before-sections, sections, names-rules, tokens-rules, section-3-rules, section-4-rules, sections-rules, behind, file-rules, bad-place, loaded-names, loaded-tokens, loaded-sections, loaded, call-load, call-move}
+use Rattle.rules.specs.Saved.{resources_fields, file_of, other_name_among, beyond_form_1, not_saved, next_above, rising_above, rising, those, head_fields, names_fields, tokens_fields, saved_fields, saved, call_save}
+use Rattle.rules.specs.Loaded.{resources_rules, first_broken, loaded_resource, loaded_resources, first_field, before_sections, sections, names_rules, tokens_rules, section_3_rules, section_4_rules, sections_rules, behind, file_rules, bad_place, loaded_names, loaded_tokens, loaded_sections, loaded, call_load, call_move}
 use Rattle.rules.specs.declared.Form.TheVariants.{One, Two}
 use Rattle.rule_laws.specs.Created.{AsCreated}
 use Rattle.rows.specs.Keys.{once-nil, once-pushed}
@@ -57,7 +57,7 @@ created-buffer : AsCreated its_buffer
 created-buffer = record { bytes = λ e. omega arith; shape = refl; offset = λ e. absurd (let z : ◌≡◌ {A = ℕ} 0 1 = cc in omega arith) }
 
 created-texture : AsCreated its_texture
-unfolding block-bytes block-side halvings full-chain mip-side blocks tight rows mip-bytes offset-of good-shape good-backed texture-bytes packed-size
+unfolding block_bytes block_side halvings full_chain mip_side blocks tight rows mip_bytes offset_of good_shape good_backed texture_bytes packed_size
 created-texture = record { bytes = refl; shape = (refl, refl); offset = λ e. refl }
 
 fits-buffer : FitsResource its_buffer
@@ -106,14 +106,14 @@ example-is-savable =
 -- ---- saved in form 1
 
 -- its fields, after the form's number: the texture comes first
-pub example-fields : saved-fields One example_device
+pub example-fields : saved_fields One example_device
     ≡ 1
     ∷ 21 ∷ 0x55504741 ∷ 65539 ∷ 7 ∷ 0 ∷ 4096 ∷ 0 ∷ 1024 ∷ 1 ∷ 12288 ∷ 0 ∷ 41 ∷ 0 ∷ 1 ∷ 3 ∷ 17 ∷ 40 ∷ 0 ∷ 2 ∷ 65536 ∷ 0 ∷ 1
     ∷ 2
     ∷ 3 ∷ 2 ∷ 0 ∷ 0 ∷ 1 ∷ 4 ∷ 4 ∷ 1 ∷ 1 ∷ 16 ∷ 5 ∷ 0
     ∷ 7 ∷ 1 ∷ 4096 ∷ 0 ∷ 0 ∷ 0 ∷ 0 ∷ 0 ∷ 0 ∷ 0 ∷ 5 ∷ 64
     ∷ []
-unfolding next-above rising-above rising those resources-fields head-fields saved-fields
+unfolding next_above rising_above rising those resources_fields head_fields saved_fields
 example-fields = refl
 
 -- into a buffer of 240 bytes, each AA hex
@@ -121,47 +121,47 @@ abbrev lent : List ℕ
 lent = replicate 240 0xaa
 
 -- it takes 192 of them
-pub example-is-saved : ((call-save One example_device lent).answer ≡ done) × ((call-save One example_device lent).length ≡ 192)
-unfolding next-above rising-above rising those resources-fields head-fields saved-fields file-of bytes_of saved other-name-among beyond-form-1 call-save
+pub example-is-saved : ((call_save One example_device lent).answer ≡ done) × ((call_save One example_device lent).length ≡ 192)
+unfolding next_above rising_above rising those resources_fields head_fields saved_fields file_of bytes_of saved other_name_among beyond_form_1 call_save
 example-is-saved = (refl, refl)
 
 -- ---- loaded
 
 -- by a new device with another memory: it has the same resources, by rising handle
-pub example-is-loaded : call-load (made 0) (saved One example_device) ≡ record { answer = done; place = 0; state = example_with 0 (its_texture ∷ its_buffer ∷ []) [] }
-unfolding next-above rising-above rising those resources-fields head-fields saved-fields file-of le bytes_of saved first_field before-sections sections resources-rules sections-rules behind file-rules first-broken bad-place block-bytes block-side halvings full-chain mip-side blocks tight rows mip-bytes offset-of good-shape good-backed texture-bytes packed-size loaded-resource loaded-resources loaded-sections loaded call-load
+pub example-is-loaded : call_load (made 0) (saved One example_device) ≡ record { answer = done; place = 0; state = example_with 0 (its_texture ∷ its_buffer ∷ []) [] }
+unfolding next_above rising_above rising those resources_fields head_fields saved_fields file_of le bytes_of saved first_field before_sections sections resources_rules sections_rules behind file_rules first_broken bad_place block_bytes block_side halvings full_chain mip_side blocks tight rows mip_bytes offset_of good_shape good_backed texture_bytes packed_size loaded_resource loaded_resources loaded_sections loaded call_load
 example-is-loaded = refl
 
 -- "old files without it are form 1"
-pub old-is-loaded : call-load (made 0) (drop 4 (saved One example_device)) ≡ record { answer = done; place = 0; state = example_with 0 (its_texture ∷ its_buffer ∷ []) [] }
-unfolding next-above rising-above rising those resources-fields head-fields saved-fields file-of le bytes_of saved first_field before-sections sections resources-rules sections-rules behind file-rules first-broken bad-place block-bytes block-side halvings full-chain mip-side blocks tight rows mip-bytes offset-of good-shape good-backed texture-bytes packed-size loaded-resource loaded-resources loaded-sections loaded call-load
+pub old-is-loaded : call_load (made 0) (drop 4 (saved One example_device)) ≡ record { answer = done; place = 0; state = example_with 0 (its_texture ∷ its_buffer ∷ []) [] }
+unfolding next_above rising_above rising those resources_fields head_fields saved_fields file_of le bytes_of saved first_field before_sections sections resources_rules sections_rules behind file_rules first_broken bad_place block_bytes block_side halvings full_chain mip_side blocks tight rows mip_bytes offset_of good_shape good_backed texture_bytes packed_size loaded_resource loaded_resources loaded_sections loaded call_load
 old-is-loaded = refl
 
 -- ---- refused
 
 -- a status of 4, at its place: "Offsets count from the file's first byte, its number included"
-pub bad-status : bad-place (over 56 (bytes_of 4 4) (saved One example_device)) ≡ found 56
-unfolding next-above rising-above rising those resources-fields head-fields saved-fields file-of le bytes_of over saved first_field before-sections sections resources-rules sections-rules behind file-rules first-broken bad-place block-bytes block-side halvings full-chain mip-side blocks tight
+pub bad-status : bad_place (over 56 (bytes_of 4 4) (saved One example_device)) ≡ found 56
+unfolding next_above rising_above rising those resources_fields head_fields saved_fields file_of le bytes_of over saved first_field before_sections sections resources_rules sections_rules behind file_rules first_broken bad_place block_bytes block_side halvings full_chain mip_side blocks tight
 bad-status = refl
 
 -- error code 0 beside a fence and a count: at the count, the last of the four
-pub bad-error : bad-place (over 64 (bytes_of 4 0) (saved One example_device)) ≡ found 76
-unfolding next-above rising-above rising those resources-fields head-fields saved-fields file-of le bytes_of over saved first_field before-sections sections resources-rules sections-rules behind file-rules first-broken bad-place block-bytes block-side halvings full-chain mip-side blocks tight
+pub bad-error : bad_place (over 64 (bytes_of 4 0) (saved One example_device)) ≡ found 76
+unfolding next_above rising_above rising those resources_fields head_fields saved_fields file_of le bytes_of over saved first_field before_sections sections resources_rules sections_rules behind file_rules first_broken bad_place block_bytes block_side halvings full_chain mip_side blocks tight
 bad-error = refl
 
 -- a pitch of 15, where 16 is the least: at the backing id, the later of the two
-pub bad-pitch : bad-place (over 132 (bytes_of 4 15) (saved One example_device)) ≡ found 136
-unfolding next-above rising-above rising those resources-fields head-fields saved-fields file-of le bytes_of over saved first_field before-sections sections resources-rules sections-rules behind file-rules first-broken bad-place block-bytes block-side halvings full-chain mip-side blocks tight
+pub bad-pitch : bad_place (over 132 (bytes_of 4 15) (saved One example_device)) ≡ found 136
+unfolding next_above rising_above rising those resources_fields head_fields saved_fields file_of le bytes_of over saved first_field before_sections sections resources_rules sections_rules behind file_rules first_broken bad_place block_bytes block_side halvings full_chain mip_side blocks tight
 bad-pitch = refl
 
 -- the last byte cut off: the last field is missing, at its start
-pub cut_short : bad-place (take 191 (saved One example_device)) ≡ found 188
-unfolding next-above rising-above rising those resources-fields head-fields saved-fields file-of le bytes_of over saved first_field before-sections sections resources-rules sections-rules behind file-rules first-broken bad-place block-bytes block-side halvings full-chain mip-side blocks tight
+pub cut_short : bad_place (take 191 (saved One example_device)) ≡ found 188
+unfolding next_above rising_above rising those resources_fields head_fields saved_fields file_of le bytes_of over saved first_field before_sections sections resources_rules sections_rules behind file_rules first_broken bad_place block_bytes block_side halvings full_chain mip_side blocks tight
 cut_short = refl
 
 -- a byte after the last
-pub one-byte-more : bad-place (saved One example_device ++ (0 ∷ [])) ≡ found 192
-unfolding next-above rising-above rising those resources-fields head-fields saved-fields file-of le bytes_of over saved first_field before-sections sections resources-rules sections-rules behind file-rules first-broken bad-place block-bytes block-side halvings full-chain mip-side blocks tight
+pub one-byte-more : bad_place (saved One example_device ++ (0 ∷ [])) ≡ found 192
+unfolding next_above rising_above rising those resources_fields head_fields saved_fields file_of le bytes_of over saved first_field before_sections sections resources_rules sections_rules behind file_rules first_broken bad_place block_bytes block_side halvings full_chain mip_side blocks tight
 one-byte-more = refl
 
 -- ---- a device beyond form 1: with a detail, another name of its texture, a token bound to that texture, and a spent one
@@ -183,7 +183,7 @@ abbrev pub shared_device : State
 shared_device = example_with 8 names_kept (bound_token ∷ spent_token ∷ [])
 
 created-other : AsCreated other_name
-unfolding block-bytes block-side halvings full-chain mip-side blocks tight rows mip-bytes offset-of good-shape good-backed texture-bytes packed-size
+unfolding block_bytes block_side halvings full_chain mip_side blocks tight rows mip_bytes offset_of good_shape good_backed texture_bytes packed_size
 created-other = record { bytes = refl; shape = (refl, refl); offset = λ e. refl }
 
 fits-other : FitsResource other_name
@@ -229,12 +229,12 @@ shared-is-savable =
     }
 
 -- form 1 has no field for it
-pub shared-is-beyond-form-1 : call-save One shared_device lent ≡ not_saved not_in_form lent
-unfolding other-name-among beyond-form-1 call-save
+pub shared-is-beyond-form-1 : call_save One shared_device lent ≡ not_saved not_in_form lent
+unfolding other_name_among beyond_form_1 call_save
 shared-is-beyond-form-1 = refl
 
 -- in form 2 the detail stands after the error count, and two sections after the resources
-pub shared_fields : saved-fields Two shared_device
+pub shared_fields : saved_fields Two shared_device
     ≡ 2
     ∷ 22 ∷ 0x55504741 ∷ 65539 ∷ 7 ∷ 0 ∷ 4096 ∷ 0 ∷ 1024 ∷ 1 ∷ 12288 ∷ 0 ∷ 41 ∷ 0 ∷ 1 ∷ 3 ∷ 17 ∷ 40 ∷ 0 ∷ 2 ∷ 8 ∷ 65536 ∷ 0 ∷ 1
     ∷ 2
@@ -246,54 +246,54 @@ pub shared_fields : saved-fields Two shared_device
     ∷ 5 ∷ 0 ∷ 0
     ∷ 2 ∷ 1 ∷ 3
     ∷ []
-unfolding next-above rising-above rising those resources-fields head-fields names-fields tokens-fields saved-fields
+unfolding next_above rising_above rising those resources_fields head_fields names_fields tokens_fields saved_fields
 shared_fields = refl
 
 -- and all of it is loaded
-pub shared-is-loaded : call-load (made 0) (saved Two shared_device)
+pub shared-is-loaded : call_load (made 0) (saved Two shared_device)
     ≡ record { answer = done; place = 0; state = example_with 8 (its_texture ∷ its_buffer ∷ other_name ∷ []) (spent_token ∷ bound_token ∷ []) }
-unfolding next-above rising-above rising those resources-fields head-fields names-fields tokens-fields saved-fields file-of le bytes_of saved first_field before-sections sections lookup resources-rules names-rules tokens-rules section-3-rules section-4-rules sections-rules behind file-rules first-broken bad-place block-bytes block-side halvings full-chain mip-side blocks tight rows mip-bytes offset-of good-shape good-backed texture-bytes packed-size loaded-resource loaded-resources loaded-names loaded-tokens loaded-sections loaded call-load
+unfolding next_above rising_above rising those resources_fields head_fields names_fields tokens_fields saved_fields file_of le bytes_of saved first_field before_sections sections lookup resources_rules names_rules tokens_rules section_3_rules section_4_rules sections_rules behind file_rules first_broken bad_place block_bytes block_side halvings full_chain mip_side blocks tight rows mip_bytes offset_of good_shape good_backed texture_bytes packed_size loaded_resource loaded_resources loaded_names loaded_tokens loaded_sections loaded call_load
 shared-is-loaded = refl
 
 -- ---- refused in form 2
 
 -- a detail beside no error: at the detail
-pub bad-detail : bad-place (over 64 (bytes_of 16 0) (saved Two shared_device)) ≡ found 80
-unfolding next-above rising-above rising those resources-fields head-fields names-fields tokens-fields saved-fields file-of le bytes_of over saved first_field before-sections sections lookup resources-rules names-rules tokens-rules section-3-rules section-4-rules sections-rules behind file-rules first-broken bad-place block-bytes block-side halvings full-chain mip-side blocks tight loaded-resource loaded-resources
+pub bad-detail : bad_place (over 64 (bytes_of 16 0) (saved Two shared_device)) ≡ found 80
+unfolding next_above rising_above rising those resources_fields head_fields names_fields tokens_fields saved_fields file_of le bytes_of over saved first_field before_sections sections lookup resources_rules names_rules tokens_rules section_3_rules section_4_rules sections_rules behind file_rules first_broken bad_place block_bytes block_side halvings full_chain mip_side blocks tight loaded_resource loaded_resources
 bad-detail = refl
 
 -- another name that is a resource's own: at the other name
-pub bad-other-name : bad-place (over 200 (bytes_of 4 7) (saved Two shared_device)) ≡ found 200
-unfolding next-above rising-above rising those resources-fields head-fields names-fields tokens-fields saved-fields file-of le bytes_of over saved first_field before-sections sections lookup resources-rules names-rules tokens-rules section-3-rules section-4-rules sections-rules behind file-rules first-broken bad-place block-bytes block-side halvings full-chain mip-side blocks tight loaded-resource loaded-resources
+pub bad-other-name : bad_place (over 200 (bytes_of 4 7) (saved Two shared_device)) ≡ found 200
+unfolding next_above rising_above rising those resources_fields head_fields names_fields tokens_fields saved_fields file_of le bytes_of over saved first_field before_sections sections lookup resources_rules names_rules tokens_rules section_3_rules section_4_rules sections_rules behind file_rules first_broken bad_place block_bytes block_side halvings full_chain mip_side blocks tight loaded_resource loaded_resources
 bad-other-name = refl
 
 -- another name of a buffer: at the lowest name
-pub bad-lowest-name : bad-place (over 204 (bytes_of 4 7) (saved Two shared_device)) ≡ found 204
-unfolding next-above rising-above rising those resources-fields head-fields names-fields tokens-fields saved-fields file-of le bytes_of over saved first_field before-sections sections lookup resources-rules names-rules tokens-rules section-3-rules section-4-rules sections-rules behind file-rules first-broken bad-place block-bytes block-side halvings full-chain mip-side blocks tight loaded-resource loaded-resources
+pub bad-lowest-name : bad_place (over 204 (bytes_of 4 7) (saved Two shared_device)) ≡ found 204
+unfolding next_above rising_above rising those resources_fields head_fields names_fields tokens_fields saved_fields file_of le bytes_of over saved first_field before_sections sections lookup resources_rules names_rules tokens_rules section_3_rules section_4_rules sections_rules behind file_rules first_broken bad_place block_bytes block_side halvings full_chain mip_side blocks tight loaded_resource loaded_resources
 bad-lowest-name = refl
 
 -- a token that is not above the one before: at its HI word
-pub bad_token : bad-place (over 224 (bytes_of 8 5) (saved Two shared_device)) ≡ found 228
-unfolding next-above rising-above rising those resources-fields head-fields names-fields tokens-fields saved-fields file-of le bytes_of over saved first_field before-sections sections lookup resources-rules names-rules tokens-rules section-3-rules section-4-rules sections-rules behind file-rules first-broken bad-place block-bytes block-side halvings full-chain mip-side blocks tight loaded-resource loaded-resources
+pub bad_token : bad_place (over 224 (bytes_of 8 5) (saved Two shared_device)) ≡ found 228
+unfolding next_above rising_above rising those resources_fields head_fields names_fields tokens_fields saved_fields file_of le bytes_of over saved first_field before_sections sections lookup resources_rules names_rules tokens_rules section_3_rules section_4_rules sections_rules behind file_rules first_broken bad_place block_bytes block_side halvings full_chain mip_side blocks tight loaded_resource loaded_resources
 bad_token = refl
 
 -- one bound to a name that is not the lowest
-pub bad-binding : bad-place (over 232 (bytes_of 4 9) (saved Two shared_device)) ≡ found 232
-unfolding next-above rising-above rising those resources-fields head-fields names-fields tokens-fields saved-fields file-of le bytes_of over saved first_field before-sections sections lookup resources-rules names-rules tokens-rules section-3-rules section-4-rules sections-rules behind file-rules first-broken bad-place block-bytes block-side halvings full-chain mip-side blocks tight loaded-resource loaded-resources
+pub bad-binding : bad_place (over 232 (bytes_of 4 9) (saved Two shared_device)) ≡ found 232
+unfolding next_above rising_above rising those resources_fields head_fields names_fields tokens_fields saved_fields file_of le bytes_of over saved first_field before_sections sections lookup resources_rules names_rules tokens_rules section_3_rules section_4_rules sections_rules behind file_rules first_broken bad_place block_bytes block_side halvings full_chain mip_side blocks tight loaded_resource loaded_resources
 bad-binding = refl
 
 -- ---- moved
 
 -- an old file moves, and gets a number, a detail and two empty sections
-pub old-is-moved : call-move (drop 4 (saved One example_device)) lent ≡ record { answer = done; length = 204; buffer = over 0 (saved Two example_device) lent }
-unfolding next-above rising-above rising those resources-fields head-fields names-fields tokens-fields saved-fields file-of le bytes_of saved first_field before-sections sections lookup resources-rules names-rules tokens-rules section-3-rules section-4-rules sections-rules behind file-rules first-broken bad-place block-bytes block-side halvings full-chain mip-side blocks tight rows mip-bytes offset-of good-shape good-backed texture-bytes packed-size loaded-resource loaded-resources loaded-names loaded-tokens loaded-sections loaded other-name-among beyond-form-1 call-save call-move
+pub old-is-moved : call_move (drop 4 (saved One example_device)) lent ≡ record { answer = done; length = 204; buffer = over 0 (saved Two example_device) lent }
+unfolding next_above rising_above rising those resources_fields head_fields names_fields tokens_fields saved_fields file_of le bytes_of saved first_field before_sections sections lookup resources_rules names_rules tokens_rules section_3_rules section_4_rules sections_rules behind file_rules first_broken bad_place block_bytes block_side halvings full_chain mip_side blocks tight rows mip_bytes offset_of good_shape good_backed texture_bytes packed_size loaded_resource loaded_resources loaded_names loaded_tokens loaded_sections loaded other_name_among beyond_form_1 call_save call_move
 old-is-moved = refl
 
-pub moved_back : call-move (saved Two example_device) lent ≡ record { answer = done; length = 192; buffer = over 0 (saved One example_device) lent }
-unfolding next-above rising-above rising those resources-fields head-fields names-fields tokens-fields saved-fields file-of le bytes_of saved first_field before-sections sections lookup resources-rules names-rules tokens-rules section-3-rules section-4-rules sections-rules behind file-rules first-broken bad-place block-bytes block-side halvings full-chain mip-side blocks tight rows mip-bytes offset-of good-shape good-backed texture-bytes packed-size loaded-resource loaded-resources loaded-names loaded-tokens loaded-sections loaded other-name-among beyond-form-1 call-save call-move
+pub moved_back : call_move (saved Two example_device) lent ≡ record { answer = done; length = 192; buffer = over 0 (saved One example_device) lent }
+unfolding next_above rising_above rising those resources_fields head_fields names_fields tokens_fields saved_fields file_of le bytes_of saved first_field before_sections sections lookup resources_rules names_rules tokens_rules section_3_rules section_4_rules sections_rules behind file_rules first_broken bad_place block_bytes block_side halvings full_chain mip_side blocks tight rows mip_bytes offset_of good_shape good_backed texture_bytes packed_size loaded_resource loaded_resources loaded_names loaded_tokens loaded_sections loaded other_name_among beyond_form_1 call_save call_move
 moved_back = refl
 
 -- "else 8 .. and nothing written"
-pub shared-is-not-moved : call-move (saved Two shared_device) lent ≡ not_saved not_in_form lent
-unfolding next-above rising-above rising those resources-fields head-fields names-fields tokens-fields saved-fields file-of le bytes_of saved first_field before-sections sections lookup resources-rules names-rules tokens-rules section-3-rules section-4-rules sections-rules behind file-rules first-broken bad-place block-bytes block-side halvings full-chain mip-side blocks tight rows mip-bytes offset-of good-shape good-backed texture-bytes packed-size loaded-resource loaded-resources loaded-names loaded-tokens loaded-sections loaded other-name-among beyond-form-1 call-save call-move
+pub shared-is-not-moved : call_move (saved Two shared_device) lent ≡ not_saved not_in_form lent
+unfolding next_above rising_above rising those resources_fields head_fields names_fields tokens_fields saved_fields file_of le bytes_of saved first_field before_sections sections lookup resources_rules names_rules tokens_rules section_3_rules section_4_rules sections_rules behind file_rules first_broken bad_place block_bytes block_side halvings full_chain mip_side blocks tight rows mip_bytes offset_of good_shape good_backed texture_bytes packed_size loaded_resource loaded_resources loaded_names loaded_tokens loaded_sections loaded other_name_among beyond_form_1 call_save call_move
 shared-is-not-moved = refl

@@ -2,7 +2,7 @@
 use Rattle.std.specs.Prelude.{◌≡◌, refl, Bool, true, false, not, ◌||◌, List, [], ◌∷◌, ◌++◌, ℕ, ◌+◌, ◌≤◌, length}
 use Rattle.std.proofs.Common.{sym, ap, ◌∙◌, ltb-false, le-ltb}
 use Rattle.rules.specs.Lists.Found.{none, found}
-use Rattle.rules.specs.Loaded.{Rule, missing, must, first-broken, behind}
+use Rattle.rules.specs.Loaded.{Rule, missing, must, first_broken, behind}
 use Rattle.promises_of_packets.specs.Names.{none-not-found, found-same, true-not-false}
 use Rattle.promises_of_packets.specs.Held.{Every, every-none}
 
@@ -21,33 +21,33 @@ pub record FirstBroken (rules : List Rule) (place : ℕ) : Type 0 where
 
 -- ---- it is what the rules find
 
-pub first_one : (r : Rule) (rs : List Rule) → r.broken ≡ true → first-broken (r ∷ rs) ≡ found r.place
-unfolding first-broken
+pub first_one : (r : Rule) (rs : List Rule) → r.broken ≡ true → first_broken (r ∷ rs) ≡ found r.place
+unfolding first_broken
 first_one r rs e = rw e
 
-pub next_one : (r : Rule) (rs : List Rule) → Kept r → first-broken (r ∷ rs) ≡ first-broken rs
-unfolding first-broken
+pub next_one : (r : Rule) (rs : List Rule) → Kept r → first_broken (r ∷ rs) ≡ first_broken rs
+unfolding first_broken
 next_one r rs e = rw e
 
 pub and_kept : (r : Rule) (rs : List Rule) → Kept r → Every Kept rs → Every Kept (r ∷ rs)
 unfolding Every
 and_kept r rs h k = (h, k)
 
-pub no-rule : first-broken [] ≡ none
-unfolding first-broken
+pub no-rule : first_broken [] ≡ none
+unfolding first_broken
 no-rule = refl
 
-after_kept : (front rest : List Rule) → Every Kept front → first-broken (front ++ rest) ≡ first-broken rest
+after_kept : (front rest : List Rule) → Every Kept front → first_broken (front ++ rest) ≡ first_broken rest
 unfolding Every
 after_kept [] rest k = refl
 after_kept (r ∷ rs) rest k = next_one r (rs ++ rest) k.0 ∙ after_kept rs rest k.1
 
-pub first-is-found : (rules : List Rule) (p : ℕ) → FirstBroken rules p → first-broken rules ≡ found p
+pub first-is-found : (rules : List Rule) (p : ℕ) → FirstBroken rules p → first_broken rules ≡ found p
 first-is-found rules p f =
-    ap first-broken f.split
+    ap first_broken f.split
     ∙ (after_kept f.front (f.rule ∷ f.back) f.before ∙ (first_one f.rule f.back f.breaks ∙ ap found f.at))
 
-pub found-is-first : (rules : List Rule) (p : ℕ) → first-broken rules ≡ found p → FirstBroken rules p
+pub found-is-first : (rules : List Rule) (p : ℕ) → first_broken rules ≡ found p → FirstBroken rules p
 found-is-first [] p e = absurd (none-not-found p (sym no-rule ∙ e))
 found-is-first (r ∷ rs) p e = by_test r.broken refl (λ h. found-is-first rs p (sym (next_one r rs h) ∙ e))
   where
@@ -60,12 +60,12 @@ found-is-first (r ∷ rs) p e = by_test r.broken refl (λ h. found-is-first rs p
 
 -- ---- none is broken exactly if all are kept
 
-pub all-kept-none : (rules : List Rule) → Every Kept rules → first-broken rules ≡ none
+pub all-kept-none : (rules : List Rule) → Every Kept rules → first_broken rules ≡ none
 unfolding Every
 all-kept-none [] k = no-rule
 all-kept-none (r ∷ rs) k = next_one r rs k.0 ∙ all-kept-none rs k.1
 
-pub none-all-kept : (rules : List Rule) → first-broken rules ≡ none → Every Kept rules
+pub none-all-kept : (rules : List Rule) → first_broken rules ≡ none → Every Kept rules
 unfolding Every
 none-all-kept [] e = every-none Kept
 none-all-kept (r ∷ rs) e = by_test r.broken refl (λ h. none-all-kept rs (sym (next_one r rs h) ∙ e))
@@ -75,7 +75,7 @@ none-all-kept (r ∷ rs) e = by_test r.broken refl (λ h. none-all-kept rs (sym 
     by_test false h later = (h, later h)
 
 -- and a broken one, wherever it stands, is not passed over
-pub broken-not-none : (front : List Rule) (r : Rule) (back : List Rule) → r.broken ≡ true → first-broken (front ++ (r ∷ back)) ≡ none → ⊥
+pub broken-not-none : (front : List Rule) (r : Rule) (back : List Rule) → r.broken ≡ true → first_broken (front ++ (r ∷ back)) ≡ none → ⊥
 broken-not-none [] r back h e = none-not-found r.place (sym e ∙ first_one r back h)
 broken-not-none (q ∷ qs) r back h e = by_test q.broken refl (λ i. broken-not-none qs r back h (sym (next_one q (qs ++ (r ∷ back)) i) ∙ e))
   where

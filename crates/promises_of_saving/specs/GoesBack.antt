@@ -8,8 +8,8 @@ use Rattle.std.proofs.Math.ListN.{length}
 use Rattle.rules.specs.Layouts.{word}
 use Rattle.rules.specs.State.{State}
 use Rattle.rules.specs.declared.Resource.{Resource}
-use Rattle.rules.specs.Saved.{beyond-form-1, detail_place, count_place, beyond}
-use Rattle.rules.specs.Loaded.{names_place, section_2, section_3, section_4, loaded-names, loaded-tokens, loaded-sections, other_form}
+use Rattle.rules.specs.Saved.{beyond_form_1, detail_place, count_place, beyond}
+use Rattle.rules.specs.Loaded.{names_place, section_2, section_3, section_4, loaded_names, loaded_tokens, loaded_sections, other_form}
 use Rattle.rules.specs.declared.Form.{Form}
 use Rattle.rules.specs.declared.Form.TheVariants.{One, Two}
 use Rattle.promises_of_packets.specs.Held.{Every, every_back}
@@ -34,8 +34,8 @@ pub record GoesBack (b : List ℕ) : Type 0 where
 
 -- ---- what form 1 has a field for
 
-pub form-1-has : (s : State) → InForm1 s → beyond-form-1 s ≡ false
-unfolding beyond-form-1
+pub form-1-has : (s : State) → InForm1 s → beyond_form_1 s ≡ false
+unfolding beyond_form_1
 form-1-has s i =
     rw (eq-eqb (length s.belongings.tokens) 0 (ap length i.tokens), one-name-each s.belongings.resources i.one_name, eq-eqb s.regs.error.detail 0 i.detail)
 
@@ -57,10 +57,10 @@ module _ (b : List ℕ) (g : GoodSections Two b) where
   own : Every OneName rs
   own = section-2-one-name Two b g
 
-  goes_back : beyond One (loaded-sections Two b) ≡ false → GoesBack b
-  unfolding loaded-sections
+  goes_back : beyond One (loaded_sections Two b) ≡ false → GoesBack b
+  unfolding loaded_sections
   goes_back e =
-      let i : InForm1 (loaded-sections Two b) = in-form-1 (loaded-sections Two b) e in
+      let i : InForm1 (loaded_sections Two b) = in-form-1 (loaded_sections Two b) e in
       let none : ns ≡ [] =
       no_other rs ns (names-are-others rs own b (word b (names_at b)) (names_at b + 4) 0 g.later.names) (every_back OneName rs ns i.one_name) in
       record {
@@ -70,17 +70,17 @@ module _ (b : List ℕ) (g : GoodSections Two b) where
       }
 
   empty-names : word b (names_at b) ≡ 0 → ns ≡ []
-  unfolding loaded-names
-  empty-names e = ap (λ n. loaded-names n rs b (names_at b + 4)) e
+  unfolding loaded_names
+  empty-names e = ap (λ n. loaded_names n rs b (names_at b + 4)) e
 
   empty-tokens : word b (tokens_at b (names_at b)) ≡ 0 → section_4 b (names_at b) ≡ []
-  unfolding loaded-tokens
-  empty-tokens e = ap (λ n. loaded-tokens n b (tokens_at b (names_at b) + 4)) e
+  unfolding loaded_tokens
+  empty-tokens e = ap (λ n. loaded_tokens n b (tokens_at b (names_at b) + 4)) e
 
-  back-goes : GoesBack b → beyond One (loaded-sections Two b) ≡ false
-  unfolding loaded-sections
+  back-goes : GoesBack b → beyond One (loaded_sections Two b) ≡ false
+  unfolding loaded_sections
   back-goes e =
-      form-1-has (loaded-sections Two b)
+      form-1-has (loaded_sections Two b)
       (record {
         tokens = empty-tokens e.no-tokens;
         one_name = subst (Every OneName) (sym (ap (λ xs. rs ++ xs) (empty-names e.no_names) ∙ append-nil rs)) own;
@@ -94,6 +94,6 @@ Goes One b = 0 ≤ 0
 Goes Two b = GoesBack b
 
 pub goes-exactly : (f : Form) (b : List ℕ) → GoodSections f b
-    → (beyond (other_form f) (loaded-sections f b) ≡ false → Goes f b) × (Goes f b → beyond (other_form f) (loaded-sections f b) ≡ false)
+    → (beyond (other_form f) (loaded_sections f b) ≡ false → Goes f b) × (Goes f b → beyond (other_form f) (loaded_sections f b) ≡ false)
 goes-exactly One b g = (λ e. omega arith, λ e. refl)
 goes-exactly Two b g = (goes_back b g, back-goes b g)

@@ -6,10 +6,10 @@ use Rattle.std.proofs.Math.ListN.{length}
 use Rattle.machine.specs.Machine.{pick}
 use Rattle.rules.specs.Numbers.{most, most_layers, longest_side, device_magic, version, features, texture_kind}
 use Rattle.rules.specs.Layouts.{word, long}
-use Rattle.rules.specs.Shapes.{block-bytes, full-chain}
+use Rattle.rules.specs.Shapes.{block_bytes, full_chain}
 use Rattle.rules.specs.Packets.{backed}
 use Rattle.rules.specs.Saved.{resource_bytes, section_1_count, detail_place, memory_place, count_place, head_bytes}
-use Rattle.rules.specs.Loaded.{Rule, must, any, good_code, good_error, between, saved_shape, is_buffer, good_pitch, resource_rules, resources-rules, names_place, form_in, before-sections, sections, detail_rules, head_rules, section_2, later_rules, sections-rules, file-rules, detail_in}
+use Rattle.rules.specs.Loaded.{Rule, must, any, good_code, good_error, between, saved_shape, is_buffer, good_pitch, resource_rules, resources_rules, names_place, form_in, before_sections, sections, detail_rules, head_rules, section_2, later_rules, sections_rules, file_rules, detail_in}
 use Rattle.rules.specs.declared.Form.{Form}
 use Rattle.rules.specs.declared.Form.TheVariants.{One, Two}
 use Rattle.promises_of_packets.specs.Held.{Every, every-none, every_front, every_back, every-both}
@@ -133,10 +133,10 @@ pub record GoodResource (b : List ℕ) (at before : ℕ) : Type 0 where
   pub kind : is_buffer b at || eqb (word b (at + 4)) texture_kind ≡ true
   pub size_low : is_buffer b at || eqb (word b (at + 8)) 0 ≡ true
   pub size-high : pick (is_buffer b at) (not (eqb (long b (at + 8)) 0)) (eqb (word b (at + 12)) 0) ≡ true
-  pub format : pick (is_buffer b at) (eqb (word b (at + 16)) 0) (ltb 0 (block-bytes (word b (at + 16)))) ≡ true
+  pub format : pick (is_buffer b at) (eqb (word b (at + 16)) 0) (ltb 0 (block_bytes (word b (at + 16)))) ≡ true
   pub width : pick (is_buffer b at) (eqb (word b (at + 20)) 0) (between 1 longest_side (word b (at + 20))) ≡ true
   pub height : pick (is_buffer b at) (eqb (word b (at + 24)) 0) (between 1 longest_side (word b (at + 24))) ≡ true
-  pub mips : pick (is_buffer b at) (eqb (word b (at + 28)) 0) (between 1 (full-chain (word b (at + 20)) (word b (at + 24))) (word b (at + 28))) ≡ true
+  pub mips : pick (is_buffer b at) (eqb (word b (at + 28)) 0) (between 1 (full_chain (word b (at + 20)) (word b (at + 24))) (word b (at + 28))) ≡ true
   pub layers : pick (is_buffer b at) (eqb (word b (at + 32)) 0) (between 1 most_layers (word b (at + 32))) ≡ true
   pub pitch : not (is_buffer b at) || eqb (word b (at + 36)) 0 ≡ true
   pub backing : is_buffer b at || good_pitch (saved_shape b at) (word b (at + 36)) (word b (at + 40)) ≡ true
@@ -196,19 +196,19 @@ unfoldable pub GoodResources : ℕ → List ℕ → ℕ → ℕ → Type 0
 GoodResources zero b at before = 0 ≤ 0
 GoodResources (suc n) b at before = GoodResource b at before × GoodResources n b (at + resource_bytes) (word b at)
 
-pub good-resources : (n : ℕ) (b : List ℕ) (at before : ℕ) → Every Kept (resources-rules n b at before) → GoodResources n b at before
-unfolding GoodResources resources-rules
+pub good-resources : (n : ℕ) (b : List ℕ) (at before : ℕ) → Every Kept (resources_rules n b at before) → GoodResources n b at before
+unfolding GoodResources resources_rules
 good-resources zero b at before k = omega arith
 good-resources (suc n) b at before k = (
-  good-resource b at before (every_front Kept (resource_rules b at before) (resources-rules n b (at + resource_bytes) (word b at)) k),
-  good-resources n b (at + resource_bytes) (word b at) (every_back Kept (resource_rules b at before) (resources-rules n b (at + resource_bytes) (word b at)) k),
+  good-resource b at before (every_front Kept (resource_rules b at before) (resources_rules n b (at + resource_bytes) (word b at)) k),
+  good-resources n b (at + resource_bytes) (word b at) (every_back Kept (resource_rules b at before) (resources_rules n b (at + resource_bytes) (word b at)) k),
 )
 
-pub resources-kept : (n : ℕ) (b : List ℕ) (at before : ℕ) → GoodResources n b at before → Every Kept (resources-rules n b at before)
-unfolding GoodResources resources-rules
+pub resources-kept : (n : ℕ) (b : List ℕ) (at before : ℕ) → GoodResources n b at before → Every Kept (resources_rules n b at before)
+unfolding GoodResources resources_rules
 resources-kept zero b at before g = every-none Kept
 resources-kept (suc n) b at before g =
-    every-both Kept (resource_rules b at before) (resources-rules n b (at + resource_bytes) (word b at)) (resource-kept b at before g.0)
+    every-both Kept (resource_rules b at before) (resources_rules n b (at + resource_bytes) (word b at)) (resource-kept b at before g.0)
     (resources-kept n b (at + resource_bytes) (word b at) g.1)
 
 -- they are all there
@@ -242,13 +242,13 @@ module _ (b : List ℕ) (at : ℕ) where
 
 module _ (f : Form) (b : List ℕ) where
   abbrev rules_of_resources : List Rule
-  rules_of_resources = resources-rules (word b (count_place f)) b (head_bytes f) 0
+  rules_of_resources = resources_rules (word b (count_place f)) b (head_bytes f) 0
 
   abbrev rules_after : List Rule
   rules_after = later_rules f b (names_place f (word b (count_place f)))
 
-  pub good-sections : Every Kept (sections-rules f b) → GoodSections f b
-  unfolding sections-rules
+  pub good-sections : Every Kept (sections_rules f b) → GoodSections f b
+  unfolding sections_rules
   good-sections k =
       let h : GoodHead f b = good-head f b (every_front Kept (head_rules f b) (rules_of_resources ++ rules_after) k) in
       let rest : Every Kept (rules_of_resources ++ rules_after) = every_back Kept (head_rules f b) (rules_of_resources ++ rules_after) k in
@@ -261,8 +261,8 @@ module _ (f : Form) (b : List ℕ) where
             (every_back Kept rules_of_resources rules_after rest);
       }
 
-  pub sections-kept : GoodSections f b → Every Kept (sections-rules f b)
-  unfolding sections-rules
+  pub sections-kept : GoodSections f b → Every Kept (sections_rules f b)
+  unfolding sections_rules
   sections-kept g =
       every-both Kept (head_rules f b) (rules_of_resources ++ rules_after) (head-kept f b g.head)
       (every-both Kept rules_of_resources rules_after (resources-kept (word b (count_place f)) b (head_bytes f) 0 g.resources)
@@ -274,11 +274,11 @@ abbrev pub GoodFile : List ℕ → Type 0
 GoodFile b = GoodSections (form_in b) (sections b)
 
 module _ (b : List ℕ) where
-  pub good-file : Every Kept (file-rules b) → GoodFile b
-  unfolding file-rules
+  pub good-file : Every Kept (file_rules b) → GoodFile b
+  unfolding file_rules
   good-file k =
-      good-sections (form_in b) (sections b) (kept-before (before-sections b) (sections-rules (form_in b) (sections b)) k)
+      good-sections (form_in b) (sections b) (kept-before (before_sections b) (sections_rules (form_in b) (sections b)) k)
 
-  pub file-kept : GoodFile b → Every Kept (file-rules b)
-  unfolding file-rules
-  file-kept g = kept-behind (before-sections b) (sections-rules (form_in b) (sections b)) (sections-kept (form_in b) (sections b) g)
+  pub file-kept : GoodFile b → Every Kept (file_rules b)
+  unfolding file_rules
+  file-kept g = kept-behind (before_sections b) (sections_rules (form_in b) (sections b)) (sections-kept (form_in b) (sections b) g)

@@ -1,16 +1,16 @@
 -- A good shape, number by number, as a file's rules ask for it. Assumes nothing.
 use Rattle.std.specs.Prelude.{◌≡◌, Bool, true, ◌&&◌, ltb, leb}
 use Rattle.rules.specs.Numbers.{most_layers, longest_side}
-use Rattle.rules.specs.Shapes.{block-bytes, full-chain, good-shape}
+use Rattle.rules.specs.Shapes.{block_bytes, full_chain, good_shape}
 use Rattle.rules.specs.declared.Shape.{Shape}
 use Rattle.rules.specs.Loaded.{between}
 use Rattle.rule_laws.specs.Fine.{both_left, both_right}
 
 pub record GoodSides (s : Shape) : Type 0 where
-  pub format : ltb 0 (block-bytes s.format) ≡ true
+  pub format : ltb 0 (block_bytes s.format) ≡ true
   pub width : between 1 longest_side s.width ≡ true
   pub height : between 1 longest_side s.height ≡ true
-  pub mips : between 1 (full-chain s.width s.height) s.mips ≡ true
+  pub mips : between 1 (full_chain s.width s.height) s.mips ≡ true
   pub layers : between 1 most_layers s.layers ≡ true
 
 -- tests two by two, and in a row
@@ -31,16 +31,16 @@ module _ (f a b c d e g h i : Bool) where
       (both_left f _ k, (rw (both_left a _ ka, both_left b _ kb), (rw (both_left c _ kc, both_left d _ kd), (rw (both_left e _ ke, both_left g _ kg), kh))))
 
 module _ (s : Shape) where
-  pub sides-good : GoodSides s → good-shape s ≡ true
-  unfolding good-shape
+  pub sides-good : GoodSides s → good_shape s ≡ true
+  unfolding good_shape
   sides-good g =
-      in_a_row (ltb 0 (block-bytes s.format)) (leb 1 s.width) (leb s.width longest_side) (leb 1 s.height) (leb s.height longest_side)
-      (leb 1 s.mips) (leb s.mips (full-chain s.width s.height)) (leb 1 s.layers) (leb s.layers most_layers)
+      in_a_row (ltb 0 (block_bytes s.format)) (leb 1 s.width) (leb s.width longest_side) (leb 1 s.height) (leb s.height longest_side)
+      (leb 1 s.mips) (leb s.mips (full_chain s.width s.height)) (leb 1 s.layers) (leb s.layers most_layers)
       g.format g.width g.height g.mips g.layers
 
-  pub good-sides : good-shape s ≡ true → GoodSides s
-  unfolding good-shape
+  pub good-sides : good_shape s ≡ true → GoodSides s
+  unfolding good_shape
   good-sides e =
-      let k = two-by-two (ltb 0 (block-bytes s.format)) (leb 1 s.width) (leb s.width longest_side) (leb 1 s.height) (leb s.height longest_side)
-      (leb 1 s.mips) (leb s.mips (full-chain s.width s.height)) (leb 1 s.layers) (leb s.layers most_layers) e in
+      let k = two-by-two (ltb 0 (block_bytes s.format)) (leb 1 s.width) (leb s.width longest_side) (leb 1 s.height) (leb s.height longest_side)
+      (leb 1 s.mips) (leb s.mips (full_chain s.width s.height)) (leb 1 s.layers) (leb s.layers most_layers) e in
       record { format = k.0; width = k.1.0; height = k.1.1.0; mips = k.1.1.1.0; layers = k.1.1.1.1 }

@@ -12,7 +12,7 @@ use Rattle.rules.specs.Layouts.{word, long}
 use Rattle.rules.specs.Packets.{handle_of}
 use Rattle.rules.specs.declared.Resource.{Resource}
 use Rattle.rules.specs.Saved.{name_bytes, token_bytes}
-use Rattle.rules.specs.Loaded.{Rule, end_rule, is_free, may_be_shared, name_rules, names-rules, token_rules, tokens-rules, tokens_place, end_place, section-3-rules, section-4-rules}
+use Rattle.rules.specs.Loaded.{Rule, end_rule, is_free, may_be_shared, name_rules, names_rules, token_rules, tokens_rules, tokens_place, end_place, section_3_rules, section_4_rules}
 use Rattle.rule_laws.specs.Fine.{both_left, both_right}
 use Rattle.promises_of_packets.specs.Names.{true-not-false}
 use Rattle.promises_of_packets.specs.Held.{Every, every-none, every_front, every_back, every-both}
@@ -78,19 +78,19 @@ unfoldable pub GoodNames : ℕ → List Resource → List ℕ → ℕ → ℕ �
 GoodNames zero rs b at before = 0 ≤ 0
 GoodNames (suc n) rs b at before = GoodName rs b at before × GoodNames n rs b (at + name_bytes) (word b at)
 
-good-names : (n : ℕ) (rs : List Resource) (b : List ℕ) (at before : ℕ) → Every Kept (names-rules n rs b at before) → GoodNames n rs b at before
-unfolding GoodNames names-rules
+good-names : (n : ℕ) (rs : List Resource) (b : List ℕ) (at before : ℕ) → Every Kept (names_rules n rs b at before) → GoodNames n rs b at before
+unfolding GoodNames names_rules
 good-names zero rs b at before k = omega arith
 good-names (suc n) rs b at before k = (
-  good-name rs b at before (every_front Kept (name_rules rs b at before) (names-rules n rs b (at + name_bytes) (word b at)) k),
-  good-names n rs b (at + name_bytes) (word b at) (every_back Kept (name_rules rs b at before) (names-rules n rs b (at + name_bytes) (word b at)) k),
+  good-name rs b at before (every_front Kept (name_rules rs b at before) (names_rules n rs b (at + name_bytes) (word b at)) k),
+  good-names n rs b (at + name_bytes) (word b at) (every_back Kept (name_rules rs b at before) (names_rules n rs b (at + name_bytes) (word b at)) k),
 )
 
-names_kept : (n : ℕ) (rs : List Resource) (b : List ℕ) (at before : ℕ) → GoodNames n rs b at before → Every Kept (names-rules n rs b at before)
-unfolding GoodNames names-rules
+names_kept : (n : ℕ) (rs : List Resource) (b : List ℕ) (at before : ℕ) → GoodNames n rs b at before → Every Kept (names_rules n rs b at before)
+unfolding GoodNames names_rules
 names_kept zero rs b at before g = every-none Kept
 names_kept (suc n) rs b at before g =
-    every-both Kept (name_rules rs b at before) (names-rules n rs b (at + name_bytes) (word b at)) (name-kept rs b at before g.0)
+    every-both Kept (name_rules rs b at before) (names_rules n rs b (at + name_bytes) (word b at)) (name-kept rs b at before g.0)
     (names_kept n rs b (at + name_bytes) (word b at) g.1)
 
 -- ---- a token
@@ -124,19 +124,19 @@ unfoldable pub GoodTokens : ℕ → List Resource → List ℕ → ℕ → ℕ �
 GoodTokens zero rs b at before = 0 ≤ 0
 GoodTokens (suc n) rs b at before = GoodToken rs b at before × GoodTokens n rs b (at + token_bytes) (long b at)
 
-good-tokens : (n : ℕ) (rs : List Resource) (b : List ℕ) (at before : ℕ) → Every Kept (tokens-rules n rs b at before) → GoodTokens n rs b at before
-unfolding GoodTokens tokens-rules
+good-tokens : (n : ℕ) (rs : List Resource) (b : List ℕ) (at before : ℕ) → Every Kept (tokens_rules n rs b at before) → GoodTokens n rs b at before
+unfolding GoodTokens tokens_rules
 good-tokens zero rs b at before k = omega arith
 good-tokens (suc n) rs b at before k = (
-  good-token rs b at before (every_front Kept (token_rules rs b at before) (tokens-rules n rs b (at + token_bytes) (long b at)) k),
-  good-tokens n rs b (at + token_bytes) (long b at) (every_back Kept (token_rules rs b at before) (tokens-rules n rs b (at + token_bytes) (long b at)) k),
+  good-token rs b at before (every_front Kept (token_rules rs b at before) (tokens_rules n rs b (at + token_bytes) (long b at)) k),
+  good-tokens n rs b (at + token_bytes) (long b at) (every_back Kept (token_rules rs b at before) (tokens_rules n rs b (at + token_bytes) (long b at)) k),
 )
 
-tokens-kept : (n : ℕ) (rs : List Resource) (b : List ℕ) (at before : ℕ) → GoodTokens n rs b at before → Every Kept (tokens-rules n rs b at before)
-unfolding GoodTokens tokens-rules
+tokens-kept : (n : ℕ) (rs : List Resource) (b : List ℕ) (at before : ℕ) → GoodTokens n rs b at before → Every Kept (tokens_rules n rs b at before)
+unfolding GoodTokens tokens_rules
 tokens-kept zero rs b at before g = every-none Kept
 tokens-kept (suc n) rs b at before g =
-    every-both Kept (token_rules rs b at before) (tokens-rules n rs b (at + token_bytes) (long b at)) (token-kept rs b at before g.0)
+    every-both Kept (token_rules rs b at before) (tokens_rules n rs b (at + token_bytes) (long b at)) (token-kept rs b at before g.0)
     (tokens-kept n rs b (at + token_bytes) (long b at) g.1)
 
 -- they are all there
@@ -163,15 +163,15 @@ module _ (rs : List Resource) (b : List ℕ) (at : ℕ) where
   ends = end_rule b (end_place (tokens_at b at) (word b (tokens_at b at))) ∷ []
 
   abbrev tokens_of_file : List Rule
-  tokens_of_file = tokens-rules (word b (tokens_at b at)) rs b (tokens_at b at + 4) 0
+  tokens_of_file = tokens_rules (word b (tokens_at b at)) rs b (tokens_at b at + 4) 0
 
   abbrev names_of_file : List Rule
-  names_of_file = names-rules (word b at) rs b (at + 4) 0
+  names_of_file = names_rules (word b at) rs b (at + 4) 0
 
-  pub good-shared : Every Kept (section-3-rules rs b at) → GoodShared rs b at
-  unfolding Every section-3-rules section-4-rules
+  pub good-shared : Every Kept (section_3_rules rs b at) → GoodShared rs b at
+  unfolding Every section_3_rules section_4_rules
   good-shared k =
-      let later = every_back Kept names_of_file (section-4-rules rs b (tokens_at b at)) k.1 in
+      let later = every_back Kept names_of_file (section_4_rules rs b (tokens_at b at)) k.1 in
       let t : GoodTokens (word b (tokens_at b at)) rs b (tokens_at b at + 4) 0 =
       good-tokens (word b (tokens_at b at)) rs b (tokens_at b at + 4) 0 (every_front Kept tokens_of_file ends later.1) in
       let e = every_back Kept tokens_of_file ends later.1 in
@@ -180,17 +180,17 @@ module _ (rs : List Resource) (b : List ℕ) (at : ℕ) where
       let here : tokens_at b at + 4 ≤ length b = must-here b (tokens_at b at) few later.0 in
       record {
         few-names = leb-true (length rs + word b at) most (must-holds b at (leb (length rs + word b at) most) k.0);
-        names = good-names (word b at) rs b (at + 4) 0 (every_front Kept names_of_file (section-4-rules rs b (tokens_at b at)) k.1);
+        names = good-names (word b at) rs b (at + 4) 0 (every_front Kept names_of_file (section_4_rules rs b (tokens_at b at)) k.1);
         few-tokens = leb-true (word b (tokens_at b at)) most_tokens (must-holds b (tokens_at b at) few later.0);
         tokens = t;
         long_as = omega (arith, tokens-reach (word b (tokens_at b at)) rs b (tokens_at b at + 4) 0 here t);
       }
 
-  pub shared_kept : GoodShared rs b at → Every Kept (section-3-rules rs b at)
-  unfolding Every section-3-rules section-4-rules
+  pub shared_kept : GoodShared rs b at → Every Kept (section_3_rules rs b at)
+  unfolding Every section_3_rules section_4_rules
   shared_kept g = (
     must-kept b at (leb (length rs + word b at) most) (omega (arith, g.long_as)) (le-leb (length rs + word b at) most g.few-names),
-    every-both Kept names_of_file (section-4-rules rs b (tokens_at b at)) (names_kept (word b at) rs b (at + 4) 0 g.names) (
+    every-both Kept names_of_file (section_4_rules rs b (tokens_at b at)) (names_kept (word b at) rs b (at + 4) 0 g.names) (
       must-kept b (tokens_at b at) (leb (word b (tokens_at b at)) most_tokens) (omega (arith, g.long_as)) (le-leb (word b (tokens_at b at)) most_tokens g.few-tokens),
       every-both Kept tokens_of_file ends (tokens-kept (word b (tokens_at b at)) rs b (tokens_at b at + 4) 0 g.tokens)
           (le-ltb (end_place (tokens_at b at) (word b (tokens_at b at))) (length b) (omega (arith, g.long_as)), every-none Kept),

@@ -17,8 +17,8 @@ use Rattle.rules.specs.Calls.{at_rest}
 use Rattle.rules.specs.declared.LastError.{LastError}
 use Rattle.rules.specs.declared.Resource.{Resource}
 use Rattle.rules.specs.declared.Token.{Token}
-use Rattle.rules.specs.Saved.{resources-fields, is_other_name, other-name-among, beyond-form-1, count_place, head_bytes, firsts_of, others_of, tokens_of, names-fields, tokens-fields, shared_fields, saved, beyond, call-save}
-use Rattle.rules.specs.Loaded.{loaded-resources, Loaded, names_place, tokens_place, sections, bad-place, loaded_registers, loaded-names, loaded-tokens, section_2, section_3, section_4, loaded_belongings, loaded-sections, loaded, call-load}
+use Rattle.rules.specs.Saved.{resources_fields, is_other_name, other_name_among, beyond_form_1, count_place, head_bytes, firsts_of, others_of, tokens_of, names_fields, tokens_fields, shared_fields, saved, beyond, call_save}
+use Rattle.rules.specs.Loaded.{loaded_resources, Loaded, names_place, tokens_place, sections, bad_place, loaded_registers, loaded_names, loaded_tokens, section_2, section_3, section_4, loaded_belongings, loaded_sections, loaded, call_load}
 use Rattle.rules.specs.declared.Form.{Form}
 use Rattle.rules.specs.declared.Form.TheVariants.{One, Two}
 use Rattle.rule_laws.specs.Created.{AsCreated}
@@ -42,11 +42,11 @@ neither : (a b : Bool) → a || b ≡ false → (a ≡ false) × (b ≡ false)
 neither true b e = absurd (true-not-false e)
 neither false b e = (refl, e)
 
-one_name : (rs : List Resource) → other-name-among rs ≡ false → Every OneName rs
-unfolding other-name-among Every
+one_name : (rs : List Resource) → other_name_among rs ≡ false → Every OneName rs
+unfolding other_name_among Every
 one_name [] e = every-none OneName
 one_name (r ∷ rs) e =
-    let n = neither (is_other_name r) (other-name-among rs) e in
+    let n = neither (is_other_name r) (other_name_among rs) e in
     (sym (eqb-true r.handle r.lowest (not-false (eqb r.handle r.lowest) n.0)), one_name rs n.1)
 
 nothing-in : {A : Type 0} (xs : List A) → length xs ≡ 0 → xs ≡ []
@@ -58,11 +58,11 @@ pub record InForm1 (s : State) : Type 0 where
   pub one_name : Every OneName s.belongings.resources
   pub detail : s.regs.error.detail ≡ 0
 
-pub in-form-1 : (s : State) → beyond-form-1 s ≡ false → InForm1 s
-unfolding beyond-form-1
+pub in-form-1 : (s : State) → beyond_form_1 s ≡ false → InForm1 s
+unfolding beyond_form_1
 in-form-1 s e =
     let n = neither (not (eqb (length s.belongings.tokens) 0)) _ e in
-    let m = neither (other-name-among s.belongings.resources) _ n.1 in
+    let m = neither (other_name_among s.belongings.resources) _ n.1 in
     record {
       tokens = nothing-in s.belongings.tokens (eqb-true (length s.belongings.tokens) 0 (not-false _ n.0));
       one_name = one_name s.belongings.resources m.0;
@@ -92,20 +92,20 @@ module _ (f : Form) (s : State) (v : Savable s) where
   abbrev b : List ℕ
   b = saved_sections f s
 
-  resources-back : GoodResources (length (firsts_of s)) b (head_bytes f) 0 × (loaded-resources (length (firsts_of s)) b (head_bytes f) ≡ firsts_of s)
+  resources-back : GoodResources (length (firsts_of s)) b (head_bytes f) 0 × (loaded_resources (length (firsts_of s)) b (head_bytes f) ≡ firsts_of s)
   resources-back =
       written-resources (firsts_of s) (shared_fields f s) b (head_bytes f) 0 (firsts-rise s v) (every_first s v AsCreated v.created) (firsts-own s v)
       (every_first s v FitsResource v.fits.resources) (omega (arith, length-sections f s)) (reads-resources f s v)
 
   section-2-back : section_2 f b ≡ firsts_of s
-  section-2-back = ap (λ n. loaded-resources n b (head_bytes f)) (head_read f s v).number ∙ resources-back.1
+  section-2-back = ap (λ n. loaded_resources n b (head_bytes f)) (head_read f s v).number ∙ resources-back.1
 
   -- where what comes after them begins
   abbrev next : ℕ
   next = names_place f (length (firsts_of s))
 
   reads-next : Reads b next (shared_fields f s)
-  reads-next = reads-later b (head_bytes f) next (resources-fields (firsts_of s)) (shared_fields f s) (omega (arith, length_fields (firsts_of s))) (reads-resources f s v)
+  reads-next = reads-later b (head_bytes f) next (resources_fields (firsts_of s)) (shared_fields f s) (omega (arith, length_fields (firsts_of s))) (reads-resources f s v)
 
   at_next : names_place f (word b (count_place f)) ≡ next
   at_next = ap (names_place f) (head_read f s v).number
@@ -124,17 +124,17 @@ module _ (s : State) (v : Savable s) where
   at = next Two s v
 
   abbrev tokens_part : List ℕ
-  tokens_part = length (tokens_of s) ∷ tokens-fields (tokens_of s)
+  tokens_part = length (tokens_of s) ∷ tokens_fields (tokens_of s)
 
   few-others : word c at ≡ length (others_of s)
   few-others = word_back (word c at) (length (others_of s)) (reads_first c at (shared_fields Two s) (reads-next Two s v)) (omega (arith, few-names s v))
 
-  reads-names : Reads c (at + 4) (names-fields (others_of s) ++ tokens_part)
-  reads-names = reads-later c at (at + 4) (length (others_of s) ∷ []) (names-fields (others_of s) ++ tokens_part) refl (reads-next Two s v)
+  reads-names : Reads c (at + 4) (names_fields (others_of s) ++ tokens_part)
+  reads-names = reads-later c at (at + 4) (length (others_of s) ∷ []) (names_fields (others_of s) ++ tokens_part) refl (reads-next Two s v)
 
   reads-tokens : Reads c (tokens_place at (length (others_of s))) tokens_part
   reads-tokens =
-      reads-later c (at + 4) (tokens_place at (length (others_of s))) (names-fields (others_of s)) tokens_part
+      reads-later c (at + 4) (tokens_place at (length (others_of s))) (names_fields (others_of s)) tokens_part
       (omega (arith, length-names-fields (others_of s))) reads-names
 
   tokens-here : tokens_at c at ≡ tokens_place at (length (others_of s))
@@ -145,17 +145,17 @@ module _ (s : State) (v : Savable s) where
       word_back (word c (tokens_at c at)) (length (tokens_of s))
       (ap (word c) tokens-here ∙ reads_first c (tokens_place at (length (others_of s))) tokens_part reads-tokens) (omega (arith, few-tokens s v))
 
-  names-back : GoodNames (length (others_of s)) (firsts_of s) c (at + 4) 0 × (loaded-names (length (others_of s)) (firsts_of s) c (at + 4) ≡ others_of s)
+  names-back : GoodNames (length (others_of s)) (firsts_of s) c (at + 4) 0 × (loaded_names (length (others_of s)) (firsts_of s) c (at + 4) ≡ others_of s)
   names-back =
       written-names (others_of s) (firsts_of s) tokens_part c (at + 4) 0 (others-rise s v) (others-are s v) (every-other s v FitsResource v.fits.resources)
       (omega (arith, length-sections Two s)) reads-names
 
   tokens-back : GoodTokens (length (tokens_of s)) (firsts_of s) c (tokens_place at (length (others_of s)) + 4) 0
-      × (loaded-tokens (length (tokens_of s)) c (tokens_place at (length (others_of s)) + 4) ≡ tokens_of s)
+      × (loaded_tokens (length (tokens_of s)) c (tokens_place at (length (others_of s)) + 4) ≡ tokens_of s)
   tokens-back =
       written-tokens (tokens_of s) (firsts_of s) c (tokens_place at (length (others_of s)) + 4) 0 (tokens-rise s v) (tokens-are s v) (tokens-fit s v)
       (omega (arith, length-sections Two s))
-      (reads-later c (tokens_place at (length (others_of s))) (tokens_place at (length (others_of s)) + 4) (length (tokens_of s) ∷ []) (tokens-fields (tokens_of s)) refl reads-tokens)
+      (reads-later c (tokens_place at (length (others_of s))) (tokens_place at (length (others_of s)) + 4) (length (tokens_of s) ∷ []) (tokens_fields (tokens_of s)) refl reads-tokens)
 
   shared_back : SharedBack (firsts_of s) c at s
   shared_back =
@@ -168,8 +168,8 @@ module _ (s : State) (v : Savable s) where
               (subst (λ k. GoodTokens (length (tokens_of s)) (firsts_of s) c (k + 4) 0) (sym tokens-here) tokens-back.0);
           long_as = omega (arith, length-sections Two s, few-others, many-tokens);
         };
-        names = ap (λ n. loaded-names n (firsts_of s) c (at + 4)) few-others ∙ names-back.1;
-        tokens = ap (λ n. loaded-tokens n c (tokens_at c at + 4)) many-tokens ∙ (ap (λ k. loaded-tokens (length (tokens_of s)) c (k + 4)) tokens-here ∙ tokens-back.1);
+        names = ap (λ n. loaded_names n (firsts_of s) c (at + 4)) few-others ∙ names-back.1;
+        tokens = ap (λ n. loaded_tokens n c (tokens_at c at + 4)) many-tokens ∙ (ap (λ k. loaded_tokens (length (tokens_of s)) c (k + 4)) tokens-here ∙ tokens-back.1);
       }
 
 -- what a file of the form says of the belongings
@@ -226,7 +226,7 @@ module _ (f : Form) (s : State) (v : Savable s) where
       subst (λ x. GoodSections x (sections (saved f s))) (sym (form-of-saved f s))
       (subst (GoodSections f) (sym (sections-of-saved f s)) good-sections-written)
 
-  pub saved-is-good : bad-place (saved f s) ≡ none
+  pub saved-is-good : bad_place (saved f s) ≡ none
   saved-is-good = kept-is-good (saved f s) (file-kept (saved f s) good-file-written)
 
   pub registers-back : beyond f s ≡ false → loaded_registers f (saved_sections f s) ≡ s.regs
@@ -238,8 +238,8 @@ module _ (f : Form) (s : State) (v : Savable s) where
       (same-error h.code h.fence h.count (h.detail ∙ all-of-detail s v f form))
       (ap (λ n. eqb n 1) h.flag ∙ flag-of-bit s.regs.doorbell)
 
-  sections-same : beyond f s ≡ false → at_rest s.work ≡ true → SameDevice (loaded-sections f (saved_sections f s)) s
-  unfolding loaded-sections
+  sections-same : beyond f s ≡ false → at_rest s.work ≡ true → SameDevice (loaded_sections f (saved_sections f s)) s
+  unfolding loaded_sections
   sections-same form rest =
       record {
         memory = (head_read f s v).memory;
@@ -249,9 +249,9 @@ module _ (f : Form) (s : State) (v : Savable s) where
         work = sym (rests s.work rest);
       }
 
-  pub loaded-of-saved : loaded (saved f s) ≡ loaded-sections f (saved_sections f s)
+  pub loaded-of-saved : loaded (saved f s) ≡ loaded_sections f (saved_sections f s)
   unfolding loaded
-  loaded-of-saved = ap (λ x. loaded-sections x (sections (saved f s))) (form-of-saved f s) ∙ ap (loaded-sections f) (sections-of-saved f s)
+  loaded-of-saved = ap (λ x. loaded_sections x (sections (saved f s))) (form-of-saved f s) ∙ ap (loaded_sections f) (sections-of-saved f s)
 
   -- and says the device that was saved
   pub same_back : beyond f s ≡ false → at_rest s.work ≡ true → SameDevice (loaded (saved f s)) s
@@ -266,10 +266,10 @@ pub record LoadedBack (s : State) (l : Loaded) : Type 0 where
   pub device : SameDevice l.state s
 
 -- what a save that was done wrote, any device loads, and is then the device that was saved
-pub load-of-save : (f : Form) (s : State) → Savable s → (buffer : List ℕ) → (call-save f s buffer).answer ≡ done
-    → (t : State) → LoadedBack s (call-load t (take (call-save f s buffer).length (call-save f s buffer).buffer))
+pub load-of-save : (f : Form) (s : State) → Savable s → (buffer : List ℕ) → (call_save f s buffer).answer ≡ done
+    → (t : State) → LoadedBack s (call_load t (take (call_save f s buffer).length (call_save f s buffer).buffer))
 load-of-save f s v buffer d t =
     let y : SaveDone f s buffer = (save-done-exactly f s buffer).0 d in
-    let is : call-load t (take (call-save f s buffer).length (call-save f s buffer).buffer) ≡ record { answer = done; place = 0; state = loaded (saved f s) } =
-    ap (call-load t) (done-save-keeps-later-bytes f s buffer d).file ∙ load-of-good t (saved f s) (saved-is-good f s v) in
+    let is : call_load t (take (call_save f s buffer).length (call_save f s buffer).buffer) ≡ record { answer = done; place = 0; state = loaded (saved f s) } =
+    ap (call_load t) (done-save-keeps-later-bytes f s buffer d).file ∙ load-of-good t (saved f s) (saved-is-good f s v) in
     subst (LoadedBack s) (sym is) (record { answer = refl; place = refl; device = same_back f s v y.form y.rest })

@@ -9,10 +9,10 @@ use Rattle.rules.specs.Lists.{Found, lookup}
 use Rattle.rules.specs.Lists.Found.{none, found}
 use Rattle.rules.specs.Layouts.{word, long}
 use Rattle.rules.specs.Packets.{Belongings, handle_of, backed}
-use Rattle.rules.specs.Shapes.{packed-size}
+use Rattle.rules.specs.Shapes.{packed_size}
 use Rattle.rules.specs.declared.Resource.{Resource}
 use Rattle.rules.specs.Saved.{resource_bytes, memory_place, count_place, head_bytes, detail_place, name_bytes, token_bytes}
-use Rattle.rules.specs.Loaded.{saved_shape, loaded-resource, loaded-resources, names_place, form_in, sections, section_2, section_3, bad-place, detail_in, named, loaded-names, loaded-tokens, loaded_belongings, loaded-sections, loaded}
+use Rattle.rules.specs.Loaded.{saved_shape, loaded_resource, loaded_resources, names_place, form_in, sections, section_2, section_3, bad_place, detail_in, named, loaded_names, loaded_tokens, loaded_belongings, loaded_sections, loaded}
 use Rattle.rules.specs.declared.Form.{Form}
 use Rattle.rules.specs.declared.Form.TheVariants.{One, Two}
 use Rattle.texture_sizes.specs.Packed.{packed-small}
@@ -39,7 +39,7 @@ module _ (b : List ℕ) (o : OfBytes b) where
   word_of : (at : ℕ) → word b at < 2 ^ 32
   word_of at = word_fits b at o
 
-  resource-fits : (at : ℕ) → FitsResource (loaded-resource b at)
+  resource-fits : (at : ℕ) → FitsResource (loaded_resource b at)
   resource-fits at =
       by_kind b at FitsResource
       (λ e. record {
@@ -61,13 +61,13 @@ module _ (b : List ℕ) (o : OfBytes b) where
         lowest = word_of at;
       })
     where
-      packed-fits : (at : ℕ) → pick (backed (word b (at + 40))) (packed-size (saved_shape b at) (word b (at + 36))) 0 < 2 ^ 64
+      packed-fits : (at : ℕ) → pick (backed (word b (at + 40))) (packed_size (saved_shape b at) (word b (at + 36))) 0 < 2 ^ 64
       packed-fits at =
-          let small : packed-size (saved_shape b at) (word b (at + 36)) < 2 ^ 58 = packed-small (saved_shape b at) (word b (at + 36)) (word_of (at + 36)) in
-          either-fits (backed (word b (at + 40))) (packed-size (saved_shape b at) (word b (at + 36))) (2 ^ 64) (omega arith) (omega arith)
+          let small : packed_size (saved_shape b at) (word b (at + 36)) < 2 ^ 58 = packed-small (saved_shape b at) (word b (at + 36)) (word_of (at + 36)) in
+          either-fits (backed (word b (at + 40))) (packed_size (saved_shape b at) (word b (at + 36))) (2 ^ 64) (omega arith) (omega arith)
 
-  resources-fit : (n at : ℕ) → Every FitsResource (loaded-resources n b at)
-  unfolding loaded-resources Every
+  resources-fit : (n at : ℕ) → Every FitsResource (loaded_resources n b at)
+  unfolding loaded_resources Every
   resources-fit zero at = every-none FitsResource
   resources-fit (suc n) at = (resource-fits at, resources-fit n (at + resource_bytes))
 
@@ -91,16 +91,16 @@ module _ (b : List ℕ) (o : OfBytes b) where
         every-none FitsResource,
       )
 
-  names-fit : (rs : List Resource) → Every FitsResource rs → (n at : ℕ) → Every FitsResource (loaded-names n rs b at)
-  unfolding loaded-names
+  names-fit : (rs : List Resource) → Every FitsResource rs → (n at : ℕ) → Every FitsResource (loaded_names n rs b at)
+  unfolding loaded_names
   names-fit rs h zero at = every-none FitsResource
   names-fit rs h (suc n) at =
-      every-both FitsResource (named (word b at) (lookup handle_of (word b (at + 4)) rs)) (loaded-names n rs b (at + name_bytes))
+      every-both FitsResource (named (word b at) (lookup handle_of (word b (at + 4)) rs)) (loaded_names n rs b (at + name_bytes))
       (named-fits at (lookup handle_of (word b (at + 4)) rs) (λ r e. every-found FitsResource handle_of (word b (at + 4)) rs r e h))
       (names-fit rs h n (at + name_bytes))
 
-  tokens-fit : (n at : ℕ) → Every FitsToken (loaded-tokens n b at)
-  unfolding loaded-tokens Every
+  tokens-fit : (n at : ℕ) → Every FitsToken (loaded_tokens n b at)
+  unfolding loaded_tokens Every
   tokens-fit zero at = every-none FitsToken
   tokens-fit (suc n) at = (record { name = word_of (at + 8); token = long-fits at }, tokens-fit n (at + token_bytes))
 
@@ -124,8 +124,8 @@ module _ (b : List ℕ) (o : OfBytes b) where
   detail-fits One = omega arith
   detail-fits Two = word_of detail_place
 
-  sections-fit : (f : Form) → Fits (loaded-sections f b)
-  unfolding loaded-sections
+  sections-fit : (f : Form) → Fits (loaded_sections f b)
+  unfolding loaded_sections
   sections-fit f =
       record {
         memory = long-fits (memory_place f);
@@ -142,7 +142,7 @@ module _ (b : List ℕ) (o : OfBytes b) where
       }
 
 -- so what was loaded is one that the theorems of saving speak of
-pub loaded-is-savable : (b : List ℕ) → OfBytes b → bad-place b ≡ none → Savable (loaded b)
+pub loaded-is-savable : (b : List ℕ) → OfBytes b → bad_place b ≡ none → Savable (loaded b)
 unfolding loaded
 loaded-is-savable b o good =
     let s : SoundAtRest (loaded b) = loaded-is-sound b good in

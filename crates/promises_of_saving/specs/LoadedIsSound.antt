@@ -13,7 +13,7 @@ use Rattle.rules.specs.State.Work.{resting}
 use Rattle.rules.specs.declared.Resource.{Resource}
 use Rattle.rules.specs.declared.Token.{Token}
 use Rattle.rules.specs.Saved.{count_place, head_bytes}
-use Rattle.rules.specs.Loaded.{Loaded, names_place, form_in, sections, section_2, section_3, section_4, bad-place, loaded_belongings, loaded-sections, loaded, call-load}
+use Rattle.rules.specs.Loaded.{Loaded, names_place, form_in, sections, section_2, section_3, section_4, bad_place, loaded_belongings, loaded_sections, loaded, call_load}
 use Rattle.rules.specs.declared.Form.{Form}
 use Rattle.rules.specs.declared.Form.TheVariants.{One, Two}
 use Rattle.rule_laws.specs.Created.{AsCreated, SoundError}
@@ -160,8 +160,8 @@ belongings-sound Two b g =
 
 -- ---- the device
 
-good-is-sound : (f : Form) (b : List ℕ) → GoodSections f b → SoundAtRest (loaded-sections f b)
-unfolding loaded-sections
+good-is-sound : (f : Form) (b : List ℕ) → GoodSections f b → SoundAtRest (loaded_sections f b)
+unfolding loaded_sections
 good-is-sound f b g =
     let s : SoundBelongings (loaded_belongings f (section_2 f b) b (names_place f (word b (count_place f)))) = belongings-sound f b g in
     record {
@@ -176,12 +176,12 @@ good-is-sound f b g =
     }
 
 -- what any good file says is a sound device, in either form
-pub loaded-is-sound : (b : List ℕ) → bad-place b ≡ none → SoundAtRest (loaded b)
+pub loaded-is-sound : (b : List ℕ) → bad_place b ≡ none → SoundAtRest (loaded b)
 unfolding loaded
 loaded-is-sound b good = good-is-sound (form_in b) (sections b) (good-file b (good-is-kept b good))
 
 -- and so is a device after any load that was done, whatever it was before
-pub load-is-sound : (s : State) (b : List ℕ) → (call-load s b).answer ≡ done → SoundAtRest (call-load s b).state
+pub load-is-sound : (s : State) (b : List ℕ) → (call_load s b).answer ≡ done → SoundAtRest (call_load s b).state
 load-is-sound s b d =
-    let good : bad-place b ≡ none = kept-is-good b ((loaded-exactly s b).0 d) in
+    let good : bad_place b ≡ none = kept-is-good b ((loaded-exactly s b).0 d) in
     subst (λ (l : Loaded). SoundAtRest l.state) (sym (load-of-good s b good)) (loaded-is-sound b good)

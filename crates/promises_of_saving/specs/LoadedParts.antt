@@ -10,7 +10,7 @@ use Rattle.rules.specs.Packets.{handle_of}
 use Rattle.rules.specs.declared.Resource.{Resource}
 use Rattle.rules.specs.declared.Token.{Token}
 use Rattle.rules.specs.Saved.{is_other_name, count_place, head_bytes, those, is_lowest_name, firsts_of, others_of, tokens_of}
-use Rattle.rules.specs.Loaded.{names_place, section_2, section_3, section_4, loaded-sections}
+use Rattle.rules.specs.Loaded.{names_place, section_2, section_3, section_4, loaded_sections}
 use Rattle.rules.specs.declared.Form.{Form}
 use Rattle.rules.specs.declared.Form.TheVariants.{One, Two}
 use Rattle.promises_of_packets.specs.Names.{none-not-found, found-key}
@@ -101,8 +101,8 @@ module _ (b : List ℕ) (g : GoodSections Two b) where
   tokens-in-turn : Rises token_of 0 (tokens_in Two b)
   tokens-in-turn = tokens-rise (word b (tokens_at b (third b))) (section_2 Two b) b (tokens_at b (third b) + 4) 0 g.later.tokens
 
-pub firsts-loaded : (f : Form) (b : List ℕ) → GoodSections f b → firsts_of (loaded-sections f b) ≡ section_2 f b
-unfolding loaded-sections
+pub firsts-loaded : (f : Form) (b : List ℕ) → GoodSections f b → firsts_of (loaded_sections f b) ≡ section_2 f b
+unfolding loaded_sections
 firsts-loaded One b g =
     ap (those is_lowest_name) (rising-of-rising handle_of (section_2 One b) (its-rise One b g))
     ∙ all_pass is_lowest_name (section_2 One b) (all-lowest (section_2 One b) (its_own One b g))
@@ -110,8 +110,8 @@ firsts-loaded Two b g =
     those-are is_lowest_name handle_of (section_2 Two b ++ names_in Two b) (section_2 Two b) (its-rise Two b g)
     (λ j l. first_found (section_2 Two b) (names_in Two b) (its_own Two b g) (its-others b g) j)
 
-pub others-loaded : (f : Form) (b : List ℕ) → GoodSections f b → others_of (loaded-sections f b) ≡ names_in f b
-unfolding loaded-sections
+pub others-loaded : (f : Form) (b : List ℕ) → GoodSections f b → others_of (loaded_sections f b) ≡ names_in f b
+unfolding loaded_sections
 others-loaded One b g =
     ap (those is_other_name) (rising-of-rising handle_of (section_2 One b) (its-rise One b g))
     ∙ none_passes is_other_name (section_2 One b) (no-others (section_2 One b) (its_own One b g))
@@ -119,7 +119,7 @@ others-loaded Two b g =
     those-are is_other_name handle_of (section_2 Two b ++ names_in Two b) (names_in Two b) (others-in-turn b g)
     (λ j l. other-found (section_2 Two b) (names_in Two b) (its_own Two b g) (its-others b g) j)
 
-pub tokens-loaded : (f : Form) (b : List ℕ) → GoodSections f b → tokens_of (loaded-sections f b) ≡ tokens_in f b
-unfolding loaded-sections
+pub tokens-loaded : (f : Form) (b : List ℕ) → GoodSections f b → tokens_of (loaded_sections f b) ≡ tokens_in f b
+unfolding loaded_sections
 tokens-loaded One b g = rising-of-rising token_of [] (none-rise token_of 0)
 tokens-loaded Two b g = rising-of-rising token_of (tokens_in Two b) (tokens-in-turn b g)

@@ -15,7 +15,7 @@ use Rattle.rules.specs.Packets.{handle_of}
 use Rattle.rules.specs.declared.Resource.{Resource}
 use Rattle.rules.specs.declared.Token.{Token}
 use Rattle.rules.specs.Saved.{name_bytes, token_bytes}
-use Rattle.rules.specs.Loaded.{may_be_shared, loaded-names, loaded_token, loaded-tokens}
+use Rattle.rules.specs.Loaded.{may_be_shared, loaded_names, loaded_token, loaded_tokens}
 use Rattle.promises_of_packets.specs.Names.{true-not-false, found-key}
 use Rattle.promises_of_packets.specs.SoundNames.{Bindable}
 use Rattle.promises_of_packets.specs.Held.{Every, every-none, every-found}
@@ -56,25 +56,25 @@ module _ (rs : List Resource) (own : Every OneName rs) (b : List ℕ) where
           shared = the_shared.shape;
         }
 
-    pub loaded-name : (n : ℕ) → loaded-names (suc n) rs b at ≡ under (word b at) the_shared.what ∷ loaded-names n rs b (at + name_bytes)
-    unfolding loaded-names
+    pub loaded-name : (n : ℕ) → loaded_names (suc n) rs b at ≡ under (word b at) the_shared.what ∷ loaded_names n rs b (at + name_bytes)
+    unfolding loaded_names
     loaded-name n = rw the_shared.here
 
-  pub length-names : (n at before : ℕ) → GoodNames n rs b at before → length (loaded-names n rs b at) ≡ n
-  unfolding GoodNames loaded-names
+  pub length-names : (n at before : ℕ) → GoodNames n rs b at before → length (loaded_names n rs b at) ≡ n
+  unfolding GoodNames loaded_names
   length-names zero at before g = refl
   length-names (suc n) at before g = ap length (loaded-name at before g.0 n) ∙ ap suc (length-names n (at + name_bytes) (word b at) g.1)
 
   -- "Other name 0, not rising"
-  pub names-rise : (n at before : ℕ) → GoodNames n rs b at before → Rises handle_of before (loaded-names n rs b at)
-  unfolding GoodNames Rises loaded-names
+  pub names-rise : (n at before : ℕ) → GoodNames n rs b at before → Rises handle_of before (loaded_names n rs b at)
+  unfolding GoodNames Rises loaded_names
   names-rise zero at before g = omega arith
   names-rise (suc n) at before g =
       subst (Rises handle_of before) (sym (loaded-name at before g.0 n))
       (g.0.rises, names-rise n (at + name_bytes) (word b at) g.1)
 
-  pub names-are-others : (n at before : ℕ) → GoodNames n rs b at before → Every (OtherNameOf rs) (loaded-names n rs b at)
-  unfolding GoodNames Every loaded-names
+  pub names-are-others : (n at before : ℕ) → GoodNames n rs b at before → Every (OtherNameOf rs) (loaded_names n rs b at)
+  unfolding GoodNames Every loaded_names
   names-are-others zero at before g = every-none (OtherNameOf rs)
   names-are-others (suc n) at before g =
       subst (Every (OtherNameOf rs)) (sym (loaded-name at before g.0 n))
@@ -82,14 +82,14 @@ module _ (rs : List Resource) (own : Every OneName rs) (b : List ℕ) where
 
 -- ---- tokens
 
-pub length-tokens : (n : ℕ) (b : List ℕ) (at : ℕ) → length (loaded-tokens n b at) ≡ n
-unfolding loaded-tokens
+pub length-tokens : (n : ℕ) (b : List ℕ) (at : ℕ) → length (loaded_tokens n b at) ≡ n
+unfolding loaded_tokens
 length-tokens zero b at = refl
 length-tokens (suc n) b at = ap suc (length-tokens n b (at + token_bytes))
 
 -- "Token 0 or not rising"
-pub tokens-rise : (n : ℕ) (rs : List Resource) (b : List ℕ) (at before : ℕ) → GoodTokens n rs b at before → Rises token_of before (loaded-tokens n b at)
-unfolding GoodTokens Rises loaded-tokens
+pub tokens-rise : (n : ℕ) (rs : List Resource) (b : List ℕ) (at before : ℕ) → GoodTokens n rs b at before → Rises token_of before (loaded_tokens n b at)
+unfolding GoodTokens Rises loaded_tokens
 tokens-rise zero rs b at before g = omega arith
 tokens-rise (suc n) rs b at before g = (g.0.rises, tokens-rise n rs b (at + token_bytes) (long b at) g.1)
 
@@ -109,7 +109,7 @@ module _ (rs : List Resource) (own : Every OneName rs) (b : List ℕ) where
         shape = s.shape;
       }
 
-  pub tokens-bound : (n at before : ℕ) → GoodTokens n rs b at before → Every (SpentOrBound rs) (loaded-tokens n b at)
-  unfolding GoodTokens Every loaded-tokens
+  pub tokens-bound : (n at before : ℕ) → GoodTokens n rs b at before → Every (SpentOrBound rs) (loaded_tokens n b at)
+  unfolding GoodTokens Every loaded_tokens
   tokens-bound zero at before g = every-none (SpentOrBound rs)
   tokens-bound (suc n) at before g = (its-binding at before g.0, tokens-bound n (at + token_bytes) (long b at) g.1)

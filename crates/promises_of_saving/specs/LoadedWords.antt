@@ -10,13 +10,13 @@ use Rattle.rules.specs.Layouts.{word, long}
 use Rattle.rules.specs.Registers.{bit, bit_of, readable}
 use Rattle.rules.specs.State.{State}
 use Rattle.rules.specs.declared.Resource.{Resource}
-use Rattle.rules.specs.Saved.{values_of, resources-fields, file-of, more_registers, memory_place, count_place, head_bytes, name_bytes, token_bytes, firsts_of, others_of, tokens_of, names-fields, tokens-fields, shared_fields}
-use Rattle.rules.specs.Loaded.{names_place, section_2, loaded-names, loaded-tokens, loaded-sections}
+use Rattle.rules.specs.Saved.{values_of, resources_fields, file_of, more_registers, memory_place, count_place, head_bytes, name_bytes, token_bytes, firsts_of, others_of, tokens_of, names_fields, tokens_fields, shared_fields}
+use Rattle.rules.specs.Loaded.{names_place, section_2, loaded_names, loaded_tokens, loaded_sections}
 use Rattle.rules.specs.declared.Form.{Form}
 use Rattle.rules.specs.declared.Form.TheVariants.{One, Two}
 use Rattle.promises_of_packets.specs.Held.{Every}
 use Rattle.promises_of_submissions.specs.LentBytes.{OfBytes}
-use Rattle.promises_of_saving.specs.FileWords.{words-at, words-on, file-of-words}
+use Rattle.promises_of_saving.specs.FileWords.{words_at, words-on, file-of-words}
 use Rattle.promises_of_saving.specs.GoodShared.{GoodNames, GoodTokens, tokens_at}
 use Rattle.promises_of_saving.specs.GoodFile.{GoodSections}
 use Rattle.promises_of_saving.specs.LoadedResources.{low-of-long, high-of-long, and_then, length-loaded, OneName, loaded-one-name, loaded-fields}
@@ -46,8 +46,8 @@ module _ (f : Form) (b : List ℕ) (o : OfBytes b) (g : GoodSections f b) where
   near at h = omega (arith, g.head.whole)
 
   -- the registers that both forms have
-  pub registers-loaded : values_of (take 18 (readable (loaded-sections f b).regs)) ≡ words-at 18 b 4
-  unfolding loaded-sections words-at
+  pub registers-loaded : values_of (take 18 (readable (loaded_sections f b).regs)) ≡ words_at 18 b 4
+  unfolding loaded_sections words_at
   registers-loaded =
       and_then (sym g.head.magic)
       (and_then (sym g.head.its-version)
@@ -68,15 +68,15 @@ module _ (f : Form) (b : List ℕ) (o : OfBytes b) (g : GoodSections f b) where
       (and_then (high-of-long b 64 68 o (near 64 (omega arith)) refl)
       (and_then refl refl)))))))))))))))))
 
-  four-words : (at : ℕ) → words-at 4 b at ≡ word b at ∷ word b (at + 4) ∷ word b (at + 8) ∷ word b (at + 12) ∷ []
-  unfolding words-at
+  four-words : (at : ℕ) → words_at 4 b at ≡ word b at ∷ word b (at + 4) ∷ word b (at + 8) ∷ word b (at + 12) ∷ []
+  unfolding words_at
   four-words at = simp add_assoc
 
-  length-firsts : length (firsts_of (loaded-sections f b)) ≡ word b (count_place f)
+  length-firsts : length (firsts_of (loaded_sections f b)) ≡ word b (count_place f)
   length-firsts = ap length (firsts-loaded f b g) ∙ length-loaded (word b (count_place f)) b (head_bytes f)
 
-  memory-loaded : memory_fields (loaded-sections f b) ≡ words-at 4 b (memory_place f)
-  unfolding loaded-sections
+  memory-loaded : memory_fields (loaded_sections f b) ≡ words_at 4 b (memory_place f)
+  unfolding loaded_sections
   memory-loaded =
       let here : count_place f ≡ memory_place f + 12 = omega arith in
       and_then (low-of-long b (memory_place f) o (omega (arith, g.head.whole)))
@@ -85,37 +85,37 @@ module _ (f : Form) (b : List ℕ) (o : OfBytes b) (g : GoodSections f b) where
       (and_then (length-firsts ∙ ap (word b) here) refl)))
       ∙ sym (four-words (memory_place f))
 
-  resources-loaded : resources-fields (firsts_of (loaded-sections f b)) ≡ words-at (12 * word b (count_place f)) b (head_bytes f)
-  resources-loaded = ap resources-fields (firsts-loaded f b g) ∙ loaded-fields (word b (count_place f)) b (head_bytes f) 0 o g.resources
+  resources-loaded : resources_fields (firsts_of (loaded_sections f b)) ≡ words_at (12 * word b (count_place f)) b (head_bytes f)
+  resources-loaded = ap resources_fields (firsts-loaded f b g) ∙ loaded-fields (word b (count_place f)) b (head_bytes f) 0 o g.resources
 
   -- from the memory's length to the last resource
-  pub memory-and-resources : memory_fields (loaded-sections f b) ++ resources-fields (firsts_of (loaded-sections f b))
-      ≡ words-at (4 + 12 * word b (count_place f)) b (memory_place f)
+  pub memory-and-resources : memory_fields (loaded_sections f b) ++ resources_fields (firsts_of (loaded_sections f b))
+      ≡ words_at (4 + 12 * word b (count_place f)) b (memory_place f)
   memory-and-resources =
-      ap (λ x. x ++ resources-fields (firsts_of (loaded-sections f b))) memory-loaded
-      ∙ (ap (λ x. words-at 4 b (memory_place f) ++ x) resources-loaded
+      ap (λ x. x ++ resources_fields (firsts_of (loaded_sections f b))) memory-loaded
+      ∙ (ap (λ x. words_at 4 b (memory_place f) ++ x) resources-loaded
       ∙ words-on 4 (12 * word b (count_place f)) b (memory_place f) (head_bytes f) (omega arith))
 
-detail-loaded : (f : Form) (b : List ℕ) → detail_fields f (loaded-sections f b) ≡ words-at (more_registers f) b 76
-unfolding loaded-sections words-at
+detail-loaded : (f : Form) (b : List ℕ) → detail_fields f (loaded_sections f b) ≡ words_at (more_registers f) b 76
+unfolding loaded_sections words_at
 detail-loaded One b = refl
 detail-loaded Two b = refl
 
 -- ---- sections 3 and 4
 
-names-words : (n : ℕ) (rs : List Resource) (own : Every OneName rs) (b : List ℕ) (at before : ℕ) → GoodNames n rs b at before → names-fields (loaded-names n rs b at) ≡ words-at (2 * n) b at
-unfolding GoodNames names-fields loaded-names words-at
+names-words : (n : ℕ) (rs : List Resource) (own : Every OneName rs) (b : List ℕ) (at before : ℕ) → GoodNames n rs b at before → names_fields (loaded_names n rs b at) ≡ words_at (2 * n) b at
+unfolding GoodNames names_fields loaded_names words_at
 names-words zero rs own b at before g = refl
 names-words (suc n) rs own b at before g =
     let e : 2 * suc n ≡ suc (suc (2 * n)) = omega arith in
     let next : at + 8 ≡ at + 4 + 4 = omega arith in
-    ap names-fields (loaded-name rs own b at before g.0 n)
+    ap names_fields (loaded-name rs own b at before g.0 n)
     ∙ (and_then refl
-    (and_then (its-lowest-name rs own b at before g.0) (names-words n rs own b (at + name_bytes) (word b at) g.1 ∙ ap (words-at (2 * n) b) next))
-    ∙ ap (λ k. words-at k b at) (sym e))
+    (and_then (its-lowest-name rs own b at before g.0) (names-words n rs own b (at + name_bytes) (word b at) g.1 ∙ ap (words_at (2 * n) b) next))
+    ∙ ap (λ k. words_at k b at) (sym e))
 
-tokens-words : (n : ℕ) (rs : List Resource) (b : List ℕ) (at before : ℕ) → OfBytes b → GoodTokens n rs b at before → tokens-fields (loaded-tokens n b at) ≡ words-at (3 * n) b at
-unfolding GoodTokens tokens-fields loaded-tokens words-at
+tokens-words : (n : ℕ) (rs : List Resource) (b : List ℕ) (at before : ℕ) → OfBytes b → GoodTokens n rs b at before → tokens_fields (loaded_tokens n b at) ≡ words_at (3 * n) b at
+unfolding GoodTokens tokens_fields loaded_tokens words_at
 tokens-words zero rs b at before o g = refl
 tokens-words (suc n) rs b at before o g =
     let e : 3 * suc n ≡ suc (suc (suc (3 * n))) = omega arith in
@@ -123,8 +123,8 @@ tokens-words (suc n) rs b at before o g =
     let next : at + 12 ≡ at + 4 + 4 + 4 = omega arith in
     and_then (low-of-long b at o (omega (arith, g.0.whole)))
     (and_then (high-of-long b at (at + 4) o (omega (arith, g.0.whole)) refl)
-    (and_then (ap (word b) two) (tokens-words n rs b (at + token_bytes) (long b at) o g.1 ∙ ap (words-at (3 * n) b) next)))
-    ∙ ap (λ k. words-at k b at) (sym e)
+    (and_then (ap (word b) two) (tokens-words n rs b (at + token_bytes) (long b at) o g.1 ∙ ap (words_at (3 * n) b) next)))
+    ∙ ap (λ k. words_at k b at) (sym e)
 
 -- how many words there are
 abbrev shared_words : Form → List ℕ → ℕ → ℕ
@@ -132,8 +132,8 @@ shared_words One b at = 0
 shared_words Two b at = suc (2 * word b at + suc (3 * word b (tokens_at b at)))
 
 shared-loaded : (f : Form) (b : List ℕ) → OfBytes b → GoodSections f b
-    → shared_fields f (loaded-sections f b) ≡ words-at (shared_words f b (names_place f (word b (count_place f)))) b (names_place f (word b (count_place f)))
-unfolding words-at
+    → shared_fields f (loaded_sections f b) ≡ words_at (shared_words f b (names_place f (word b (count_place f)))) b (names_place f (word b (count_place f)))
+unfolding words_at
 shared-loaded One b o g = refl
 shared-loaded Two b o g =
     let at : ℕ = names_place Two (word b (count_place Two)) in
@@ -141,13 +141,13 @@ shared-loaded Two b o g =
     let own : Every OneName rs = loaded-one-name (word b (count_place Two)) b (head_bytes Two) 0 g.resources in
     let p : ℕ = word b at in
     let q : ℕ = word b (tokens_at b at) in
-    let names : names-fields (others_of (loaded-sections Two b)) ≡ words-at (2 * p) b (at + 4) =
-    ap names-fields (others-loaded Two b g) ∙ names-words p rs own b (at + 4) 0 g.later.names in
-    let tokens : tokens-fields (tokens_of (loaded-sections Two b)) ≡ words-at (3 * q) b (tokens_at b at + 4) =
-    ap tokens-fields (tokens-loaded Two b g) ∙ tokens-words q rs b (tokens_at b at + 4) 0 o g.later.tokens in
+    let names : names_fields (others_of (loaded_sections Two b)) ≡ words_at (2 * p) b (at + 4) =
+    ap names_fields (others-loaded Two b g) ∙ names-words p rs own b (at + 4) 0 g.later.names in
+    let tokens : tokens_fields (tokens_of (loaded_sections Two b)) ≡ words_at (3 * q) b (tokens_at b at + 4) =
+    ap tokens_fields (tokens-loaded Two b g) ∙ tokens-words q rs b (tokens_at b at + 4) 0 o g.later.tokens in
     and_then (ap length (others-loaded Two b g) ∙ length-names rs own b p (at + 4) 0 g.later.names)
-    (ap (λ x. x ++ (length (tokens_of (loaded-sections Two b)) ∷ tokens-fields (tokens_of (loaded-sections Two b)))) names
-    ∙ (ap (λ x. words-at (2 * p) b (at + 4) ++ x)
+    (ap (λ x. x ++ (length (tokens_of (loaded_sections Two b)) ∷ tokens_fields (tokens_of (loaded_sections Two b)))) names
+    ∙ (ap (λ x. words_at (2 * p) b (at + 4) ++ x)
     (and_then (ap length (tokens-loaded Two b g) ∙ length-tokens q b (tokens_at b at + 4)) tokens)
     ∙ words-on (2 * p) (suc (3 * q)) b (at + 4) (tokens_at b at) (omega arith)))
 
@@ -156,32 +156,32 @@ shared-loaded Two b o g =
 abbrev all_words : Form → List ℕ → ℕ
 all_words f b = suc (18 + (more_registers f + (4 + 12 * word b (count_place f) + shared_words f b (names_place f (word b (count_place f))))))
 
-fields-loaded : (f : Form) (b : List ℕ) → OfBytes b → GoodSections f b → sections_fields f (loaded-sections f b) ≡ words-at (all_words f b) b 0
-unfolding words-at
+fields-loaded : (f : Form) (b : List ℕ) → OfBytes b → GoodSections f b → sections_fields f (loaded_sections f b) ≡ words_at (all_words f b) b 0
+unfolding words_at
 fields-loaded f b o g =
-    let t : State = loaded-sections f b in
+    let t : State = loaded_sections f b in
     let at : ℕ = names_place f (word b (count_place f)) in
     let n : ℕ = 4 + 12 * word b (count_place f) in
     let k : ℕ = shared_words f b at in
     let m : ℕ = more_registers f in
-    let later : memory_fields t ++ (resources-fields (firsts_of t) ++ shared_fields f t) ≡ words-at (n + k) b (memory_place f) =
-    sym (append_assoc (memory_fields t) (resources-fields (firsts_of t)) (shared_fields f t))
+    let later : memory_fields t ++ (resources_fields (firsts_of t) ++ shared_fields f t) ≡ words_at (n + k) b (memory_place f) =
+    sym (append_assoc (memory_fields t) (resources_fields (firsts_of t)) (shared_fields f t))
     ∙ (ap (λ x. x ++ shared_fields f t) (memory-and-resources f b o g)
-    ∙ (ap (λ x. words-at n b (memory_place f) ++ x) (shared-loaded f b o g) ∙ words-on n k b (memory_place f) at (omega arith))) in
-    let from-detail : detail_fields f t ++ (memory_fields t ++ (resources-fields (firsts_of t) ++ shared_fields f t)) ≡ words-at (m + (n + k)) b 76 =
-    ap (λ x. x ++ (memory_fields t ++ (resources-fields (firsts_of t) ++ shared_fields f t))) (detail-loaded f b)
-    ∙ (ap (λ x. words-at m b 76 ++ x) later ∙ words-on m (n + k) b 76 (memory_place f) refl) in
+    ∙ (ap (λ x. words_at n b (memory_place f) ++ x) (shared-loaded f b o g) ∙ words-on n k b (memory_place f) at (omega arith))) in
+    let from-detail : detail_fields f t ++ (memory_fields t ++ (resources_fields (firsts_of t) ++ shared_fields f t)) ≡ words_at (m + (n + k)) b 76 =
+    ap (λ x. x ++ (memory_fields t ++ (resources_fields (firsts_of t) ++ shared_fields f t))) (detail-loaded f b)
+    ∙ (ap (λ x. words_at m b 76 ++ x) later ∙ words-on m (n + k) b 76 (memory_place f) refl) in
     and_then (sym g.head.section)
-    (ap (λ x. x ++ (detail_fields f t ++ (memory_fields t ++ (resources-fields (firsts_of t) ++ shared_fields f t)))) (registers-loaded f b o g)
-    ∙ (ap (λ x. words-at 18 b 4 ++ x) from-detail ∙ words-on 18 (m + (n + k)) b 4 76 refl))
+    (ap (λ x. x ++ (detail_fields f t ++ (memory_fields t ++ (resources_fields (firsts_of t) ++ shared_fields f t)))) (registers-loaded f b o g)
+    ∙ (ap (λ x. words_at 18 b 4 ++ x) from-detail ∙ words-on 18 (m + (n + k)) b 4 76 refl))
 
 as-many-bytes : (f : Form) (b : List ℕ) → GoodSections f b → 4 * all_words f b ≡ length b
 as-many-bytes One b g = omega (arith, g.later)
 as-many-bytes Two b g = omega (arith, g.later.long_as)
 
 -- saving what sections say, in their form, gives the sections
-pub sections-back : (f : Form) (b : List ℕ) → OfBytes b → GoodSections f b → saved_sections f (loaded-sections f b) ≡ b
+pub sections-back : (f : Form) (b : List ℕ) → OfBytes b → GoodSections f b → saved_sections f (loaded_sections f b) ≡ b
 sections-back f b o g =
     let n : ℕ = all_words f b in
     let e : 4 * n ≡ length b = as-many-bytes f b g in
-    ap file-of (fields-loaded f b o g) ∙ (file-of-words n b 0 o (omega arith) ∙ (ap (λ k. take k b) e ∙ take-length b))
+    ap file_of (fields-loaded f b o g) ∙ (file-of-words n b 0 o (omega arith) ∙ (ap (λ k. take k b) e ∙ take-length b))

@@ -9,8 +9,8 @@ use Rattle.rules.specs.Lists.Found.{none}
 use Rattle.rules.specs.Packets.{Belongings}
 use Rattle.rules.specs.State.{State}
 use Rattle.rules.specs.declared.Registers.{Registers}
-use Rattle.rules.specs.Saved.{beyond-form-1, Saved, not_saved, firsts_of, saved, beyond, call-save}
-use Rattle.rules.specs.Loaded.{form_in, has_number, sections, bad-place, loaded-sections, loaded, call-load, other_form, call-move}
+use Rattle.rules.specs.Saved.{beyond_form_1, Saved, not_saved, firsts_of, saved, beyond, call_save}
+use Rattle.rules.specs.Loaded.{form_in, has_number, sections, bad_place, loaded_sections, loaded, call_load, other_form, call_move}
 use Rattle.rules.specs.declared.Form.{Form}
 use Rattle.rules.specs.declared.Form.TheVariants.{One, Two}
 use Rattle.promises_of_packets.specs.Held.{Every}
@@ -33,12 +33,12 @@ use Rattle.promises_of_saving.specs.MoveAnswers.{good-if-loads, loads-if-good, i
 -- ---- which files move
 
 -- every form 1 file does: no move of one answers 8
-pub form-1-is-never-refused-with-8 : (b buffer : List ℕ) → form_in b ≡ One → (call-move b buffer).answer ≡ not_in_form → ⊥
+pub form-1-is-never-refused-with-8 : (b buffer : List ℕ) → form_in b ≡ One → (call_move b buffer).answer ≡ not_in_form → ⊥
 form-1-is-never-refused-with-8 b buffer form e = ((move-not-in-form-exactly b buffer).0 e).stays (subst (λ f. Goes f (sections b)) (sym form) (omega arith))
 
 -- and with room, which is 12 bytes more than it has with its number, it is done
-pub form-1-moves : (b : List ℕ) → OfBytes b → bad-place b ≡ none → form_in b ≡ One → (buffer : List ℕ) → 12 + length (with_number b) ≤ length buffer
-    → (call-move b buffer).answer ≡ done
+pub form-1-moves : (b : List ℕ) → OfBytes b → bad_place b ≡ none → form_in b ≡ One → (buffer : List ℕ) → 12 + length (with_number b) ≤ length buffer
+    → (call_move b buffer).answer ≡ done
 form-1-moves b o good form buffer room =
     ap (λ (v : Saved). v.answer)
     (move-done b buffer (is_done b good (ap (λ f. beyond (other_form f) (loaded b)) form) buffer
@@ -62,9 +62,9 @@ form-1-moves b o good form buffer room =
         )
 
 -- "Form 2 goes back exactly when both sections are empty and detail is 0, else 8 .. and nothing written"
-pub form-2-goes-back-exactly : (b : List ℕ) → bad-place b ≡ none → form_in b ≡ Two → (buffer : List ℕ)
-    → ((call-move b buffer).answer ≡ not_in_form → GoesBack (sections b) → ⊥)
-    × ((GoesBack (sections b) → ⊥) → call-move b buffer ≡ not_saved not_in_form buffer)
+pub form-2-goes-back-exactly : (b : List ℕ) → bad_place b ≡ none → form_in b ≡ Two → (buffer : List ℕ)
+    → ((call_move b buffer).answer ≡ not_in_form → GoesBack (sections b) → ⊥)
+    × ((GoesBack (sections b) → ⊥) → call_move b buffer ≡ not_saved not_in_form buffer)
 form-2-goes-back-exactly b good form buffer = (
   λ e g. ((move-not-in-form-exactly b buffer).0 e).stays (subst (λ f. Goes f (sections b)) (sym form) g),
   λ n. move-not-in-form b buffer (record { loads = loads-if-good b good; stays = λ g. n (subst (λ f. Goes f (sections b)) form g) }),
@@ -77,24 +77,24 @@ pub record MovedFile (b c : List ℕ) : Type 0 where
   pub bytes : OfBytes c
   pub form : form_in c ≡ other_form (form_in b)
   pub number : has_number c ≡ true
-  pub good : bad-place c ≡ none
+  pub good : bad_place c ≡ none
   pub same : SameDevice (loaded c) (loaded b)
 
 -- the file that a move that was done wrote
 abbrev pub move_wrote : List ℕ → List ℕ → List ℕ
-move_wrote b buffer = take (call-move b buffer).length (call-move b buffer).buffer
+move_wrote b buffer = take (call_move b buffer).length (call_move b buffer).buffer
 
-module _ (b buffer : List ℕ) (o : OfBytes b) (d : (call-move b buffer).answer ≡ done) where
+module _ (b buffer : List ℕ) (o : OfBytes b) (d : (call_move b buffer).answer ≡ done) where
   abbrev other : Form
   other = other_form (form_in b)
 
-  moved-is-good : bad-place b ≡ none
+  moved-is-good : bad_place b ≡ none
   moved-is-good = good-if-loads b ((move-done-exactly b buffer).0 d).loads
 
-  is-save : call-move b buffer ≡ call-save other (loaded b) buffer
+  is-save : call_move b buffer ≡ call_save other (loaded b) buffer
   is-save = move-of-good b buffer moved-is-good
 
-  save-is-done : (call-save other (loaded b) buffer).answer ≡ done
+  save-is-done : (call_save other (loaded b) buffer).answer ≡ done
   save-is-done = sym (ap (λ (v : Saved). v.answer) is-save) ∙ d
 
   its_done : SaveDone other (loaded b) buffer
@@ -118,7 +118,7 @@ module _ (b buffer : List ℕ) (o : OfBytes b) (d : (call-move b buffer).answer 
       })
 
   -- loading it, on any device, gives the device that loading the file gives
-  pub load-of-moved : (t : State) → LoadedBack (loaded b) (call-load t (move_wrote b buffer))
+  pub load-of-moved : (t : State) → LoadedBack (loaded b) (call_load t (move_wrote b buffer))
   load-of-moved t =
       subst (LoadedBack (loaded b)) (sym (load-of-good t (move_wrote b buffer) moved-file.good))
       (record { answer = refl; place = refl; device = moved-file.same })
@@ -127,16 +127,16 @@ module _ (b buffer : List ℕ) (o : OfBytes b) (d : (call-move b buffer).answer 
 
 -- what is within form 1 is so, too, once form 2 said it
 module _ (s : State) (v : Savable s) where
-  its-belongings : (loaded-sections Two (saved_sections Two s)).belongings ≡ said Two s
-  unfolding loaded-sections
+  its-belongings : (loaded_sections Two (saved_sections Two s)).belongings ≡ said Two s
+  unfolding loaded_sections
   its-belongings = said-back Two s v
 
-  its-detail : (loaded-sections Two (saved_sections Two s)).regs.error.detail ≡ s.regs.error.detail
-  unfolding loaded-sections
+  its-detail : (loaded_sections Two (saved_sections Two s)).regs.error.detail ≡ s.regs.error.detail
+  unfolding loaded_sections
   its-detail = ap (λ (r : Registers). r.error.detail) (registers-back Two s v refl)
 
-still-within : (s : State) → Savable s → beyond-form-1 s ≡ false → beyond-form-1 (loaded (saved Two s)) ≡ false
-still-within s v e = subst (λ (t : State). beyond-form-1 t ≡ false) (sym (loaded-of-saved Two s v)) its
+still-within : (s : State) → Savable s → beyond_form_1 s ≡ false → beyond_form_1 (loaded (saved Two s)) ≡ false
+still-within s v e = subst (λ (t : State). beyond_form_1 t ≡ false) (sym (loaded-of-saved Two s v)) its
   where
     f : InForm1 s
     f = in-form-1 s e
@@ -144,10 +144,10 @@ still-within s v e = subst (λ (t : State). beyond-form-1 t ≡ false) (sym (loa
     empty : said Two s ≡ record { resources = firsts_of s; tokens = [] }
     empty = rw (no-names-shared s f, append-nil (firsts_of s), no-tokens-used s f)
 
-    its : beyond-form-1 (loaded-sections Two (saved_sections Two s)) ≡ false
+    its : beyond_form_1 (loaded_sections Two (saved_sections Two s)) ≡ false
     its =
-        let nothing : (loaded-sections Two (saved_sections Two s)).belongings ≡ record { resources = firsts_of s; tokens = [] } = its-belongings s v ∙ empty in
-        form-1-has (loaded-sections Two (saved_sections Two s))
+        let nothing : (loaded_sections Two (saved_sections Two s)).belongings ≡ record { resources = firsts_of s; tokens = [] } = its-belongings s v ∙ empty in
+        form-1-has (loaded_sections Two (saved_sections Two s))
         (record {
           tokens = ap (λ (x : Belongings). x.tokens) nothing;
           one_name = subst (λ (x : Belongings). Every OneName x.resources) (sym nothing) (firsts-own s v);
@@ -160,14 +160,14 @@ back-in-form One s v e = still-within s v e
 back-in-form Two s v e = refl
 
 -- "moves to form 2 and back to equal bytes", an old one with its number; and so does every form 2 file that goes back
-pub moves-there-and-back : (b buffer : List ℕ) → OfBytes b → (call-move b buffer).answer ≡ done → (back : List ℕ) → length (with_number b) ≤ length back
-    → call-move (move_wrote b buffer) back ≡ record { answer = done; length = length (with_number b); buffer = over 0 (with_number b) back }
+pub moves-there-and-back : (b buffer : List ℕ) → OfBytes b → (call_move b buffer).answer ≡ done → (back : List ℕ) → length (with_number b) ≤ length back
+    → call_move (move_wrote b buffer) back ≡ record { answer = done; length = length (with_number b); buffer = over 0 (with_number b) back }
 moves-there-and-back b buffer o d back room =
     let f : Form = form_in b in
     let c : List ℕ = move_wrote b buffer in
     let m : MovedFile b c = moved-file b buffer o d in
     let home : other_form (form_in c) ≡ f = ap other_form m.form ∙ twice f in
-    let good : bad-place b ≡ none = moved-is-good b buffer o d in
+    let good : bad_place b ≡ none = moved-is-good b buffer o d in
     let equal : saved (other_form (form_in c)) (loaded c) ≡ with_number b =
     ap (λ x. saved x (loaded c)) home ∙ (same-devices-one-file f (loaded c) (loaded b) m.same ∙ saved-of-loaded b o good) in
     let within : beyond (other_form (form_in c)) (loaded c) ≡ false =
@@ -181,10 +181,10 @@ moves-there-and-back b buffer o d back room =
     twice Two = refl
 
 -- of a form 1 file, with room for both
-pub form-1-moves-there-and-back : (b : List ℕ) → OfBytes b → bad-place b ≡ none → form_in b ≡ One → (buffer back : List ℕ)
+pub form-1-moves-there-and-back : (b : List ℕ) → OfBytes b → bad_place b ≡ none → form_in b ≡ One → (buffer back : List ℕ)
     → 12 + length (with_number b) ≤ length buffer → length (with_number b) ≤ length back
-    → ((call-move b buffer).answer ≡ done)
-    × (call-move (move_wrote b buffer) back ≡ record { answer = done; length = length (with_number b); buffer = over 0 (with_number b) back })
+    → ((call_move b buffer).answer ≡ done)
+    × (call_move (move_wrote b buffer) back ≡ record { answer = done; length = length (with_number b); buffer = over 0 (with_number b) back })
 form-1-moves-there-and-back b o good form buffer back room space =
-    let d : (call-move b buffer).answer ≡ done = form-1-moves b o good form buffer room in
+    let d : (call_move b buffer).answer ≡ done = form-1-moves b o good form buffer room in
     (d, moves-there-and-back b buffer o d back space)

@@ -16,8 +16,8 @@ use Rattle.rules.specs.State.{State}
 use Rattle.rules.specs.Registers.{readable}
 use Rattle.rules.specs.declared.Resource.{Resource}
 use Rattle.rules.specs.declared.Token.{Token}
-use Rattle.rules.specs.Saved.{values_of, resources-fields, file-of, is_other_name, beyond-form-1, memory_place, count_place, head_bytes, rising, firsts_of, others_of, tokens_of, names-fields, tokens-fields, shared_fields, saved}
-use Rattle.rules.specs.Loaded.{names_place, form_in, sections, bad-place, section_2, loaded-sections, loaded}
+use Rattle.rules.specs.Saved.{values_of, resources_fields, file_of, is_other_name, beyond_form_1, memory_place, count_place, head_bytes, rising, firsts_of, others_of, tokens_of, names_fields, tokens_fields, shared_fields, saved}
+use Rattle.rules.specs.Loaded.{names_place, form_in, sections, bad_place, section_2, loaded_sections, loaded}
 use Rattle.rules.specs.declared.Form.{Form}
 use Rattle.rules.specs.declared.Form.TheVariants.{One, Two}
 use Rattle.promises_of_submissions.specs.LentBytes.{OfBytes}
@@ -47,59 +47,59 @@ module _ (s : State) (f : InForm1 s) where
   no-tokens-used = ap (rising token_of) f.tokens ∙ rising-of-rising token_of [] (none-rise token_of 0)
 
   nothing-shared : shared_fields Two s ≡ 0 ∷ 0 ∷ []
-  unfolding names-fields tokens-fields
+  unfolding names_fields tokens_fields
   nothing-shared =
-      ap (λ (rs : List Resource). (length rs ∷ names-fields rs) ++ (length (tokens_of s) ∷ tokens-fields (tokens_of s))) no-names-shared
-      ∙ ap (λ (ts : List Token). 0 ∷ length ts ∷ tokens-fields ts) no-tokens-used
+      ap (λ (rs : List Resource). (length rs ∷ names_fields rs) ++ (length (tokens_of s) ∷ tokens_fields (tokens_of s))) no-names-shared
+      ∙ ap (λ (ts : List Token). 0 ∷ length ts ∷ tokens_fields ts) no-tokens-used
 
 -- ---- the parts that are copied
 
 module _ (f : Form) (c : List ℕ) (o : OfBytes c) (g : GoodSections f c) where
   -- the registers that both forms have
-  registers-copied : file-of (values_of (take 18 (readable (loaded-sections f c).regs))) ≡ take 72 (drop 4 c)
-  registers-copied = ap file-of (registers-loaded f c o g) ∙ file-of-words 18 c 4 o (omega (arith, g.head.whole))
+  registers-copied : file_of (values_of (take 18 (readable (loaded_sections f c).regs))) ≡ take 72 (drop 4 c)
+  registers-copied = ap file_of (registers-loaded f c o g) ∙ file-of-words 18 c 4 o (omega (arith, g.head.whole))
 
   -- from the memory's length to the last resource
   rest-copied : memory_place f + 16 + 48 * word c (count_place f) ≤ length c
-      → file-of (memory_fields (loaded-sections f c) ++ resources-fields (firsts_of (loaded-sections f c)))
+      → file_of (memory_fields (loaded_sections f c) ++ resources_fields (firsts_of (loaded_sections f c)))
       ≡ take (16 + 48 * word c (count_place f)) (drop (memory_place f) c)
   rest-copied room =
       let e : 4 * (4 + 12 * word c (count_place f)) ≡ 16 + 48 * word c (count_place f) = omega arith in
-      ap file-of (memory-and-resources f c o g)
+      ap file_of (memory-and-resources f c o g)
       ∙ (file-of-words (4 + 12 * word c (count_place f)) c (memory_place f) o (omega arith) ∙ ap (λ k. take k (drop (memory_place f) c)) e)
 
 -- ---- from form 1 to form 2
 
-module _ (c : List ℕ) (o : OfBytes c) (g : GoodSections One c) (within : InForm1 (loaded-sections One c)) where
+module _ (c : List ℕ) (o : OfBytes c) (g : GoodSections One c) (within : InForm1 (loaded_sections One c)) where
   abbrev one : State
-  one = loaded-sections One c
+  one = loaded_sections One c
 
-  rest-to-2 : file-of (memory_fields one ++ (resources-fields (firsts_of one) ++ shared_fields Two one)) ≡ drop 76 c ++ (bytes_of 4 0 ++ bytes_of 4 0)
-  unfolding file-of
+  rest-to-2 : file_of (memory_fields one ++ (resources_fields (firsts_of one) ++ shared_fields Two one)) ≡ drop 76 c ++ (bytes_of 4 0 ++ bytes_of 4 0)
+  unfolding file_of
   rest-to-2 =
       let n : ℕ = word c (count_place One) in
       let e : 16 + 48 * n ≡ length (drop 76 c) = simp length-drop (omega (arith, g.later)) in
-      ap file-of (sym (append_assoc (memory_fields one) (resources-fields (firsts_of one)) (shared_fields Two one)))
-      ∙ (file-both (memory_fields one ++ resources-fields (firsts_of one)) (shared_fields Two one)
-      ∙ (ap (λ x. x ++ file-of (shared_fields Two one)) (rest-copied One c o g (omega (arith, g.later)) ∙ (ap (λ k. take k (drop 76 c)) e ∙ take-length (drop 76 c)))
-      ∙ (ap (λ x. drop 76 c ++ file-of x) (nothing-shared one within)
+      ap file_of (sym (append_assoc (memory_fields one) (resources_fields (firsts_of one)) (shared_fields Two one)))
+      ∙ (file-both (memory_fields one ++ resources_fields (firsts_of one)) (shared_fields Two one)
+      ∙ (ap (λ x. x ++ file_of (shared_fields Two one)) (rest-copied One c o g (omega (arith, g.later)) ∙ (ap (λ k. take k (drop 76 c)) e ∙ take-length (drop 76 c)))
+      ∙ (ap (λ x. drop 76 c ++ file_of x) (nothing-shared one within)
       ∙ ap (λ x. drop 76 c ++ (bytes_of 4 0 ++ x)) (append-nil (bytes_of 4 0)))))
 
   sections-to-2 : saved_sections Two one ≡ bytes_of 4 22 ++ (take 72 (drop 4 c) ++ (bytes_of 4 0 ++ (drop 76 c ++ (bytes_of 4 0 ++ bytes_of 4 0))))
-  unfolding file-of
+  unfolding file_of
   sections-to-2 =
       ap (λ x. bytes_of 4 22 ++ x)
-      (file-both (values_of (take 18 (readable one.regs))) (detail_fields Two one ++ (memory_fields one ++ (resources-fields (firsts_of one) ++ shared_fields Two one)))
-      ∙ (ap (λ x. x ++ file-of (detail_fields Two one ++ (memory_fields one ++ (resources-fields (firsts_of one) ++ shared_fields Two one)))) (registers-copied One c o g)
+      (file-both (values_of (take 18 (readable one.regs))) (detail_fields Two one ++ (memory_fields one ++ (resources_fields (firsts_of one) ++ shared_fields Two one)))
+      ∙ (ap (λ x. x ++ file_of (detail_fields Two one ++ (memory_fields one ++ (resources_fields (firsts_of one) ++ shared_fields Two one)))) (registers-copied One c o g)
       ∙ ap (λ x. take 72 (drop 4 c) ++ x)
-      (ap (λ d. bytes_of 4 d ++ file-of (memory_fields one ++ (resources-fields (firsts_of one) ++ shared_fields Two one))) within.detail
+      (ap (λ d. bytes_of 4 d ++ file_of (memory_fields one ++ (resources_fields (firsts_of one) ++ shared_fields Two one))) within.detail
       ∙ ap (λ x. bytes_of 4 0 ++ x) rest-to-2)))
 
 -- ---- from form 2 to form 1
 
-module _ (c : List ℕ) (o : OfBytes c) (g : GoodSections Two c) (within : InForm1 (loaded-sections Two c)) where
+module _ (c : List ℕ) (o : OfBytes c) (g : GoodSections Two c) (within : InForm1 (loaded_sections Two c)) where
   abbrev two : State
-  two = loaded-sections Two c
+  two = loaded_sections Two c
 
   abbrev third : ℕ
   third = names_place Two (word c (count_place Two))
@@ -118,29 +118,29 @@ module _ (c : List ℕ) (o : OfBytes c) (g : GoodSections Two c) (within : InFor
   so-long = omega (arith, g.later.long_as, no-names-there, no-tokens-there)
 
   sections-to-1 : saved_sections One two ≡ bytes_of 4 21 ++ (take 72 (drop 4 c) ++ take (length c - 88) (drop 80 c))
-  unfolding file-of
+  unfolding file_of
   sections-to-1 =
       let n : ℕ = word c (count_place Two) in
       let e : 16 + 48 * n ≡ length c - 88 = omega (arith, so-long) in
       ap (λ x. bytes_of 4 21 ++ x)
-      (file-both (values_of (take 18 (readable two.regs))) (memory_fields two ++ (resources-fields (firsts_of two) ++ []))
-      ∙ (ap (λ x. x ++ file-of (memory_fields two ++ (resources-fields (firsts_of two) ++ []))) (registers-copied Two c o g)
+      (file-both (values_of (take 18 (readable two.regs))) (memory_fields two ++ (resources_fields (firsts_of two) ++ []))
+      ∙ (ap (λ x. x ++ file_of (memory_fields two ++ (resources_fields (firsts_of two) ++ []))) (registers-copied Two c o g)
       ∙ ap (λ x. take 72 (drop 4 c) ++ x)
-      (ap (λ x. file-of (memory_fields two ++ x)) (append-nil (resources-fields (firsts_of two)))
+      (ap (λ x. file_of (memory_fields two ++ x)) (append-nil (resources_fields (firsts_of two)))
       ∙ (rest-copied Two c o g (omega (arith, so-long)) ∙ ap (λ k. take k (drop 80 c)) e))))
 
 -- ---- of files
 
-in-its-form : (b : List ℕ) (f : Form) → form_in b ≡ f → loaded b ≡ loaded-sections f (sections b)
+in-its-form : (b : List ℕ) (f : Form) → form_in b ≡ f → loaded b ≡ loaded_sections f (sections b)
 unfolding loaded
-in-its-form b f e = ap (λ x. loaded-sections x (sections b)) e
+in-its-form b f e = ap (λ x. loaded_sections x (sections b)) e
 
-module _ (b : List ℕ) (o : OfBytes b) (good : bad-place b ≡ none) where
+module _ (b : List ℕ) (o : OfBytes b) (good : bad_place b ≡ none) where
   module _ (f : Form) (form : form_in b ≡ f) where
     good-in-form : GoodSections f (sections b)
     good-in-form = subst (λ x. GoodSections x (sections b)) form (its-sections b good)
 
-    within-form : beyond-form-1 (loaded b) ≡ false → InForm1 (loaded-sections f (sections b))
+    within-form : beyond_form_1 (loaded b) ≡ false → InForm1 (loaded_sections f (sections b))
     within-form e = subst InForm1 (in-its-form b f form) (in-form-1 (loaded b) e)
 
   -- a form 1 file gets the number 2, section 1's count 22, a detail of 0 and two empty sections
@@ -150,15 +150,15 @@ module _ (b : List ℕ) (o : OfBytes b) (good : bad-place b ≡ none) where
       ++ (bytes_of 4 22 ++ (take 72 (drop 4 (sections b)) ++ (bytes_of 4 0 ++ (drop 76 (sections b) ++ (bytes_of 4 0 ++ bytes_of 4 0)))))
   moved-bytes-to-2 form =
       ap (saved Two) (in-its-form b One form)
-      ∙ (saved-is-numbered Two (loaded-sections One (sections b))
+      ∙ (saved-is-numbered Two (loaded_sections One (sections b))
       ∙ ap (numbered Two)
       (sections-to-2 (sections b) (sections-of-bytes b o) (good-in-form One form) (within-form One form (form-1-is-in-form-1 b good form))))
 
   -- and a form 2 file within form 1 loses them
-  pub moved-bytes-to-1 : form_in b ≡ Two → beyond-form-1 (loaded b) ≡ false
+  pub moved-bytes-to-1 : form_in b ≡ Two → beyond_form_1 (loaded b) ≡ false
       → saved One (loaded b)
       ≡ bytes_of 4 1 ++ (bytes_of 4 21 ++ (take 72 (drop 4 (sections b)) ++ take (length (sections b) - 88) (drop 80 (sections b))))
   moved-bytes-to-1 form within =
       ap (saved One) (in-its-form b Two form)
-      ∙ (saved-is-numbered One (loaded-sections Two (sections b))
+      ∙ (saved-is-numbered One (loaded_sections Two (sections b))
       ∙ ap (numbered One) (sections-to-1 (sections b) (sections-of-bytes b o) (good-in-form Two form) (within-form Two form within)))

@@ -9,7 +9,7 @@ use Rattle.machine.specs.Machine.{pick}
 use Rattle.rules.specs.Bytes.{le, bytes_of}
 use Rattle.rules.specs.Layouts.{word}
 use Rattle.rules.specs.Saved.{number_of, number_bytes}
-use Rattle.rules.specs.Loaded.{missing, first_field, form_in, has_number, before-sections, sections}
+use Rattle.rules.specs.Loaded.{missing, first_field, form_in, has_number, before_sections, sections}
 use Rattle.rules.specs.declared.Form.{Form}
 use Rattle.rules.specs.declared.Form.TheVariants.{One, Two}
 use Rattle.words.specs.Fields.{le-bytes_of, length-bytes_of}
@@ -51,7 +51,7 @@ module _ (f : Form) (b : List ℕ) where
       by_form Two = refl
 
   pub sections-of-numbered : sections (numbered f b) ≡ b
-  unfolding sections before-sections
+  unfolding sections before_sections
   sections-of-numbered = rw is-numbered (drop_at (bytes_of 4 (number_of f)) b 4 (length-bytes_of 4 (number_of f)))
 
 -- ---- from a file to its number
@@ -83,7 +83,7 @@ module _ (b : List ℕ) where
       by_tests false false e = refl
 
   old-is-sections : has_number b ≡ false → sections b ≡ b
-  unfolding sections before-sections
+  unfolding sections before_sections
   old-is-sections e = rw e
 
   pub number-is-whole : has_number b ≡ true → 4 ≤ length b
@@ -103,12 +103,12 @@ module _ (b : List ℕ) where
   first-is-word h = rw (le-ltb (length b) (0 + 4) (omega arith))
 
   behind-number : has_number b ≡ true → sections b ≡ drop 4 b
-  unfolding sections before-sections
+  unfolding sections before_sections
   behind-number e = rw e
 
   pub sections-of-bytes : OfBytes b → OfBytes (sections b)
   unfolding sections
-  sections-of-bytes o i = subst (λ x. x < 256) (sym (get_or-drop (before-sections b) b i 0)) (o (before-sections b + i))
+  sections-of-bytes o i = subst (λ x. x < 256) (sym (get_or-drop (before_sections b) b i 0)) (o (before_sections b + i))
 
   -- a file with its number is that number, and its sections
   pub with-number-is : OfBytes b → with_number b ≡ numbered (form_in b) (sections b)

@@ -7,7 +7,7 @@ use Rattle.rules.specs.Names.{token_of}
 use Rattle.rules.specs.Packets.{handle_of}
 use Rattle.rules.specs.State.{State}
 use Rattle.rules.specs.Calls.{at_rest}
-use Rattle.rules.specs.Saved.{rising, head-fields, saved-fields, saved, beyond}
+use Rattle.rules.specs.Saved.{rising, head_fields, saved_fields, saved, beyond}
 use Rattle.rules.specs.Loaded.{loaded}
 use Rattle.rules.specs.declared.Form.{Form}
 use Rattle.rules.specs.declared.Form.TheVariants.{One, Two}
@@ -23,7 +23,7 @@ same-rising key xs ys same =
     (λ j l. found-rising key xs j l ∙ (same j ∙ sym (found-rising key ys j l)))
 
 pub same-devices-one-file : (f : Form) (s t : State) → SameDevice s t → saved f s ≡ saved f t
-unfolding saved saved-fields head-fields
+unfolding saved saved_fields head_fields
 same-devices-one-file One s t d = rw (same-rising handle_of s.belongings.resources t.belongings.resources d.resources, d.regs, d.memory)
 same-devices-one-file Two s t d =
     rw (

@@ -16,7 +16,7 @@ use Rattle.rules.specs.State.{State}
 use Rattle.rules.specs.Numbers.{bad_file}
 use Rattle.rules.specs.declared.Resource.{Resource}
 use Rattle.rules.specs.Saved.{resource_bytes, memory_place, count_place, head_bytes, name_bytes, token_bytes, number_bytes}
-use Rattle.rules.specs.Loaded.{Rule, missing, resource_rules, resources-rules, end_rule, first-broken, names_place, tokens_place, end_place, has_number, form_in, before-sections, sections, detail_rules, head_rules, name_rules, names-rules, token_rules, tokens-rules, section-3-rules, section-4-rules, section_2, later_rules, sections-rules, behind, file-rules, bad-place, call-load}
+use Rattle.rules.specs.Loaded.{Rule, missing, resource_rules, resources_rules, end_rule, first_broken, names_place, tokens_place, end_place, has_number, form_in, before_sections, sections, detail_rules, head_rules, name_rules, names_rules, token_rules, tokens_rules, section_3_rules, section_4_rules, section_2, later_rules, sections_rules, behind, file_rules, bad_place, call_load}
 use Rattle.rules.specs.declared.Form.{Form}
 use Rattle.rules.specs.declared.Form.TheVariants.{One, Two}
 use Rattle.words.specs.Over.{below_or_not}
@@ -124,11 +124,11 @@ module _ (b : List ℕ) where
       (turn _ _ _ _ (omega arith) (λ h. rw (gone (at + 40) (omega arith)))
       (turn _ _ _ _ (omega arith) (λ h. rw (gone (at + 44) (omega arith))) (last _ _ (omega arith)))))))))))))
 
-  resources-in-turn : (n at before : ℕ) → InTurn b at (at + resource_bytes * n) (resources-rules n b at before)
-  unfolding resources-rules
+  resources-in-turn : (n at before : ℕ) → InTurn b at (at + resource_bytes * n) (resources_rules n b at before)
+  unfolding resources_rules
   resources-in-turn zero at before = last _ _ (omega arith)
   resources-in-turn (suc n) at before =
-      rows-in-turn resource_bytes n at (resource_rules b at before) (resources-rules n b (at + resource_bytes) (word b at)) (resource-in-turn at before)
+      rows-in-turn resource_bytes n at (resource_rules b at before) (resources_rules n b (at + resource_bytes) (word b at)) (resource-in-turn at before)
       (resources-in-turn n (at + resource_bytes) (word b at))
 
   module _ (rs : List Resource) where
@@ -137,11 +137,11 @@ module _ (b : List ℕ) where
         turn _ _ _ _ refl (λ h. rw (gone at (omega arith)))
         (turn _ _ _ _ refl (λ h. rw (gone (at + 4) (omega arith))) (last _ _ (omega arith)))
 
-    names-in-turn : (n at before : ℕ) → InTurn b at (at + name_bytes * n) (names-rules n rs b at before)
-    unfolding names-rules
+    names-in-turn : (n at before : ℕ) → InTurn b at (at + name_bytes * n) (names_rules n rs b at before)
+    unfolding names_rules
     names-in-turn zero at before = last _ _ (omega arith)
     names-in-turn (suc n) at before =
-        rows-in-turn name_bytes n at (name_rules rs b at before) (names-rules n rs b (at + name_bytes) (word b at)) (name-in-turn at before)
+        rows-in-turn name_bytes n at (name_rules rs b at before) (names_rules n rs b (at + name_bytes) (word b at)) (name-in-turn at before)
         (names-in-turn n (at + name_bytes) (word b at))
 
     token-in-turn : (at before : ℕ) → InTurn b at (at + token_bytes) (token_rules rs b at before)
@@ -150,53 +150,53 @@ module _ (b : List ℕ) where
         (turn _ _ _ _ refl (λ h. rw (gone (at + 4) (omega arith)))
         (turn _ _ _ _ (omega arith) (λ h. rw (gone (at + 8) (omega arith))) (last _ _ (omega arith))))
 
-    tokens-in-turn : (n at before : ℕ) → InTurn b at (at + token_bytes * n) (tokens-rules n rs b at before)
-    unfolding tokens-rules
+    tokens-in-turn : (n at before : ℕ) → InTurn b at (at + token_bytes * n) (tokens_rules n rs b at before)
+    unfolding tokens_rules
     tokens-in-turn zero at before = last _ _ (omega arith)
     tokens-in-turn (suc n) at before =
-        rows-in-turn token_bytes n at (token_rules rs b at before) (tokens-rules n rs b (at + token_bytes) (long b at)) (token-in-turn at before)
+        rows-in-turn token_bytes n at (token_rules rs b at before) (tokens_rules n rs b (at + token_bytes) (long b at)) (token-in-turn at before)
         (tokens-in-turn n (at + token_bytes) (long b at))
 
-    section-4-in-turn : (at : ℕ) → ToTheEnd at (section-4-rules rs b at)
-    unfolding section-4-rules
+    section-4-in-turn : (at : ℕ) → ToTheEnd at (section_4_rules rs b at)
+    unfolding section_4_rules
     section-4-in-turn at =
-        then-to-the-end at (end_place at (word b at)) (_ ∷ tokens-rules (word b at) rs b (at + 4) 0) _
+        then-to-the-end at (end_place at (word b at)) (_ ∷ tokens_rules (word b at) rs b (at + 4) 0) _
         (turn _ _ _ _ refl (λ h. rw (gone at h)) (tokens-in-turn (word b at) (at + 4) 0)) (the_end (end_place at (word b at)))
 
-    section-3-in-turn : (at : ℕ) → ToTheEnd at (section-3-rules rs b at)
-    unfolding section-3-rules
+    section-3-in-turn : (at : ℕ) → ToTheEnd at (section_3_rules rs b at)
+    unfolding section_3_rules
     section-3-in-turn at =
-        then-to-the-end at (tokens_place at (word b at)) (_ ∷ names-rules (word b at) rs b (at + 4) 0) _
+        then-to-the-end at (tokens_place at (word b at)) (_ ∷ names_rules (word b at) rs b (at + 4) 0) _
         (turn _ _ _ _ refl (λ h. rw (gone at h)) (names-in-turn (word b at) (at + 4) 0)) (section-4-in-turn (tokens_place at (word b at)))
 
   later-in-turn : (f : Form) (at : ℕ) → ToTheEnd at (later_rules f b at)
   later-in-turn One at = the_end at
   later-in-turn Two at = section-3-in-turn (section_2 Two b) at
 
-  sections-in-turn : (f : Form) → ToTheEnd 0 (sections-rules f b)
-  unfolding sections-rules
+  sections-in-turn : (f : Form) → ToTheEnd 0 (sections_rules f b)
+  unfolding sections_rules
   sections-in-turn f =
       let n : ℕ = word b (count_place f) in
       then-to-the-end 0 (head_bytes f) (head_rules f b) _ (head-in-turn f)
-      (then-to-the-end (head_bytes f) (names_place f n) (resources-rules n b (head_bytes f) 0) _ (resources-in-turn n (head_bytes f) 0) (later-in-turn f (names_place f n)))
+      (then-to-the-end (head_bytes f) (names_place f n) (resources_rules n b (head_bytes f) 0) _ (resources-in-turn n (head_bytes f) 0) (later-in-turn f (names_place f n)))
 
   -- ---- the first broken rule is in the file: no field before it is missing
 
-  turned : (at end : ℕ) (rs rest : List Rule) (p : ℕ) → at ≤ length b → InTurn b at end rs → first-broken (rs ++ rest) ≡ found p
-      → (p ≤ length b) ⊎ (first-broken rest ≡ found p)
+  turned : (at end : ℕ) (rs rest : List Rule) (p : ℕ) → at ≤ length b → InTurn b at end rs → first_broken (rs ++ rest) ≡ found p
+      → (p ≤ length b) ⊎ (first_broken rest ≡ found p)
   unfolding InTurn
   turned at end [] rest p h t e = inr e
   turned at end (r ∷ rs) rest p h t e = by_test r.broken refl (λ k i. turned (at + 4) end rs rest p k t.1.1 i)
     where
-      by_test : (u : Bool) → r.broken ≡ u → (at + 4 ≤ length b → first-broken (rs ++ rest) ≡ found p → (p ≤ length b) ⊎ (first-broken rest ≡ found p))
-          → (p ≤ length b) ⊎ (first-broken rest ≡ found p)
+      by_test : (u : Bool) → r.broken ≡ u → (at + 4 ≤ length b → first_broken (rs ++ rest) ≡ found p → (p ≤ length b) ⊎ (first_broken rest ≡ found p))
+          → (p ≤ length b) ⊎ (first_broken rest ≡ found p)
       by_test true q later =
           let s : r.place ≡ p = found-same (sym (first_one r (rs ++ rest) q) ∙ e) in
           inl (omega (arith, t.0))
       by_test false q later =
           ⊎_elim (λ l. absurd (true-not-false (sym (t.1.0 l) ∙ q))) (λ l. later l (sym (next_one r (rs ++ rest) q) ∙ e)) (below_or_not (length b) (at + 4))
 
-  end-turned : (end p : ℕ) → first-broken (end_rule b end ∷ []) ≡ found p → p ≤ length b
+  end-turned : (end p : ℕ) → first_broken (end_rule b end ∷ []) ≡ found p → p ≤ length b
   end-turned end p e = by_test (ltb end (length b)) refl
     where
       by_test : (t : Bool) → ltb end (length b) ≡ t → p ≤ length b
@@ -205,11 +205,11 @@ module _ (b : List ℕ) where
           omega (arith, ltb-true end (length b) h)
       by_test false h = absurd (none-not-found p (sym (next_one (end_rule b end) [] h ∙ no-rule) ∙ e))
 
-  place-in-sections : (f : Form) (p : ℕ) → first-broken (sections-rules f b) ≡ found p → p ≤ length b
+  place-in-sections : (f : Form) (p : ℕ) → first_broken (sections_rules f b) ≡ found p → p ≤ length b
   place-in-sections f p e =
-      let t : ToTheEnd 0 (sections-rules f b) = sections-in-turn f in
+      let t : ToTheEnd 0 (sections_rules f b) = sections-in-turn f in
       ⊎_elim (λ l. l) (λ l. end-turned t.end p l)
-      (turned 0 t.end t.fields (end_rule b t.end ∷ []) p (omega arith) t.in-turn (ap first-broken (sym t.split) ∙ e))
+      (turned 0 t.end t.fields (end_rule b t.end ∷ []) p (omega arith) t.in-turn (ap first_broken (sym t.split) ∙ e))
 
 -- ---- and it has the lowest place of the broken ones
 
@@ -243,12 +243,12 @@ unfolding InOrder Every
 all-later at [] o = every-none (NotBefore at)
 all-later at (r ∷ rs) o = (λ e. o.0, all-later at rs (later-order r.place at rs o.0 o.1))
 
-lowest-first : (at : ℕ) (rs : List Rule) (p : ℕ) → InOrder at rs → first-broken rs ≡ found p → Every (NotBefore p) rs
+lowest-first : (at : ℕ) (rs : List Rule) (p : ℕ) → InOrder at rs → first_broken rs ≡ found p → Every (NotBefore p) rs
 unfolding InOrder Every
 lowest-first at [] p o e = every-none (NotBefore p)
 lowest-first at (r ∷ rs) p o e = by_test r.broken refl (λ i. lowest-first r.place rs p o.1 i)
   where
-    by_test : (t : Bool) → r.broken ≡ t → (first-broken rs ≡ found p → Every (NotBefore p) rs) → NotBefore p r × Every (NotBefore p) rs
+    by_test : (t : Bool) → r.broken ≡ t → (first_broken rs ≡ found p → Every (NotBefore p) rs) → NotBefore p r × Every (NotBefore p) rs
     by_test true h later =
         let s : r.place ≡ p = found-same (sym (first_one r rs h) ∙ e) in
         (λ i. omega arith, subst (λ k. Every (NotBefore k) rs) s (all-later r.place rs o.1))
@@ -256,7 +256,7 @@ lowest-first at (r ∷ rs) p o e = by_test r.broken refl (λ i. lowest-first r.p
 
 -- ---- of a file, its number included
 
-found-behind : (n : ℕ) (rs : List Rule) (p : ℕ) → first-broken (behind n rs) ≡ found p → (q : ℕ) × (first-broken rs ≡ found q) × (n + q ≡ p)
+found-behind : (n : ℕ) (rs : List Rule) (p : ℕ) → first_broken (behind n rs) ≡ found p → (q : ℕ) × (first_broken rs ≡ found q) × (n + q ≡ p)
 unfolding behind
 found-behind n [] p e = absurd (none-not-found p (sym no-rule ∙ e))
 found-behind n (r ∷ rs) p e = by_test r.broken refl (λ i. found-behind n rs p i)
@@ -264,46 +264,46 @@ found-behind n (r ∷ rs) p e = by_test r.broken refl (λ i. found-behind n rs p
     moved : Rule
     moved = record { place = n + r.place; broken = r.broken }
 
-    by_test : (t : Bool) → r.broken ≡ t → (first-broken (behind n rs) ≡ found p → (q : ℕ) × (first-broken rs ≡ found q) × (n + q ≡ p))
-        → (q : ℕ) × (first-broken (r ∷ rs) ≡ found q) × (n + q ≡ p)
+    by_test : (t : Bool) → r.broken ≡ t → (first_broken (behind n rs) ≡ found p → (q : ℕ) × (first_broken rs ≡ found q) × (n + q ≡ p))
+        → (q : ℕ) × (first_broken (r ∷ rs) ≡ found q) × (n + q ≡ p)
     by_test true h later = (r.place, first_one r rs h, found-same (sym (first_one moved (behind n rs) h) ∙ e))
     by_test false h later =
         let f = later (sym (next_one moved (behind n rs) h) ∙ e) in
         (f.0, next_one r rs h ∙ f.1, f.2)
 
 module _ (b : List ℕ) where
-  number-inside : before-sections b ≤ length b
-  unfolding before-sections
+  number-inside : before_sections b ≤ length b
+  unfolding before_sections
   number-inside = by_test (has_number b) refl
     where
       by_test : (t : Bool) → has_number b ≡ t → pick t number_bytes 0 ≤ length b
       by_test true h = number-is-whole b h
       by_test false h = omega arith
 
-  place-in-file : (p : ℕ) → bad-place b ≡ found p → p ≤ length b
-  unfolding bad-place file-rules sections
+  place-in-file : (p : ℕ) → bad_place b ≡ found p → p ≤ length b
+  unfolding bad_place file_rules sections
   place-in-file p e =
-      let f = found-behind (before-sections b) (sections-rules (form_in b) (sections b)) p e in
+      let f = found-behind (before_sections b) (sections_rules (form_in b) (sections b)) p e in
       let l : f.0 ≤ length (sections b) = place-in-sections (sections b) (form_in b) f.0 f.1 in
-      let d : length (sections b) ≡ length b - before-sections b = length-drop (before-sections b) b in
+      let d : length (sections b) ≡ length b - before_sections b = length-drop (before_sections b) b in
       omega (arith, f.2, number-inside)
 
-  rules-in-order : InOrder (before-sections b) (file-rules b)
-  unfolding file-rules
+  rules-in-order : InOrder (before_sections b) (file_rules b)
+  unfolding file_rules
   rules-in-order =
-      let t : ToTheEnd (sections b) 0 (sections-rules (form_in b) (sections b)) = sections-in-turn (sections b) (form_in b) in
-      later-order (before-sections b + 0) (before-sections b) (behind (before-sections b) (sections-rules (form_in b) (sections b))) (omega arith)
-      (order-behind (before-sections b) 0 (sections-rules (form_in b) (sections b))
+      let t : ToTheEnd (sections b) 0 (sections_rules (form_in b) (sections b)) = sections-in-turn (sections b) (form_in b) in
+      later-order (before_sections b + 0) (before_sections b) (behind (before_sections b) (sections_rules (form_in b) (sections b))) (omega arith)
+      (order-behind (before_sections b) 0 (sections_rules (form_in b) (sections b))
       (subst (InOrder 0) (sym t.split) (turns-in-order (sections b) 0 t.end t.fields t.in-turn)))
 
 -- of the call
-module _ (s : State) (b : List ℕ) (e : (call-load s b).answer ≡ bad_file) where
-  its-place : bad-place b ≡ found (call-load s b).place
-  its-place = first-is-bad b (call-load s b).place ((refused-exactly s b).0 e)
+module _ (s : State) (b : List ℕ) (e : (call_load s b).answer ≡ bad_file) where
+  its-place : bad_place b ≡ found (call_load s b).place
+  its-place = first-is-bad b (call_load s b).place ((refused-exactly s b).0 e)
 
-  pub reported-place-is-in-the-file : (call-load s b).place ≤ length b
-  reported-place-is-in-the-file = place-in-file b (call-load s b).place its-place
+  pub reported-place-is-in-the-file : (call_load s b).place ≤ length b
+  reported-place-is-in-the-file = place-in-file b (call_load s b).place its-place
 
-  pub reported-place-is-the-lowest : Every (NotBefore (call-load s b).place) (file-rules b)
-  unfolding bad-place
-  reported-place-is-the-lowest = lowest-first (before-sections b) (file-rules b) (call-load s b).place (rules-in-order b) its-place
+  pub reported-place-is-the-lowest : Every (NotBefore (call_load s b).place) (file_rules b)
+  unfolding bad_place
+  reported-place-is-the-lowest = lowest-first (before_sections b) (file_rules b) (call_load s b).place (rules-in-order b) its-place

@@ -14,7 +14,7 @@ use Rattle.std.proofs.Math.ListN.{length}
 use Rattle.machine.specs.Machine.{pick}
 use Rattle.rules.specs.Lists.{Found, lookup}
 use Rattle.rules.specs.Lists.Found.{none, found}
-use Rattle.rules.specs.Saved.{lower_keyed, next-above, key_of, onto, rising-above, rising}
+use Rattle.rules.specs.Saved.{lower_keyed, next_above, key_of, onto, rising_above, rising}
 use Rattle.words.specs.Over.{below_or_not}
 use Rattle.rows.specs.Keys.{same_or_not, Once, lookup-nil, lookup-here, lookup-later}
 use Rattle.promises_of_packets.specs.Names.{none-not-found, found-same}
@@ -93,10 +93,10 @@ module _ {A : Type 0} (key : A → ℕ) where
   NextAbove k rs none = (j : ℕ) → k < j → lookup key j rs ≡ none
   NextAbove k rs (found q) = (k < key q) × (lookup key (key q) rs ≡ found q) × ((j : ℕ) → k < j → j < key q → lookup key j rs ≡ none)
 
-  next-is : (k : ℕ) (rs : List A) → NextAbove k rs (next-above key k rs)
-  unfolding next-above
+  next-is : (k : ℕ) (rs : List A) → NextAbove k rs (next_above key k rs)
+  unfolding next_above
   next-is k [] = λ j l. lookup-nil key j
-  next-is k (r ∷ rs) = by_test (ltb k (key r)) refl (next-above key k rs) (next-is k rs)
+  next-is k (r ∷ rs) = by_test (ltb k (key r)) refl (next_above key k rs) (next-is k rs)
     where
       lower : (q : A) (t : Bool) → ltb (key q) (key r) ≡ t → k < key r → NextAbove k rs (found q) → NextAbove k (r ∷ rs) (found (pick t q r))
       lower q true e l n =
@@ -177,55 +177,55 @@ module _ {A : Type 0} (key : A → ℕ) where
   -- ---- the rising list of any list
 
   -- it rises
-  pub rising-above-rises : (n k : ℕ) (rs : List A) → Rises k (rising-above key n k rs)
-  unfolding rising-above Rises
+  pub rising-above-rises : (n k : ℕ) (rs : List A) → Rises k (rising_above key n k rs)
+  unfolding rising_above Rises
   rising-above-rises zero k rs = omega arith
-  rising-above-rises (suc n) k rs = by_next (next-above key k rs) (next-is k rs) (λ j. rising-above-rises n j rs)
+  rising-above-rises (suc n) k rs = by_next (next_above key k rs) (next-is k rs) (λ j. rising-above-rises n j rs)
     where
-      by_next : (f : Found A) → NextAbove k rs f → ((j : ℕ) → Rises j (rising-above key n j rs)) → Rises k (onto key f (rising-above key n (key_of key f) rs))
+      by_next : (f : Found A) → NextAbove k rs f → ((j : ℕ) → Rises j (rising_above key n j rs)) → Rises k (onto key f (rising_above key n (key_of key f) rs))
       by_next none e later = omega arith
       by_next (found q) e later = (e.0, later (key q))
 
   -- what is found in it is what is found in the list
-  found-rising-above : (n k : ℕ) (rs : List A) → above k rs ≤ n → (j : ℕ) → k < j → lookup key j (rising-above key n k rs) ≡ lookup key j rs
-  unfolding rising-above
+  found-rising-above : (n k : ℕ) (rs : List A) → above k rs ≤ n → (j : ℕ) → k < j → lookup key j (rising_above key n k rs) ≡ lookup key j rs
+  unfolding rising_above
   found-rising-above zero k rs few j l = lookup-nil key j ∙ sym (by_found (lookup key j rs) refl)
     where
       by_found : (f : Found A) → lookup key j rs ≡ f → lookup key j rs ≡ none
       by_found none e = e
       by_found (found q) e = absurd (omega (arith, one_fewer k j rs q l e))
-  found-rising-above (suc n) k rs few j l = by_next (next-above key k rs) (next-is k rs) (λ i a b. found-rising-above n i rs a j b)
+  found-rising-above (suc n) k rs few j l = by_next (next_above key k rs) (next-is k rs) (λ i a b. found-rising-above n i rs a j b)
     where
-      by_next : (f : Found A) → NextAbove k rs f → ((i : ℕ) → above i rs ≤ n → i < j → lookup key j (rising-above key n i rs) ≡ lookup key j rs)
-          → lookup key j (onto key f (rising-above key n (key_of key f) rs)) ≡ lookup key j rs
+      by_next : (f : Found A) → NextAbove k rs f → ((i : ℕ) → above i rs ≤ n → i < j → lookup key j (rising_above key n i rs) ≡ lookup key j rs)
+          → lookup key j (onto key f (rising_above key n (key_of key f) rs)) ≡ lookup key j rs
       by_next none e later = lookup-nil key j ∙ sym (e j l)
       by_next (found q) e later =
           let d : above (key q) rs < above k rs = one_fewer k (key q) rs q e.0 e.1 in
           ⊎_elim
-          (λ s. lookup-here key j q (rising-above key n (key q) rs) s ∙ (sym e.1 ∙ ap (λ i. lookup key i rs) s))
-          (λ s. lookup-later key j q (rising-above key n (key q) rs) s
+          (λ s. lookup-here key j q (rising_above key n (key q) rs) s ∙ (sym e.1 ∙ ap (λ i. lookup key i rs) s))
+          (λ s. lookup-later key j q (rising_above key n (key q) rs) s
           ∙ ⊎_elim
           (λ u. later (key q) (omega arith) u)
-          (λ u. none_below (key q) (rising-above key n (key q) rs) (rising-above-rises n (key q) rs) j u
+          (λ u. none_below (key q) (rising_above key n (key q) rs) (rising-above-rises n (key q) rs) j u
           ∙ sym (e.2 j l (⊎_elim (λ v. v) (λ v. absurd (s (omega arith))) (below_or_not j (key q)))))
           (below_or_not (key q) j))
           (same_or_not (key q) j)
 
-  rising-above-few : (n k : ℕ) (rs : List A) → length (rising-above key n k rs) ≤ n
-  unfolding rising-above
+  rising-above-few : (n k : ℕ) (rs : List A) → length (rising_above key n k rs) ≤ n
+  unfolding rising_above
   rising-above-few zero k rs = omega arith
-  rising-above-few (suc n) k rs = by_next (next-above key k rs) (rising-above-few n (key_of key (next-above key k rs)) rs)
+  rising-above-few (suc n) k rs = by_next (next_above key k rs) (rising-above-few n (key_of key (next_above key k rs)) rs)
     where
-      by_next : (f : Found A) → length (rising-above key n (key_of key f) rs) ≤ n → length (onto key f (rising-above key n (key_of key f) rs)) ≤ suc n
+      by_next : (f : Found A) → length (rising_above key n (key_of key f) rs) ≤ n → length (onto key f (rising_above key n (key_of key f) rs)) ≤ suc n
       by_next none h = omega arith
       by_next (found q) h = omega arith
 
-  rising-above-every : (P : A → Type 0) (n k : ℕ) (rs : List A) → Every P rs → Every P (rising-above key n k rs)
-  unfolding rising-above Every
+  rising-above-every : (P : A → Type 0) (n k : ℕ) (rs : List A) → Every P rs → Every P (rising_above key n k rs)
+  unfolding rising_above Every
   rising-above-every P zero k rs h = every-none P
-  rising-above-every P (suc n) k rs h = by_next (next-above key k rs) (next-is k rs) (λ j. rising-above-every P n j rs h)
+  rising-above-every P (suc n) k rs h = by_next (next_above key k rs) (next-is k rs) (λ j. rising-above-every P n j rs h)
     where
-      by_next : (f : Found A) → NextAbove k rs f → ((j : ℕ) → Every P (rising-above key n j rs)) → Every P (onto key f (rising-above key n (key_of key f) rs))
+      by_next : (f : Found A) → NextAbove k rs f → ((j : ℕ) → Every P (rising_above key n j rs)) → Every P (onto key f (rising_above key n (key_of key f) rs))
       by_next none e later = every-none P
       by_next (found q) e later = (every-found P key (key q) rs q e.1 h, later (key q))
 

@@ -9,8 +9,8 @@ use Rattle.rules.specs.Layouts.{word}
 use Rattle.rules.specs.State.{State}
 use Rattle.rules.specs.Calls.{at_rest}
 use Rattle.rules.specs.declared.Resource.{Resource}
-use Rattle.rules.specs.Saved.{other-name-among, beyond-form-1, count_place, head_bytes, saved, beyond, call-save}
-use Rattle.rules.specs.Loaded.{Loaded, form_in, sections, bad-place, section_2, loaded-sections, loaded, call-load}
+use Rattle.rules.specs.Saved.{other_name_among, beyond_form_1, count_place, head_bytes, saved, beyond, call_save}
+use Rattle.rules.specs.Loaded.{Loaded, form_in, sections, bad_place, section_2, loaded_sections, loaded, call_load}
 use Rattle.rules.specs.declared.Form.{Form}
 use Rattle.rules.specs.declared.Form.TheVariants.{One, Two}
 use Rattle.promises_of_packets.specs.Held.{Every}
@@ -26,18 +26,18 @@ use Rattle.promises_of_saving.specs.OneFile.{same-devices-one-file}
 
 -- ---- what is loaded is within its form
 
-pub one-name-each : (rs : List Resource) → Every OneName rs → other-name-among rs ≡ false
-unfolding other-name-among Every
+pub one-name-each : (rs : List Resource) → Every OneName rs → other_name_among rs ≡ false
+unfolding other_name_among Every
 one-name-each [] h = refl
 one-name-each (r ∷ rs) h = rw (eq-eqb r.handle r.lowest (sym h.0), one-name-each rs h.1)
 
 -- "A form 1 file gives detail 0, no tokens and no other names"
-sections-in-form : (f : Form) (b : List ℕ) → GoodSections f b → beyond f (loaded-sections f b) ≡ false
-unfolding beyond-form-1 loaded-sections
+sections-in-form : (f : Form) (b : List ℕ) → GoodSections f b → beyond f (loaded_sections f b) ≡ false
+unfolding beyond_form_1 loaded_sections
 sections-in-form One b g = rw (one-name-each (section_2 One b) (loaded-one-name (word b (count_place One)) b (head_bytes One) 0 g.resources))
 sections-in-form Two b g = refl
 
-module _ (b : List ℕ) (good : bad-place b ≡ none) where
+module _ (b : List ℕ) (good : bad_place b ≡ none) where
   pub its-sections : GoodFile b
   its-sections = good-file b (good-is-kept b good)
 
@@ -45,42 +45,42 @@ module _ (b : List ℕ) (good : bad-place b ≡ none) where
   unfolding loaded
   loaded-in-form = sections-in-form (form_in b) (sections b) its-sections
 
-  pub form-1-is-in-form-1 : form_in b ≡ One → beyond-form-1 (loaded b) ≡ false
+  pub form-1-is-in-form-1 : form_in b ≡ One → beyond_form_1 (loaded b) ≡ false
   form-1-is-in-form-1 e = ap (λ f. beyond f (loaded b)) (sym e) ∙ loaded-in-form
 
 -- ---- and its bytes are the file's
 
-sections-of-loaded : (b : List ℕ) → OfBytes b → bad-place b ≡ none → saved_sections (form_in b) (loaded b) ≡ sections b
+sections-of-loaded : (b : List ℕ) → OfBytes b → bad_place b ≡ none → saved_sections (form_in b) (loaded b) ≡ sections b
 unfolding loaded
 sections-of-loaded b o good = sections-back (form_in b) (sections b) (sections-of-bytes b o) (its-sections b good)
 
-pub saved-of-loaded : (b : List ℕ) → OfBytes b → bad-place b ≡ none → saved (form_in b) (loaded b) ≡ with_number b
+pub saved-of-loaded : (b : List ℕ) → OfBytes b → bad_place b ≡ none → saved (form_in b) (loaded b) ≡ with_number b
 saved-of-loaded b o good =
     saved-is-numbered (form_in b) (loaded b) ∙ (ap (numbered (form_in b)) (sections-of-loaded b o good) ∙ sym (with-number-is b o))
 
 pub loaded-rests : (b : List ℕ) → at_rest (loaded b).work ≡ true
-unfolding loaded loaded-sections
+unfolding loaded loaded_sections
 loaded-rests b = refl
 
 -- ---- the theorems
 
 -- so saving it in its form, into any buffer that has room, is done, and writes these bytes
-pub save-of-load : (b : List ℕ) → OfBytes b → bad-place b ≡ none → (buffer : List ℕ) → length (with_number b) ≤ length buffer
-    → call-save (form_in b) (loaded b) buffer ≡ record { answer = done; length = length (with_number b); buffer = over 0 (with_number b) buffer }
+pub save-of-load : (b : List ℕ) → OfBytes b → bad_place b ≡ none → (buffer : List ℕ) → length (with_number b) ≤ length buffer
+    → call_save (form_in b) (loaded b) buffer ≡ record { answer = done; length = length (with_number b); buffer = over 0 (with_number b) buffer }
 save-of-load b o good buffer room =
     let e : saved (form_in b) (loaded b) ≡ with_number b = saved-of-loaded b o good in
     save-done (form_in b) (loaded b) buffer (loaded-rests b) (loaded-in-form b good) (subst (λ x. length x ≤ length buffer) (sym e) room)
     ∙ ap (λ (x : List ℕ). record { answer = done; length = length x; buffer = over 0 x buffer }) e
 
 -- the same of the two calls, one after the other, on any device
-pub load-then-save : (s : State) (b : List ℕ) → OfBytes b → (call-load s b).answer ≡ done → (buffer : List ℕ) → length (with_number b) ≤ length buffer
-    → call-save (form_in b) (call-load s b).state buffer ≡ record { answer = done; length = length (with_number b); buffer = over 0 (with_number b) buffer }
+pub load-then-save : (s : State) (b : List ℕ) → OfBytes b → (call_load s b).answer ≡ done → (buffer : List ℕ) → length (with_number b) ≤ length buffer
+    → call_save (form_in b) (call_load s b).state buffer ≡ record { answer = done; length = length (with_number b); buffer = over 0 (with_number b) buffer }
 load-then-save s b o d buffer room =
-    let good : bad-place b ≡ none = kept-is-good b ((loaded-exactly s b).0 d) in
-    ap (λ (l : Loaded). call-save (form_in b) l.state buffer) (load-of-good s b good) ∙ save-of-load b o good buffer room
+    let good : bad_place b ≡ none = kept-is-good b ((loaded-exactly s b).0 d) in
+    ap (λ (l : Loaded). call_save (form_in b) l.state buffer) (load-of-good s b good) ∙ save-of-load b o good buffer room
 
 -- equal devices have equal files of a form
-pub equal-devices-equal-files : (b c : List ℕ) → OfBytes b → OfBytes c → bad-place b ≡ none → bad-place c ≡ none → form_in b ≡ form_in c
+pub equal-devices-equal-files : (b c : List ℕ) → OfBytes b → OfBytes c → bad_place b ≡ none → bad_place c ≡ none → form_in b ≡ form_in c
     → SameDevice (loaded b) (loaded c) → with_number b ≡ with_number c
 equal-devices-equal-files b c o p good fine form d =
     sym (saved-of-loaded b o good)

@@ -4,7 +4,7 @@ use Rattle.std.proofs.Math.Path.{ap}
 use Rattle.std.proofs.Common.{◌∙◌, arith, length-append}
 use Rattle.rules.specs.State.{State}
 use Rattle.rules.specs.Registers.{low, high, bit, readable}
-use Rattle.rules.specs.Saved.{values_of, resources-fields, file-of, number_of, more_registers, section_1_count, firsts_of, others_of, tokens_of, head-fields, names-fields, tokens-fields, shared_fields, saved-fields, saved}
+use Rattle.rules.specs.Saved.{values_of, resources_fields, file_of, number_of, more_registers, section_1_count, firsts_of, others_of, tokens_of, head_fields, names_fields, tokens_fields, shared_fields, saved_fields, saved}
 use Rattle.rules.specs.Loaded.{form_in, sections}
 use Rattle.rules.specs.declared.Form.{Form}
 use Rattle.rules.specs.declared.Form.TheVariants.{One, Two}
@@ -30,20 +30,20 @@ abbrev pub memory_fields : State → List ℕ
 memory_fields s = low s.memory ∷ high s.memory ∷ bit s.regs.doorbell ∷ length (firsts_of s) ∷ []
 
 abbrev pub sections_fields : Form → State → List ℕ
-sections_fields f s = register_fields f s ++ (detail_fields f s ++ (memory_fields s ++ (resources-fields (firsts_of s) ++ shared_fields f s)))
+sections_fields f s = register_fields f s ++ (detail_fields f s ++ (memory_fields s ++ (resources_fields (firsts_of s) ++ shared_fields f s)))
 
 abbrev pub saved_sections : Form → State → List ℕ
-saved_sections f s = file-of (sections_fields f s)
+saved_sections f s = file_of (sections_fields f s)
 
-number-and-sections : (f : Form) (s : State) → saved-fields f s ≡ number_of f ∷ sections_fields f s
-unfolding saved-fields head-fields
+number-and-sections : (f : Form) (s : State) → saved_fields f s ≡ number_of f ∷ sections_fields f s
+unfolding saved_fields head_fields
 number-and-sections One s = refl
 number-and-sections Two s = refl
 
 module _ (f : Form) (s : State) where
   pub saved-is-numbered : saved f s ≡ numbered f (saved_sections f s)
-  unfolding saved file-of
-  saved-is-numbered = ap file-of (number-and-sections f s)
+  unfolding saved file_of
+  saved-is-numbered = ap file_of (number-and-sections f s)
 
   -- a saved file tells its form, and what it says stands behind it
   pub form-of-saved : form_in (saved f s) ≡ f
@@ -55,7 +55,7 @@ module _ (f : Form) (s : State) where
   -- what saving writes are bytes
   pub saved-is-of-bytes : OfBytes (saved f s)
   unfolding saved
-  saved-is-of-bytes = file-of-bytes (saved-fields f s)
+  saved-is-of-bytes = file-of-bytes (saved_fields f s)
 
 -- ---- how long it is
 
@@ -71,7 +71,7 @@ shared_length Two s = 2 + 2 * length (others_of s) + 3 * length (tokens_of s)
 pub length-shared : (f : Form) (s : State) → length (shared_fields f s) ≡ shared_length f s
 length-shared One s = refl
 length-shared Two s =
-    length-append (length (others_of s) ∷ names-fields (others_of s)) (length (tokens_of s) ∷ tokens-fields (tokens_of s))
+    length-append (length (others_of s) ∷ names_fields (others_of s)) (length (tokens_of s) ∷ tokens_fields (tokens_of s))
     ∙ omega (arith, length-names-fields (others_of s), length-tokens-fields (tokens_of s))
 
 module _ (f : Form) (s : State) where
@@ -80,10 +80,10 @@ module _ (f : Form) (s : State) where
       omega (
         arith,
         length-file (sections_fields f s),
-        length-append (register_fields f s) (detail_fields f s ++ (memory_fields s ++ (resources-fields (firsts_of s) ++ shared_fields f s))),
-        length-append (detail_fields f s) (memory_fields s ++ (resources-fields (firsts_of s) ++ shared_fields f s)),
-        length-append (memory_fields s) (resources-fields (firsts_of s) ++ shared_fields f s),
-        length-append (resources-fields (firsts_of s)) (shared_fields f s),
+        length-append (register_fields f s) (detail_fields f s ++ (memory_fields s ++ (resources_fields (firsts_of s) ++ shared_fields f s))),
+        length-append (detail_fields f s) (memory_fields s ++ (resources_fields (firsts_of s) ++ shared_fields f s)),
+        length-append (memory_fields s) (resources_fields (firsts_of s) ++ shared_fields f s),
+        length-append (resources_fields (firsts_of s)) (shared_fields f s),
         length-detail f s,
         length_fields (firsts_of s),
         length-shared f s,

@@ -5,7 +5,7 @@ use Rattle.rules.specs.Numbers.{device_magic, version, features}
 use Rattle.rules.specs.Layouts.{word, long}
 use Rattle.rules.specs.Registers.{bit, bit_of, status}
 use Rattle.rules.specs.State.{State}
-use Rattle.rules.specs.Saved.{resources-fields, section_1_count, memory_place, count_place, head_bytes, firsts_of, shared_fields}
+use Rattle.rules.specs.Saved.{resources_fields, section_1_count, memory_place, count_place, head_bytes, firsts_of, shared_fields}
 use Rattle.rules.specs.Loaded.{good_code, detail_in}
 use Rattle.rules.specs.declared.Form.{Form}
 use Rattle.rules.specs.declared.Form.TheVariants.{One, Two}
@@ -70,7 +70,7 @@ module _ (f : Form) (s : State) (v : Savable s) where
 
   -- the fields after section 2's count
   abbrev after_head : List ℕ
-  after_head = resources-fields (firsts_of s) ++ shared_fields f s
+  after_head = resources_fields (firsts_of s) ++ shared_fields f s
 
   reads-memory : Reads b (memory_place f) (memory_fields s ++ after_head)
   reads-memory =

@@ -3,7 +3,7 @@ use Rattle.std.specs.Prelude.{◌≡◌, refl, Bool, true, false, ◌||◌, List
 use Rattle.std.proofs.Common.{sym, ap, subst, ◌∙◌, append_assoc, add-zero, arith, eq-eqb, ne_eqb, lt-ltb, length-append, get_or-append-add}
 use Rattle.machine.specs.Machine.{pick}
 use Rattle.rules.specs.Layouts.{word, long}
-use Rattle.rules.specs.Shapes.{packed-size, tight}
+use Rattle.rules.specs.Shapes.{packed_size, tight}
 use Rattle.rules.specs.Packets.{backed, handle_of}
 use Rattle.rules.specs.Registers.{low, high}
 use Rattle.rules.specs.declared.Shape.{Shape}
@@ -11,8 +11,8 @@ use Rattle.rules.specs.declared.Kind.{Kind}
 use Rattle.rules.specs.declared.Kind.TheVariants.{Buffer, Texture}
 use Rattle.rules.specs.declared.Resource.{Resource}
 use Rattle.rules.specs.Numbers.{buffer_kind, texture_kind}
-use Rattle.rules.specs.Saved.{kind_fields, resource_fields, resources-fields}
-use Rattle.rules.specs.Loaded.{saved_shape, is_buffer, good_pitch, loaded-resource, loaded-resources}
+use Rattle.rules.specs.Saved.{kind_fields, resource_fields, resources_fields}
+use Rattle.rules.specs.Loaded.{saved_shape, is_buffer, good_pitch, loaded_resource, loaded_resources}
 use Rattle.rule_laws.specs.Created.{AsCreated}
 use Rattle.promises_of_packets.specs.Held.{Every}
 use Rattle.promises_of_saving.specs.Rising.{Rises}
@@ -67,7 +67,7 @@ same-resource a b c d e f g = rw (a, b, c, d, e, f, g)
 
 pub record ReadBack (b : List ℕ) (at before : ℕ) (r : Resource) : Type 0 where
   pub good : GoodResource b at before
-  pub same : loaded-resource b at ≡ r
+  pub same : loaded_resource b at ≡ r
   pub first : word b at ≡ r.handle
 
 module _ (b : List ℕ) (at before : ℕ) (whole : at + 48 ≤ length b) (handle bytes pitch backing offset lowest : ℕ) (rest : List ℕ) (rises : before < handle) where
@@ -151,7 +151,7 @@ module _ (b : List ℕ) (at before : ℕ) (whole : at + 48 ≤ length b) (handle
           };
           same = is-the-texture b at is
               ∙ same-resource e0 (ap Texture shape)
-              (rw (e36, e40) (ap (λ (x : Shape). pick (backed backing) (packed-size x pitch) 0) shape ∙ sym c.bytes))
+              (rw (e36, e40) (ap (λ (x : Shape). pick (backed backing) (packed_size x pitch) 0) shape ∙ sym c.bytes))
               (rw (e36, e40) (pitch-or-zero (backed backing) (leb (tight s 0) pitch) pitch c.shape.1))
               e40 (rw (e40, e44) (or-none (backed backing) offset c.offset)) (e0 ∙ sym own);
           first = e0;
@@ -175,21 +175,21 @@ twelve-fields r = by-kind-of r.kind
     by-kind-of Buffer = refl
     by-kind-of (Texture s) = refl
 
-pub length_fields : (rs : List Resource) → length (resources-fields rs) ≡ 12 * length rs
-unfolding resources-fields
+pub length_fields : (rs : List Resource) → length (resources_fields rs) ≡ 12 * length rs
+unfolding resources_fields
 length_fields [] = refl
-length_fields (r ∷ rs) = length-append (resource_fields r) (resources-fields rs) ∙ omega (arith, twelve-fields r, length_fields rs)
+length_fields (r ∷ rs) = length-append (resource_fields r) (resources_fields rs) ∙ omega (arith, twelve-fields r, length_fields rs)
 
 -- so many resources, and what stands behind them
 pub written-resources : (rs : List Resource) (rest : List ℕ) (b : List ℕ) (at before : ℕ) → Rises handle_of before rs → Every AsCreated rs → Every OneName rs
-    → Every FitsResource rs → at + 48 * length rs ≤ length b → Reads b at (resources-fields rs ++ rest)
-    → GoodResources (length rs) b at before × (loaded-resources (length rs) b at ≡ rs)
-unfolding resources-fields loaded-resources GoodResources Every Rises
+    → Every FitsResource rs → at + 48 * length rs ≤ length b → Reads b at (resources_fields rs ++ rest)
+    → GoodResources (length rs) b at before × (loaded_resources (length rs) b at ≡ rs)
+unfolding resources_fields loaded_resources GoodResources Every Rises
 written-resources [] rest b at before rise created own fits room reads = (omega arith, refl)
 written-resources (r ∷ rs) rest b at before rise created own fits room reads =
-    let all : Reads b at (resource_fields r ++ (resources-fields rs ++ rest)) =
-    subst (Reads b at) (append_assoc (resource_fields r) (resources-fields rs) rest) reads in
-    let one : ReadBack b at before r = read_back b at before (omega arith) r (resources-fields rs ++ rest) rise.0 created.0 own.0 fits.0 all in
+    let all : Reads b at (resource_fields r ++ (resources_fields rs ++ rest)) =
+    subst (Reads b at) (append_assoc (resource_fields r) (resources_fields rs) rest) reads in
+    let one : ReadBack b at before r = read_back b at before (omega arith) r (resources_fields rs ++ rest) rise.0 created.0 own.0 fits.0 all in
     let later = written-resources rs rest b (at + 48) r.handle rise.1 created.1 own.1 fits.1 (omega arith)
-    (reads-later b at (at + 48) (resource_fields r) (resources-fields rs ++ rest) (omega (arith, twelve-fields r)) all) in
+    (reads-later b at (at + 48) (resource_fields r) (resources_fields rs ++ rest) (omega (arith, twelve-fields r)) all) in
     ((one.good, subst (GoodResources (length rs) b (at + 48)) (sym one.first) later.0), rw (one.same, later.1))

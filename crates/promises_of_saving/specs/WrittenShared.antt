@@ -10,8 +10,8 @@ use Rattle.rules.specs.Packets.{handle_of}
 use Rattle.rules.specs.Registers.{low, high}
 use Rattle.rules.specs.declared.Resource.{Resource}
 use Rattle.rules.specs.declared.Token.{Token}
-use Rattle.rules.specs.Saved.{names-fields, tokens-fields}
-use Rattle.rules.specs.Loaded.{may_be_shared, named, loaded-names, loaded_token, loaded-tokens}
+use Rattle.rules.specs.Saved.{names_fields, tokens_fields}
+use Rattle.rules.specs.Loaded.{may_be_shared, named, loaded_names, loaded_token, loaded_tokens}
 use Rattle.promises_of_packets.specs.Held.{Every}
 use Rattle.promises_of_saving.specs.Rising.{Rises}
 use Rattle.promises_of_saving.specs.GoodShared.{GoodName, GoodNames, GoodToken, GoodTokens}
@@ -27,8 +27,8 @@ pub record OtherNameOf (rs : List Resource) (r : Resource) : Type 0 where
   pub first : lookup handle_of r.lowest rs ≡ found (under r.lowest r)
   pub shared : shareable r.kind ≡ true
 
-pub length-names-fields : (ns : List Resource) → length (names-fields ns) ≡ 2 * length ns
-unfolding names-fields
+pub length-names-fields : (ns : List Resource) → length (names_fields ns) ≡ 2 * length ns
+unfolding names_fields
 length-names-fields [] = refl
 length-names-fields (r ∷ ns) = omega (arith, length-names-fields ns)
 
@@ -55,13 +55,13 @@ name_back rs b at before whole r rest rises n fits reads =
     }
 
 pub written-names : (ns rs : List Resource) (rest b : List ℕ) (at before : ℕ) → Rises handle_of before ns → Every (OtherNameOf rs) ns → Every FitsResource ns
-    → at + 8 * length ns ≤ length b → Reads b at (names-fields ns ++ rest) → GoodNames (length ns) rs b at before × (loaded-names (length ns) rs b at ≡ ns)
-unfolding names-fields loaded-names GoodNames Every Rises
+    → at + 8 * length ns ≤ length b → Reads b at (names_fields ns ++ rest) → GoodNames (length ns) rs b at before × (loaded_names (length ns) rs b at ≡ ns)
+unfolding names_fields loaded_names GoodNames Every Rises
 written-names [] rs rest b at before rise others fits room reads = (omega arith, refl)
 written-names (r ∷ ns) rs rest b at before rise others fits room reads =
-    let one : NameBack rs b at before r = name_back rs b at before (omega arith) r (names-fields ns ++ rest) rise.0 others.0 fits.0 reads in
+    let one : NameBack rs b at before r = name_back rs b at before (omega arith) r (names_fields ns ++ rest) rise.0 others.0 fits.0 reads in
     let later = written-names ns rs rest b (at + 8) r.handle rise.1 others.1 fits.1 (omega arith)
-    (reads-later b at (at + 8) (r.handle ∷ r.lowest ∷ []) (names-fields ns ++ rest) (omega arith) reads) in
+    (reads-later b at (at + 8) (r.handle ∷ r.lowest ∷ []) (names_fields ns ++ rest) (omega arith) reads) in
     ((one.good, subst (GoodNames (length ns) rs b (at + 8)) (sym one.first) later.0), rw (one.same, later.1))
 
 -- ---- tokens
@@ -70,8 +70,8 @@ written-names (r ∷ ns) rs rest b at before rise others fits room reads =
 abbrev pub TokenKept : List Resource → Token → Type 0
 TokenKept rs t = eqb t.name no_name || may_be_shared (lookup handle_of t.name rs) ≡ true
 
-pub length-tokens-fields : (ts : List Token) → length (tokens-fields ts) ≡ 3 * length ts
-unfolding tokens-fields
+pub length-tokens-fields : (ts : List Token) → length (tokens_fields ts) ≡ 3 * length ts
+unfolding tokens_fields
 length-tokens-fields [] = refl
 length-tokens-fields (t ∷ ts) = omega (arith, length-tokens-fields ts)
 
@@ -97,11 +97,11 @@ token_back rs b at before whole t rest rises bound fits reads =
     }
 
 pub written-tokens : (ts : List Token) (rs : List Resource) (b : List ℕ) (at before : ℕ) → Rises token_of before ts → Every (TokenKept rs) ts → Every FitsToken ts
-    → at + 12 * length ts ≤ length b → Reads b at (tokens-fields ts) → GoodTokens (length ts) rs b at before × (loaded-tokens (length ts) b at ≡ ts)
-unfolding tokens-fields loaded-tokens GoodTokens Every Rises
+    → at + 12 * length ts ≤ length b → Reads b at (tokens_fields ts) → GoodTokens (length ts) rs b at before × (loaded_tokens (length ts) b at ≡ ts)
+unfolding tokens_fields loaded_tokens GoodTokens Every Rises
 written-tokens [] rs b at before rise bound fits room reads = (omega arith, refl)
 written-tokens (t ∷ ts) rs b at before rise bound fits room reads =
-    let one : TokenBack rs b at before t = token_back rs b at before (omega arith) t (tokens-fields ts) rise.0 bound.0 fits.0 reads in
+    let one : TokenBack rs b at before t = token_back rs b at before (omega arith) t (tokens_fields ts) rise.0 bound.0 fits.0 reads in
     let later = written-tokens ts rs b (at + 12) t.token rise.1 bound.1 fits.1 (omega arith)
-    (reads-later b at (at + 12) (low t.token ∷ high t.token ∷ t.name ∷ []) (tokens-fields ts) (omega arith) reads) in
+    (reads-later b at (at + 12) (low t.token ∷ high t.token ∷ t.name ∷ []) (tokens_fields ts) (omega arith) reads) in
     ((one.good, subst (GoodTokens (length ts) rs b (at + 12)) (sym one.first) later.0), rw (one.same, later.1))

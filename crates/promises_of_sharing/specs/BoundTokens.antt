@@ -7,8 +7,8 @@ use Rattle.machine.specs.Machine.{pick}
 use Rattle.rules.specs.Numbers.{no_name}
 use Rattle.rules.specs.Lists.{Found, lookup, pushed}
 use Rattle.rules.specs.Lists.Found.{none, found}
-use Rattle.rules.specs.Names.{token_of, renamed, lower, lowest-left, tokens_left, tokens_with, is_new, with_token, without_token}
-use Rattle.rules.specs.Packets.{Outcome, handle_of, live, without, bound, apply, Progress, passed, target-after, tokens-after, pass}
+use Rattle.rules.specs.Names.{token_of, renamed, lower, lowest_left, tokens_left, tokens_with, is_new, with_token, without_token}
+use Rattle.rules.specs.Packets.{Outcome, handle_of, live, without, bound, apply, Progress, passed, target_after, tokens_after, pass}
 use Rattle.rules.specs.declared.Entry.{Entry}
 use Rattle.rules.specs.declared.Resource.{Resource}
 use Rattle.rules.specs.declared.Token.{Token}
@@ -62,7 +62,7 @@ module _ (es : List Entry) (h : Progress) (s : SoundProgress es h) (token : ℕ)
     left = without k h.holdings
 
     abbrev new : ℕ
-    new = lowest-left r.lowest left
+    new = lowest_left r.lowest left
 
     after-destroy : (renamed r.lowest new b.0.name ≡ no_name → ⊥) → IsBound token (tokens_left r left h.tokens)
     after-destroy =
@@ -129,7 +129,7 @@ module _ (es : List Entry) (h : Progress) (s : SoundProgress es h) (token : ℕ)
   -- it is the release of that token or a destroy of the last name of its resource
 
   pub a-bound-token-is-spent-only-by-its-release-or-with-its-last-name : (p : Packet) → BoundUnless token h p (pass es h p).held.tokens
-  unfolding pass apply target-after tokens-after
+  unfolding pass apply target_after tokens_after
   a-bound-token-is-spent-only-by-its-release-or-with-its-last-name (Buffer c) = inl b
   a-bound-token-is-spent-only-by-its-release-or-with-its-last-name (Texture c) = inl b
   a-bound-token-is-spent-only-by-its-release-or-with-its-last-name (Destroy c) =

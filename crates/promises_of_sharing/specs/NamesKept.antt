@@ -8,8 +8,8 @@ use Rattle.rules.specs.Numbers.{bad_state}
 use Rattle.rules.specs.Lists.{Found, lookup, pushed}
 use Rattle.rules.specs.Lists.Found.{none, found}
 use Rattle.rules.specs.Names.{names_left, names_with}
-use Rattle.rules.specs.StatePackets.{bad-viewport, bad-clear}
-use Rattle.rules.specs.Packets.{Outcome, accepted, handle_of, live, is_live, without, on-buffer-packet, on-texture-packet, on-viewport-packet, on-clear-packet, bound, apply, Progress, Belongings, left_by, tokens-after, passed, pass}
+use Rattle.rules.specs.StatePackets.{bad_viewport, bad_clear}
+use Rattle.rules.specs.Packets.{Outcome, accepted, handle_of, live, is_live, without, on_buffer_packet, on_texture_packet, on_viewport_packet, on_clear_packet, bound, apply, Progress, Belongings, left_by, tokens_after, passed, pass}
 use Rattle.rules.specs.declared.Entry.{Entry}
 use Rattle.rules.specs.declared.Resource.{Resource}
 use Rattle.rules.specs.declared.Packet.{Packet}
@@ -139,7 +139,7 @@ module _ (es : List Entry) (h : Progress) (s : SoundProgress es h) where
 
   -- whatever the packet, accepted or refused
   pub a-packet-keeps-names : (p : Packet) → KeepsNamesBut (imported_or_destroyed p) (left_by h) (left_by (pass es h p).held)
-  unfolding pass apply tokens-after Every on-buffer-packet on-texture-packet on-viewport-packet on-clear-packet
+  unfolding pass apply tokens_after Every on_buffer_packet on_texture_packet on_viewport_packet on_clear_packet
   a-packet-keeps-names (Buffer c) =
       create-or (Keeps (Buffer c)) h.holdings (λ r. keeps_same [] (left_by h)) es with-a-new-one (λ r e f i. with-a-new-one r f) _ _ refl
       (buffer-created c.handle c.size c.backing c.offset)
@@ -154,10 +154,10 @@ module _ (es : List Entry) (h : Progress) (s : SoundProgress es h) where
       with-names-as-live (Copy c) (λ k other. copy-or (SameLive k) h.holdings (λ r. refl) es refl (λ kind r e from size i. refl) c)
   a-packet-keeps-names (Target c) = with-names-as-live (Target c) (λ k other. target-or (SameLive k) h.holdings (λ r. refl) c (λ t e. refl))
   a-packet-keeps-names (Viewport v) =
-      with-names-as-live (Viewport v) (λ k other. refuse-or (SameLive k) h.holdings (λ r. refl) bad_state (bad-viewport v) (accepted h.holdings) (λ e. refl))
+      with-names-as-live (Viewport v) (λ k other. refuse-or (SameLive k) h.holdings (λ r. refl) bad_state (bad_viewport v) (accepted h.holdings) (λ e. refl))
   a-packet-keeps-names (Scissor c) = with-names-as-live (Scissor c) (λ k other. scissor-or (SameLive k) h.holdings (λ r. refl) h.target c (λ t e. refl))
   a-packet-keeps-names (Clear c) =
-      with-names-as-live (Clear c) (λ k other. refuse-or (SameLive k) h.holdings (λ r. refl) bad_state (bad-clear c) (accepted h.holdings) (λ e. refl))
+      with-names-as-live (Clear c) (λ k other. refuse-or (SameLive k) h.holdings (λ r. refl) bad_state (bad_clear c) (accepted h.holdings) (λ e. refl))
   a-packet-keeps-names (Export c) = with-names-as-live (Export c) (λ k other. export-or (SameLive k) h (λ r. refl) c (λ r e. refl))
   a-packet-keeps-names (Import c) =
       with-names-as-live (Import c) (λ k other. import-or (SameLive k) h.holdings (λ r. refl) h.tokens c (λ r some unused e room.

@@ -8,7 +8,7 @@ use Rattle.rules.specs.State.{State}
 use Rattle.promises_of_units.specs.Called.{Called}
 use Rattle.promises_of_sharing.specs.SharedTokens.{TokensGoOn, go-on-same, go-on-both, tokens-stay}
 use Rattle.promises_of_sharing.specs.NamesKept.{imported_or_destroyed, KeepsNamesBut, keeps_same, keeps-both, a-packet-keeps-names}
-use Rattle.promises_of_sharing.specs.PacketsTaken.{CalledOn, Taken, packets-since, Carries, carried-between-resets}
+use Rattle.promises_of_sharing.specs.PacketsTaken.{CalledOn, Taken, packets_since, Carries, carried-between-resets}
 
 -- the names that some packets imported or destroyed
 unfoldable pub names_of : List Taken → List ℕ
@@ -46,7 +46,7 @@ names-go-on =
 
 -- those of the submissions answered good, over calls of which none is a reset. What was in work at first counts whole, if it is answered good.
 abbrev pub names_since : (s t : State) → Called s → CalledOn s t → List ℕ
-names_since s t k q = names_of (packets-since s t k q).by_good
+names_since s t k q = names_of (packets_since s t k q).by_good
 
 -- a token of the device's own that is bound before and after these calls: each name is a name of its resource after exactly if it was before, unless a
 -- submission answered good has imported or destroyed that name since

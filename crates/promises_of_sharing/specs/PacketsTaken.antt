@@ -11,16 +11,16 @@ use native.Mathlib.Omega.{arith}
 use Rattle.machine.specs.Machine.{pick, run_none, run-stop, run-go}
 use Rattle.rules.specs.Numbers.{done}
 use Rattle.rules.specs.Layouts.{stream_header_size}
-use Rattle.rules.specs.Stream.{left, frame-of, packet-of}
-use Rattle.rules.specs.Table.{take-entry}
-use Rattle.rules.specs.Packets.{Progress, Belongings, at_first, left_by, pass, pass_frame, take-packet}
+use Rattle.rules.specs.Stream.{left, frame_of, packet_of}
+use Rattle.rules.specs.Table.{take_entry}
+use Rattle.rules.specs.Packets.{Progress, Belongings, at_first, left_by, pass, pass_frame, take_packet}
 use Rattle.rules.specs.State.{Work, State, World}
 use Rattle.rules.specs.State.Work.{resting, entries, packets, waiting}
 use Rattle.rules.specs.Registers.{reset}
 use Rattle.rules.specs.Settle.{settled}
 use Rattle.rules.specs.Steps.{packets_at, entries_at, go, step, run_for, waits_on, waits, answer_on, answered}
-use Rattle.rules.specs.Calls.{Ran, call-write, call-run, call-answer}
-use Rattle.rules.specs.Loaded.{loaded-sections, loaded}
+use Rattle.rules.specs.Calls.{Ran, call_write, call_run, call_answer}
+use Rattle.rules.specs.Loaded.{loaded_sections, loaded}
 use Rattle.rules.specs.declared.Entry.{Entry}
 use Rattle.rules.specs.declared.Frame.{Frame}
 use Rattle.rules.specs.declared.Frame.TheVariants.{Whole, Misframed}
@@ -65,20 +65,20 @@ pub record Taken : Type 0 where
 
 -- the one that some bytes begin with
 abbrev pub taken_in : Progress → List ℕ → Frame → List Taken
-taken_in h b (Whole op size) = record { before = h; packet = packet-of op (take size b) } ∷ []
+taken_in h b (Whole op size) = record { before = h; packet = packet_of op (take size b) } ∷ []
 taken_in h b (Misframed r) = []
 
 -- those of the submission in work, with one unit more, the last one first. An opening begins with none, so what a refused submission took is dropped.
 abbrev pub packets_after_unit : World → Work → List Taken → List Taken
 packets_after_unit w resting xs = []
 packets_after_unit w (entries o kept) xs = xs
-packets_after_unit w (packets j t at es h) xs = taken_in h (left w.mem t at) (frame-of (left w.mem t at)) ++ xs
+packets_after_unit w (packets j t at es h) xs = taken_in h (left w.mem t at) (frame_of (left w.mem t at)) ++ xs
 packets_after_unit w (waiting j es h) xs = xs
 
 -- the same with some units more
-unfoldable pub packets-after-units : ℕ → World → List Taken → List Taken
-packets-after-units zero w xs = xs
-packets-after-units (suc n) w xs = packets-after-units n (step w) (packets_after_unit w w.state.work xs)
+unfoldable pub packets_after_units : ℕ → World → List Taken → List Taken
+packets_after_units zero w xs = xs
+packets_after_units (suc n) w xs = packets_after_units n (step w) (packets_after_unit w w.state.work xs)
 
 -- those of the submissions that were answered good, and so far of the one in work
 pub record Packets : Type 0 where
@@ -89,27 +89,27 @@ pub record Packets : Type 0 where
 abbrev pub packets_after_answer : Bool → World → Ran → Packets → Packets
 packets_after_answer good w r x =
     pick (eqb r.answer done)
-    (record { by_good = pick good (x.in_work ++ x.by_good) x.by_good; in_work = packets-after-units r.units (answered good w) [] })
+    (record { by_good = pick good (x.in_work ++ x.by_good) x.by_good; in_work = packets_after_units r.units (answered good w) [] })
     x
 
 -- with one call more
-unfoldable pub packets-after-call : Call → World → Packets → Packets
-packets-after-call (writes offset v) w x = x
-packets-after-call (reads offset) w x = x
-packets-after-call (runs n) w x = record { by_good = x.by_good; in_work = packets-after-units (call-run w n).units w x.in_work }
-packets-after-call (records i) w x = x
-packets-after-call (answers good n) w x = packets_after_answer good w (call-answer w good n) x
+unfoldable pub packets_after_call : Call → World → Packets → Packets
+packets_after_call (writes offset v) w x = x
+packets_after_call (reads offset) w x = x
+packets_after_call (runs n) w x = record { by_good = x.by_good; in_work = packets_after_units (call_run w n).units w x.in_work }
+packets_after_call (records i) w x = x
+packets_after_call (answers good n) w x = packets_after_answer good w (call_answer w good n) x
 
 -- those of the submission in work, of any device made and called
-unfoldable pub packets-in-work : (s : State) → Called s → List Taken
-packets-in-work s (makes memory) = []
-packets-in-work s (loads b good) = []
-packets-in-work s (calls {s = t} c m k) = (packets-after-call c (record { state = t; mem = m }) (record { by_good = []; in_work = packets-in-work t k })).in_work
+unfoldable pub packets_in_work : (s : State) → Called s → List Taken
+packets_in_work s (makes memory) = []
+packets_in_work s (loads b good) = []
+packets_in_work s (calls {s = t} c m k) = (packets_after_call c (record { state = t; mem = m }) (record { by_good = []; in_work = packets_in_work t k })).in_work
 
 -- those since such a device, over calls of which none is a reset. What was in work at first counts whole, if it is answered good.
-unfoldable pub packets-since : (s t : State) → Called s → CalledOn s t → Packets
-packets-since s t k not_yet = record { by_good = []; in_work = packets-in-work s k }
-packets-since s t k (calls-on {t = u} q c n m) = packets-after-call c (record { state = u; mem = m }) (packets-since s u k q)
+unfoldable pub packets_since : (s t : State) → Called s → CalledOn s t → Packets
+packets_since s t k not_yet = record { by_good = []; in_work = packets_in_work s k }
+packets_since s t k (calls-on {t = u} q c n m) = packets_after_call c (record { state = u; mem = m }) (packets_since s u k q)
 
 -- ---- what holds from packet to packet, of what was had before and after
 
@@ -121,13 +121,13 @@ pub record Carries (R : List Taken → Belongings → Belongings → Type 0) : T
 
 module _ (R : List Taken → Belongings → Belongings → Type 0) (c : Carries R) where
   -- of what the bytes left of a stream begin with
-  in-a-stream : (es : List Entry) (h : Progress) → SoundProgress es h → (b : List ℕ) → (take-packet es h b).verdict ≡ Fine
-      → R (taken_in h b (frame-of b)) (left_by h) (left_by (take-packet es h b).held)
-  unfolding take-packet
-  in-a-stream es h s b = by_frame (frame-of b)
+  in-a-stream : (es : List Entry) (h : Progress) → SoundProgress es h → (b : List ℕ) → (take_packet es h b).verdict ≡ Fine
+      → R (taken_in h b (frame_of b)) (left_by h) (left_by (take_packet es h b).held)
+  unfolding take_packet
+  in-a-stream es h s b = by_frame (frame_of b)
     where
       by_frame : (f : Frame) → (pass_frame es h b f).verdict ≡ Fine → R (taken_in h b f) (left_by h) (left_by (pass_frame es h b f).held)
-      by_frame (Whole op size) e = c.packet es h s (packet-of op (take size b)) e
+      by_frame (Whole op size) e = c.packet es h s (packet_of op (take size b)) e
       by_frame (Misframed r) e = absurd (let z : ◌≡◌ {A = ℕ} 0 1 = cc in omega arith)
 
   -- of the submission in work: from the device's own on
@@ -181,20 +181,20 @@ module _ (R : List Taken → Belongings → Belongings → Type 0) (c : Carries 
     next-none : (k next : Work) → Next w k next → NoneYet xs k → NoneYet (packets_after_unit w k xs) next
     next-none resting next h n = subst (NoneYet []) (sym h.first) (none-in-entries own h.what [])
     next-none (entries o kept) next h n =
-        subst (λ z. NoneYet z next) (sym n) (subst (NoneYet []) (sym h.1) (none-in-entries own o (take-entry w.mem o.table kept).kept))
-    next-none (packets j t at es h') next h n = subst (NoneYet _) (sym h.1) (none-in-packets _ j t _ es (take-packet es h' (left w.mem t at)).held)
+        subst (λ z. NoneYet z next) (sym n) (subst (NoneYet []) (sym h.1) (none-in-entries own o (take_entry w.mem o.table kept).kept))
+    next-none (packets j t at es h') next h n = subst (NoneYet _) (sym h.1) (none-in-packets _ j t _ es (take_packet es h' (left w.mem t at)).held)
     next-none (waiting j es h') next h n = subst (NoneYet xs) (sym h) n
 
     next-carries : (k next : Work) → Next w k next → SoundWork k → NoneYet xs k → InWork xs own k → InWork (packets_after_unit w k xs) own next
     next-carries resting next h s n q = subst (InWork [] own) (sym h.first) (entries-carry own h.what [])
     next-carries (entries o kept) next h s n q =
-        subst (λ z. InWork z own next) (sym n) (subst (InWork [] own) (sym h.1) (entries-carry own o (take-entry w.mem o.table kept).kept))
+        subst (λ z. InWork z own next) (sym n) (subst (InWork [] own) (sym h.1) (entries-carry own o (take_entry w.mem o.table kept).kept))
     next-carries (packets j t at es h') next h s n q =
         let b : List ℕ = left w.mem t at in
-        let here : List Taken = taken_in h' b (frame-of b) in
+        let here : List Taken = taken_in h' b (frame_of b) in
         subst (InWork (here ++ xs) own) (sym h.1)
-        (packets-carry (here ++ xs) own j t _ es (take-packet es h' b).held
-        (c.both xs here own (left_by h') (left_by (take-packet es h' b).held) q (in-a-stream es h' s.1 b h.0)))
+        (packets-carry (here ++ xs) own j t _ es (take_packet es h' b).held
+        (c.both xs here own (left_by h') (left_by (take_packet es h' b).held) q (in-a-stream es h' s.1 b h.0)))
     next-carries (waiting j es h') next h s n q = subst (InWork xs own) (sym h) q
 
   -- ---- a device some calls after one that had these belongings
@@ -226,14 +226,14 @@ module _ (R : List Taken → Belongings → Belongings → Type 0) (c : Carries 
           record { sound = o; own = f.own; none_yet = subst (NoneYet _) (sym e) (omega arith); work = subst (InWork _ w.state.belongings) (sym e) (omega arith) }
       by-unit w w' xs (settles j r h) o f = record { sound = o; own = f.own; none_yet = omega arith; work = omega arith }
 
-      run-follows : (n : ℕ) (w : World) (xs : List Taken) → With xs w.state → With (packets-after-units (run_for n w).units w xs) (run_for n w).state.state
-      unfolding packets-after-units
+      run-follows : (n : ℕ) (w : World) (xs : List Taken) → With xs w.state → With (packets_after_units (run_for n w).units w xs) (run_for n w).state.state
+      unfolding packets_after_units
       run-follows zero w xs f = rw (run_none go step w) f
       run-follows (suc n) w xs f =
           by_test (go w) refl (run-follows n (step w) (packets_after_unit w w.state.work xs) (by-unit w (step w) xs (unit w) (step-keeps-sound w f.sound) f))
         where
-          by_test : (b : Bool) → go w ≡ b → With (packets-after-units (run_for n (step w)).units (step w) (packets_after_unit w w.state.work xs)) (run_for n (step w)).state.state
-              → With (packets-after-units (run_for (suc n) w).units w xs) (run_for (suc n) w).state.state
+          by_test : (b : Bool) → go w ≡ b → With (packets_after_units (run_for n (step w)).units (step w) (packets_after_unit w w.state.work xs)) (run_for n (step w)).state.state
+              → With (packets_after_units (run_for (suc n) w).units w xs) (run_for (suc n) w).state.state
           by_test true g q = rw (run-go go step n w g, one-add) q
           by_test false g q = rw (run-stop go step (suc n) w g) f
 
@@ -263,14 +263,14 @@ module _ (R : List Taken → Belongings → Belongings → Type 0) (c : Carries 
     by_written s s' offset v x n (drops h) o f = absurd (let z : ◌≡◌ {A = ℕ} 0 1 = cc in omega arith)
 
     -- any call but a reset
-    call-follows : (k : Call) (w : World) (x : Packets) → is_reset k ≡ false → Follows first w.state x → Follows first (after k w).state (packets-after-call k w x)
-    unfolding after packets-after-call packets-after-units
+    call-follows : (k : Call) (w : World) (x : Packets) → is_reset k ≡ false → Follows first w.state x → Follows first (after k w).state (packets_after_call k w x)
+    unfolding after packets_after_call packets_after_units
     call-follows (writes offset v) w x n f =
-        by_written w.state (call-write w.state offset v).state offset v x n (write-keeps-or-drops w.state offset v)
+        by_written w.state (call_write w.state offset v).state offset v x n (write-keeps-or-drops w.state offset v)
         (call-keeps-sound (writes offset v) w f.sound) f
     call-follows (reads offset) w x n f = f
     call-follows (runs i) w x n f =
-        of-run (λ (r : Ran). With x.by_good (packets-after-units r.units w x.in_work) r.world.state) w i (λ e. f) (λ e. run-follows x.by_good i w x.in_work f)
+        of-run (λ (r : Ran). With x.by_good (packets_after_units r.units w x.in_work) r.world.state) w i (λ e. f) (λ e. run-follows x.by_good i w x.in_work f)
     call-follows (records i) w x n f = f
     call-follows (answers good i) w x n f =
         of-answer (λ (r : Ran). Follows first r.world.state (packets_after_answer good w r x)) w good i (λ e. f) (λ e a. f)
@@ -279,27 +279,27 @@ module _ (R : List Taken → Belongings → Belongings → Type 0) (c : Carries 
   -- ---- any device made and called
 
   -- before any call
-  follows_itself : (s : State) (k : Called s) → Follows s.belongings s (record { by_good = []; in_work = packets-in-work s k })
-  unfolding packets-in-work loaded loaded-sections
+  follows_itself : (s : State) (k : Called s) → Follows s.belongings s (record { by_good = []; in_work = packets_in_work s k })
+  unfolding packets_in_work loaded loaded_sections
   follows_itself s (makes memory) = record { sound = called-sound s (makes memory); own = c.same s.belongings; none_yet = omega arith; work = omega arith }
   follows_itself s (loads b good) = record { sound = called-sound s (loads b good); own = c.same s.belongings; none_yet = omega arith; work = omega arith }
   follows_itself s (calls {s = t} d m k) = by-reset d (is_reset d) refl (follows_itself t k)
     where
-      again : (d : Call) (b : Bool) → is_reset d ≡ b → Follows t.belongings t (record { by_good = []; in_work = packets-in-work t k })
-          → NoneYet (packets-after-call d (record { state = t; mem = m }) (record { by_good = []; in_work = packets-in-work t k })).in_work (after d (record { state = t; mem = m })).state.work
-          × InWork (packets-after-call d (record { state = t; mem = m }) (record { by_good = []; in_work = packets-in-work t k })).in_work
+      again : (d : Call) (b : Bool) → is_reset d ≡ b → Follows t.belongings t (record { by_good = []; in_work = packets_in_work t k })
+          → NoneYet (packets_after_call d (record { state = t; mem = m }) (record { by_good = []; in_work = packets_in_work t k })).in_work (after d (record { state = t; mem = m })).state.work
+          × InWork (packets_after_call d (record { state = t; mem = m }) (record { by_good = []; in_work = packets_in_work t k })).in_work
           (after d (record { state = t; mem = m })).state.belongings (after d (record { state = t; mem = m })).state.work
       again d false e f =
           let g : Follows t.belongings (after d (record { state = t; mem = m })).state _ =
-          call-follows t.belongings d (record { state = t; mem = m }) (record { by_good = []; in_work = packets-in-work t k }) e f in
+          call-follows t.belongings d (record { state = t; mem = m }) (record { by_good = []; in_work = packets_in_work t k }) e f in
           (g.none_yet, g.work)
       again d true e f =
           let rests = sym (a-reset-drops-the-work d (record { state = t; mem = m }) e) in
           (subst (NoneYet _) rests (omega arith), subst (InWork _ _) rests (omega arith))
 
-      by-reset : (d : Call) (b : Bool) → is_reset d ≡ b → Follows t.belongings t (record { by_good = []; in_work = packets-in-work t k })
+      by-reset : (d : Call) (b : Bool) → is_reset d ≡ b → Follows t.belongings t (record { by_good = []; in_work = packets_in_work t k })
           → Follows (after d (record { state = t; mem = m })).state.belongings (after d (record { state = t; mem = m })).state
-          (record { by_good = []; in_work = (packets-after-call d (record { state = t; mem = m }) (record { by_good = []; in_work = packets-in-work t k })).in_work })
+          (record { by_good = []; in_work = (packets_after_call d (record { state = t; mem = m }) (record { by_good = []; in_work = packets_in_work t k })).in_work })
       by-reset d b e f =
           let g = again d b e f in
           record {
@@ -309,15 +309,15 @@ module _ (R : List Taken → Belongings → Belongings → Type 0) (c : Carries 
             work = g.1;
           }
 
-  follows : (s u : State) (k : Called s) (q : CalledOn s u) → Follows s.belongings u (packets-since s u k q)
-  unfolding packets-since
+  follows : (s u : State) (k : Called s) (q : CalledOn s u) → Follows s.belongings u (packets_since s u k q)
+  unfolding packets_since
   follows s u k not_yet = follows_itself s k
-  follows s u k (calls-on {t = v} d e n m) = call-follows s.belongings e (record { state = v; mem = m }) (packets-since s v k d) n (follows s v k d)
+  follows s u k (calls-on {t = v} d e n m) = call-follows s.belongings e (record { state = v; mem = m }) (packets_since s v k d) n (follows s v k d)
 
   -- of the device's own: the packets of the submissions answered good since
-  pub carried-between-resets : (s t : State) (k : Called s) (q : CalledOn s t) → R (packets-since s t k q).by_good s.belongings t.belongings
+  pub carried-between-resets : (s t : State) (k : Called s) (q : CalledOn s t) → R (packets_since s t k q).by_good s.belongings t.belongings
   carried-between-resets s t k q = (follows s t k q).own
 
   -- and of what a submission holds while it is in work: those and its own so far
-  pub carried-in-work : (s t : State) (k : Called s) (q : CalledOn s t) → InWork (packets-since s t k q).in_work t.belongings t.work
+  pub carried-in-work : (s t : State) (k : Called s) (q : CalledOn s t) → InWork (packets_since s t k q).in_work t.belongings t.work
   carried-in-work s t k q = (follows s t k q).work

@@ -6,9 +6,9 @@ use Rattle.machine.specs.Machine.{pick}
 use Rattle.rules.specs.Numbers.{bad_handle, bad_shape, bad_state, bad_copy, past_entry, past_resource, host_backed, read_only, too_many, clips, backs, reads, writes}
 use Rattle.rules.specs.Lists.{Found, pushed}
 use Rattle.rules.specs.Lists.Found.{none, found}
-use Rattle.rules.specs.StatePackets.{bad-viewport, bad-clear, clip-of}
+use Rattle.rules.specs.StatePackets.{bad_viewport, bad_clear, clip_of}
 use Rattle.rules.specs.Table.{matching}
-use Rattle.rules.specs.Packets.{Holdings, Outcome, accepted, refused, refuse, full, handle_of, live, is_live, on_live, on_kind, on_buffer, on_entry, backed, range_of, recorded, hand-out, stored, create-hosted, create-backed, create, on-buffer-packet, on-texture-packet, on-dirty-packet, write-back, on-copy-packet, on-viewport-packet, on-clear-packet, apply, Progress, pass}
+use Rattle.rules.specs.Packets.{Holdings, Outcome, accepted, refused, refuse, full, handle_of, live, is_live, on_live, on_kind, on_buffer, on_entry, backed, range_of, recorded, hand_out, stored, create_hosted, create_backed, create, on_buffer_packet, on_texture_packet, on_dirty_packet, write_back, on_copy_packet, on_viewport_packet, on_clear_packet, apply, Progress, pass}
 use Rattle.rules.specs.declared.Entry.{Entry}
 use Rattle.rules.specs.declared.Kind.{Kind}
 use Rattle.rules.specs.declared.Kind.TheVariants.{Buffer as BufferKind, Texture as TextureKind}
@@ -80,14 +80,14 @@ module _ (p : Packet) (h : Holdings) where
   on-its-buffer : (k : ℕ) (later : Resource → Outcome) → ((r : Resource) → r.handle ≡ k → Adds (later r)) → Adds (on_buffer (live k h) h later)
   on-its-buffer k later a = on-its-row k (λ r. on_kind r.kind h (later r)) (λ r e. on-any-kind r.kind (later r) (a r e))
 
-  handed : (r : Record) → ((r.kind ≡ clips → ⊥) → HasHandleOf p r) → Adds (hand-out r h)
-  unfolding hand-out
+  handed : (r : Record) → ((r.kind ≡ clips → ⊥) → HasHandleOf p r) → Adds (hand_out r h)
+  unfolding hand_out
   handed r has = either (eqb r.length 0) (accepted h) _ none-added (unless too_many (full h.records) (accepted (recorded r h)) (one-added r has))
 
   -- ---- create
 
   created : (es : List Entry) (good : Bool) (r : Resource) → ((e : Entry) → HasHandleOf p (range_of backs r e 0 r.bytes)) → Adds (create es h good r)
-  unfolding create create-backed create-hosted
+  unfolding create create_backed create_hosted
   created es good r has =
       unless bad_handle (eqb r.handle 0 || is_live (live r.handle h)) _
       (unless bad_shape (not good) _
@@ -100,8 +100,8 @@ module _ (p : Packet) (h : Holdings) where
 
 -- ---- dirty and copy
 
-dirty-adds : (es : List Entry) (h : Holdings) (c : DirtyRange) → Adds (Dirty c) h (on-dirty-packet es h c)
-unfolding on-dirty-packet
+dirty-adds : (es : List Entry) (h : Holdings) (c : DirtyRange) → Adds (Dirty c) h (on_dirty_packet es h c)
+unfolding on_dirty_packet
 dirty-adds es h c =
     on-its-row (Dirty c) h c.handle _ (λ r is.
     unless (Dirty c) h host_backed (not (backed r.backing)) _
@@ -110,8 +110,8 @@ dirty-adds es h c =
     unless (Dirty c) h past_entry (ltb e.size (r.offset + (c.offset + c.size))) _
     (handed (Dirty c) h (range_of reads r e c.offset c.size) (λ _. is))))))
 
-copy-adds : (es : List Entry) (h : Holdings) (c : CopyBuffer) → Adds (Copy c) h (on-copy-packet es h c)
-unfolding on-copy-packet write-back
+copy-adds : (es : List Entry) (h : Holdings) (c : CopyBuffer) → Adds (Copy c) h (on_copy_packet es h c)
+unfolding on_copy_packet write_back
 copy-adds es h c =
     on-its-buffer (Copy c) h c.dst _ (λ d is.
     on-its-buffer (Copy c) h c.src _ (λ s _.
@@ -130,7 +130,7 @@ copy-adds es h c =
 
 pub ranges-carry-the-packets-handle : (es : List Entry) (h : Progress) (p : Packet)
     → AddsUnderItsHandle p h.holdings.records (pass es h p).held.holdings.records
-unfolding pass apply on-buffer-packet on-texture-packet on-viewport-packet on-clear-packet
+unfolding pass apply on_buffer_packet on_texture_packet on_viewport_packet on_clear_packet
 ranges-carry-the-packets-handle es h (Buffer c) = created (Buffer c) h.holdings es _ _ (λ e. refl)
 ranges-carry-the-packets-handle es h (Texture c) = created (Texture c) h.holdings es _ _ (λ e. refl)
 ranges-carry-the-packets-handle es h (Destroy c) =
@@ -140,13 +140,13 @@ ranges-carry-the-packets-handle es h (Copy c) = copy-adds es h.holdings c
 ranges-carry-the-packets-handle es h (Target c) =
     target-or (Adds (Target c) h.holdings) h.holdings (λ _. none-added (Target c) h.holdings) c (λ s e. none-added (Target c) h.holdings)
 ranges-carry-the-packets-handle es h (Viewport v) =
-    unless (Viewport v) h.holdings bad_state (bad-viewport v) (accepted h.holdings) (none-added (Viewport v) h.holdings)
+    unless (Viewport v) h.holdings bad_state (bad_viewport v) (accepted h.holdings) (none-added (Viewport v) h.holdings)
 -- a clipped rectangle is no range
 ranges-carry-the-packets-handle es h (Scissor c) =
     scissor-or (Adds (Scissor c) h.holdings) h.holdings (λ _. none-added (Scissor c) h.holdings) h.target c
-    (λ s e. one-added (Scissor c) h.holdings (clip-of s c) (λ other. absurd (other (clip-kind s c))))
+    (λ s e. one-added (Scissor c) h.holdings (clip_of s c) (λ other. absurd (other (clip-kind s c))))
 ranges-carry-the-packets-handle es h (Clear c) =
-    unless (Clear c) h.holdings bad_state (bad-clear c) (accepted h.holdings) (none-added (Clear c) h.holdings)
+    unless (Clear c) h.holdings bad_state (bad_clear c) (accepted h.holdings) (none-added (Clear c) h.holdings)
 ranges-carry-the-packets-handle es h (Export c) =
     export-or (Adds (Export c) h.holdings) h (λ _. none-added (Export c) h.holdings) c (λ r e. none-added (Export c) h.holdings)
 ranges-carry-the-packets-handle es h (Import c) =

@@ -6,8 +6,8 @@ use Rattle.machine.specs.Machine.{pick}
 use Rattle.rules.specs.Numbers.{no_name}
 use Rattle.rules.specs.Lists.{Found, lookup, index_of, pushed}
 use Rattle.rules.specs.Lists.Found.{none, found}
-use Rattle.rules.specs.Names.{token_of, shareable, renamed, with_lowest, under, rename, lower, lowest-left, names_left, tokens_left, names_with}
-use Rattle.rules.specs.Packets.{Outcome, handle_of, live, without, bound, apply, Progress, Passed, passed, target-after, tokens-after, pass}
+use Rattle.rules.specs.Names.{token_of, shareable, renamed, with_lowest, under, rename, lower, lowest_left, names_left, tokens_left, names_with}
+use Rattle.rules.specs.Packets.{Outcome, handle_of, live, without, bound, apply, Progress, Passed, passed, target_after, tokens_after, pass}
 use Rattle.rules.specs.declared.Entry.{Entry}
 use Rattle.rules.specs.declared.Resource.{Resource}
 use Rattle.rules.specs.declared.Token.{Token}
@@ -138,14 +138,14 @@ fine-not-broken r e = let z : ◌≡◌ {A = ℕ} 0 1 = cc in omega arith
 module _ (es : List Entry) (h : Progress) where
   pub destroyed-is : (c : DestroyResource) → (pass es h (Destroy c)).verdict ≡ Fine
       → (r : Resource) × (live c.handle h.holdings ≡ found r) × (pass es h (Destroy c) ≡ destroyed h c.handle r)
-  unfolding pass apply target-after tokens-after
+  unfolding pass apply target_after tokens_after
   destroyed-is c =
       destroy-or (λ (o : Outcome). o.verdict ≡ Fine → (r : Resource) × (live c.handle h.holdings ≡ found r) × (passed (Destroy c) h o ≡ destroyed h c.handle r))
       h.holdings (λ r e. absurd (fine-not-broken r e)) c (λ r e _. (r, e, rw e))
 
   pub imported-is : (c : ImportSurface) → (pass es h (Import c)).verdict ≡ Fine
       → (r : Resource) × Imported h c.handle c.token r × (pass es h (Import c) ≡ imported h c.handle r)
-  unfolding pass apply target-after tokens-after
+  unfolding pass apply target_after tokens_after
   imported-is c =
       import-or (λ (o : Outcome). o.verdict ≡ Fine → (r : Resource) × Imported h c.handle c.token r × (passed (Import c) h o ≡ imported h c.handle r))
       h.holdings (λ r e. absurd (fine-not-broken r e)) h.tokens c
@@ -178,7 +178,7 @@ module _ (es : List Entry) (h : Progress) (s : SoundProgress es h) where
     left = without k h.holdings
 
     abbrev new : ℕ
-    new = lowest-left r.lowest left
+    new = lowest_left r.lowest left
 
     shorter : length rs ≡ suc (length (names_left r left))
     shorter = by_test (shareable r.kind)

@@ -7,7 +7,7 @@ use Rattle.rules.specs.Lists.{lookup, pushed}
 use Rattle.rules.specs.Lists.Found.{none, found}
 use Rattle.rules.specs.Judging.{refusal}
 use Rattle.rules.specs.Names.{token_of, shareable, without_token}
-use Rattle.rules.specs.Packets.{live, bound, on-export-packet, on-import-packet, on-release-packet, apply, Progress, Passed, target-after, tokens-after, pass}
+use Rattle.rules.specs.Packets.{live, bound, on_export_packet, on_import_packet, on_release_packet, apply, Progress, Passed, target_after, tokens_after, pass}
 use Rattle.rules.specs.declared.Entry.{Entry}
 use Rattle.rules.specs.declared.Resource.{Resource}
 use Rattle.rules.specs.declared.Token.{Token}
@@ -54,7 +54,7 @@ module _ (es : List Entry) (h : Progress) where
         → pass es h (Export c) ≡ record { verdict = Fine; held = record { holdings = h.holdings; target = h.target; tokens = pushed h.tokens (record { name = r.lowest; token = c.token }) } }
 
   pub when-an-export-is-accepted : (c : ExportSurface) → ExportPacket c
-  unfolding pass apply on-export-packet target-after tokens-after
+  unfolding pass apply on_export_packet target_after tokens_after
   when-an-export-is-accepted c =
       record {
         not_live = λ e. rw e;
@@ -78,7 +78,7 @@ module _ (es : List Entry) (h : Progress) where
         → length h.holdings.resources < most → pass es h (Import c) ≡ imported h c.handle r
 
   pub when-an-import-is-accepted : (c : ImportSurface) → ImportPacket c
-  unfolding pass apply on-import-packet target-after tokens-after
+  unfolding pass apply on_import_packet target_after tokens_after
   when-an-import-is-accepted c =
       record {
         handle-0 = λ z. rw (eq-eqb c.handle 0 z);
@@ -97,11 +97,11 @@ module _ (es : List Entry) (h : Progress) where
         → lookup token_of token (pass es h (Release c)).held.tokens ≡ lookup token_of token h.tokens
 
   release-is : (c : ReleaseToken) (r : Resource) → bound c.token h.tokens h.holdings.resources ≡ found r → pass es h (Release c) ≡ released_from h c.token
-  unfolding pass apply on-release-packet target-after tokens-after
+  unfolding pass apply on_release_packet target_after tokens_after
   release-is c r e = rw e
 
   release-not : (c : ReleaseToken) → bound c.token h.tokens h.holdings.resources ≡ none → pass es h (Release c) ≡ refused_with unbound_token
-  unfolding pass apply on-release-packet target-after tokens-after
+  unfolding pass apply on_release_packet target_after tokens_after
   release-not c e = rw e
 
   pub when-a-release-is-accepted : (c : ReleaseToken) → ReleasePacket c

@@ -6,7 +6,7 @@ use Rattle.machine.specs.Machine.{pick}
 use Rattle.rules.specs.Numbers.{no_name}
 use Rattle.rules.specs.Lists.{Found, lookup, pushed}
 use Rattle.rules.specs.Lists.Found.{none, found}
-use Rattle.rules.specs.Names.{token_of, renamed, under, lower, lowest-left, names_left, tokens_left, names_with, tokens_with, is_new, with_token, without_token}
+use Rattle.rules.specs.Names.{token_of, renamed, under, lower, lowest_left, names_left, tokens_left, names_with, tokens_with, is_new, with_token, without_token}
 use Rattle.rules.specs.Packets.{handle_of, live, without, bound, Progress, Passed, pass}
 use Rattle.rules.specs.declared.Entry.{Entry}
 use Rattle.rules.specs.declared.Resource.{Resource}
@@ -215,7 +215,7 @@ module _ (es : List Entry) (h : Progress) (s : SoundProgress es h) where
 
   stay-destroyed : (k : ℕ) (r : Resource) → live k h.holdings ≡ found r → TokensStay h (destroyed h k r).held
   stay-destroyed k r e =
-      follow-stays k r.lowest (lowest-left r.lowest (without k h.holdings)) held (without k h.holdings) (names_left r (without k h.holdings)) h.tokens (tokens_left r (without k h.holdings) h.tokens)
+      follow-stays k r.lowest (lowest_left r.lowest (without k h.holdings)) held (without k h.holdings) (names_left r (without k h.holdings)) h.tokens (tokens_left r (without k h.holdings) h.tokens)
       (other-name-after-destroy held s.holdings.resources.once s.holdings.resources.some known-names k r e)
       (others-left held s.holdings.resources.once s.holdings.resources.some known-names k r e)
       (name-after-destroy held s.holdings.resources.once s.holdings.resources.some known-names k r e)
@@ -225,13 +225,13 @@ module _ (es : List Entry) (h : Progress) (s : SoundProgress es h) where
       member h (destroyed h k r).held refl refl refl refl
       (inr (name-destroyed held s.holdings.resources.once s.holdings.resources.some known-names k r e))
     where
-      member : (token : ℕ) (t : Token) → lookup token_of token h.tokens ≡ found t → (renamed r.lowest (lowest-left r.lowest (without k h.holdings)) t.name ≡ no_name → ⊥)
+      member : (token : ℕ) (t : Token) → lookup token_of token h.tokens ≡ found t → (renamed r.lowest (lowest_left r.lowest (without k h.holdings)) t.name ≡ no_name → ⊥)
           → (n : ℕ) × (x : Resource) × (lookup handle_of n (without k h.holdings) ≡ found x) × (x.lowest ≡ t.name)
       member token t f some =
           ⊎_elim
           (λ u.
           let x = new-found held s.holdings.resources.once s.holdings.resources.some known-names k r e (λ z. some (renamed-own r.lowest _ t.name u ∙ z)) in
-          (lowest-left r.lowest (without k h.holdings), x.0, x.1, x.2 ∙ sym u))
+          (lowest_left r.lowest (without k h.holdings), x.0, x.1, x.2 ∙ sym u))
           (λ u.
           let b : Bindable t.name held = s.tokens.bound-to token t f (λ z. some (renamed-other r.lowest _ t.name u ∙ z)) in
           let apart : t.name ≡ k → ⊥ = λ v. lowest-apart held known-names k t.name r b.what e b.here (λ w. u (sym b.lowest ∙ w)) (b.lowest ∙ v) in

@@ -7,14 +7,14 @@ use Rattle.rules.specs.Lists.{Found, lookup}
 use Rattle.rules.specs.Lists.Found.{none, found}
 use Rattle.rules.specs.Names.{token_of}
 use Rattle.rules.specs.State.{State, World, made, nothing_owned}
-use Rattle.rules.specs.Loaded.{bad-place, loaded}
+use Rattle.rules.specs.Loaded.{bad_place, loaded}
 use Rattle.rules.specs.declared.Token.{Token}
 use Rattle.promises_of_packets.specs.Held.{Every}
 use Rattle.promises_of_packets.specs.Names.{none-not-found}
 use Rattle.promises_of_units.specs.Called.{Call, after, Called, is_reset}
 use Rattle.promises_of_units.specs.Called.Call.{writes, reads, runs, records, answers}
 use Rattle.promises_of_units.specs.Called.Called.{makes, loads as was_loaded, calls as was_Called}
-use Rattle.promises_of_units.specs.Asked.{Asked, left, left-all, resets_or_loads, NoResetOrLoad, bad-file-leaves}
+use Rattle.promises_of_units.specs.Asked.{Asked, left, left_all, resets_or_loads, NoResetOrLoad, bad-file-leaves}
 use Rattle.promises_of_units.specs.Asked.Asked.{calls, saves, loads, moves}
 use Rattle.promises_of_sharing.specs.Shared.{Spent, IsBound}
 use Rattle.promises_of_sharing.specs.SharedTokens.{TokensGoOn, not-both}
@@ -22,7 +22,7 @@ use Rattle.promises_of_sharing.specs.TokensOverCalls.{tokens-go-on-between-reset
 use Rattle.promises_of_sharing.specs.PacketsTaken.CalledOn.{not_yet, calls-on}
 use Rattle.promises_of_sharing.specs.NamesKept.{KeepsNamesBut}
 use Rattle.promises_of_sharing.specs.NamesOverCalls.{names_since, a-bound-token-keeps-its-names-between-resets}
-use Rattle.promises_of_sharing.specs.PacketsTaken.{CalledOn, packets-since}
+use Rattle.promises_of_sharing.specs.PacketsTaken.{CalledOn, packets_since}
 use Rattle.promises_of_sharing.specs.TokenLives.{Some, Exports, Spends, TokensLive, tokens-live-between-resets}
 use Rattle.promises_of_sharing.specs.TokenMeans.{TokensMean, tokens-mean-between-resets}
 
@@ -39,26 +39,26 @@ one_on (saves f buffer) s n = not_yet
 one_on (loads b) s n = subst (CalledOn s) (sym (bad-file-leaves b s n)) not_yet
 one_on (moves b buffer) s n = not_yet
 
-unfoldable pub asked-on : (qs : List Asked) (s : State) → NoResetOrLoad qs → CalledOn s (left-all qs s)
-unfolding left-all Every
-asked-on [] s n = not_yet
-asked-on (a ∷ qs) s n = then_on (one_on a s n.0) (asked-on qs (left a s) n.1)
+unfoldable pub asked_on : (qs : List Asked) (s : State) → NoResetOrLoad qs → CalledOn s (left_all qs s)
+unfolding left_all Every
+asked_on [] s n = not_yet
+asked_on (a ∷ qs) s n = then_on (one_on a s n.0) (asked_on qs (left a s) n.1)
 
 -- so the theorems between resets are of such
 pub record BetweenResetsAndLoads (s t : State) (k : Called s) (q : CalledOn s t) : Type 0 where
   pub used-and-spent : TokensGoOn s.belongings.tokens t.belongings.tokens
   pub names : KeepsNamesBut (names_since s t k q) s.belongings t.belongings
-  pub tokens : TokensLive (packets-since s t k q).by_good s.belongings.tokens t.belongings.tokens
-  pub resources : TokensMean (packets-since s t k q).by_good s.belongings t.belongings
+  pub tokens : TokensLive (packets_since s t k q).by_good s.belongings.tokens t.belongings.tokens
+  pub resources : TokensMean (packets_since s t k q).by_good s.belongings t.belongings
 
-pub whatever-is-asked : (s : State) (k : Called s) (qs : List Asked) (n : NoResetOrLoad qs) → BetweenResetsAndLoads s (left-all qs s) k (asked-on qs s n)
+pub whatever-is-asked : (s : State) (k : Called s) (qs : List Asked) (n : NoResetOrLoad qs) → BetweenResetsAndLoads s (left_all qs s) k (asked_on qs s n)
 whatever-is-asked s k qs n =
-    let q : CalledOn s (left-all qs s) = asked-on qs s n in
+    let q : CalledOn s (left_all qs s) = asked_on qs s n in
     record {
-      used-and-spent = tokens-go-on-between-resets s (left-all qs s) k q;
-      names = a-bound-token-keeps-its-names-between-resets s (left-all qs s) k q;
-      tokens = tokens-live-between-resets s (left-all qs s) k q;
-      resources = tokens-mean-between-resets s (left-all qs s) k q;
+      used-and-spent = tokens-go-on-between-resets s (left_all qs s) k q;
+      names = a-bound-token-keeps-its-names-between-resets s (left_all qs s) k q;
+      tokens = tokens-live-between-resets s (left_all qs s) k q;
+      resources = tokens-mean-between-resets s (left_all qs s) k q;
     }
 
 -- ---- from the last make, reset or load on
@@ -66,7 +66,7 @@ whatever-is-asked s k qs n =
 -- a device that was just made, reset or loaded
 pub data JustBegun : State → Type 0 where
   just_made : (memory : ℕ) → JustBegun (made memory)
-  just_loaded : (b : List ℕ) → bad-place b ≡ none → JustBegun (loaded b)
+  just_loaded : (b : List ℕ) → bad_place b ≡ none → JustBegun (loaded b)
   just_reset : (c : Call) → is_reset c ≡ true → (w : World) → JustBegun (after c w).state
 
 -- the tokens that it has: those of the file, or none
@@ -106,17 +106,17 @@ since-begun s (was_Called {s = t} c m k) = by-reset (is_reset c) refl (since-beg
 
 -- a token of such a device is bound exactly if it was bound at first or exported since, and not spent since
 pub record BoundSince (token : ℕ) (s : State) (x : Since s) : Type 0 where
-  pub bound-if : IsBound token (tokens_at_first x.begun) ⊎ Some (Exports token) (packets-since x.first s x.called x.on).by_good
-      → (Some (Spends token) (packets-since x.first s x.called x.on).by_good → ⊥) → IsBound token s.belongings.tokens
+  pub bound-if : IsBound token (tokens_at_first x.begun) ⊎ Some (Exports token) (packets_since x.first s x.called x.on).by_good
+      → (Some (Spends token) (packets_since x.first s x.called x.on).by_good → ⊥) → IsBound token s.belongings.tokens
   pub only_if : IsBound token s.belongings.tokens
-      → (IsBound token (tokens_at_first x.begun) ⊎ Some (Exports token) (packets-since x.first s x.called x.on).by_good)
-      × (Some (Spends token) (packets-since x.first s x.called x.on).by_good → ⊥)
+      → (IsBound token (tokens_at_first x.begun) ⊎ Some (Exports token) (packets_since x.first s x.called x.on).by_good)
+      × (Some (Spends token) (packets_since x.first s x.called x.on).by_good → ⊥)
 
 pub bound-since-make-reset-or-load : (s : State) (k : Called s) (token : ℕ) → BoundSince token s (since-begun s k)
 bound-since-make-reset-or-load s k token =
     let x : Since s = since-begun s k in
-    let l : TokensLive (packets-since x.first s x.called x.on).by_good (tokens_at_first x.begun) s.belongings.tokens =
-    subst (λ ts. TokensLive (packets-since x.first s x.called x.on).by_good ts s.belongings.tokens) (has-at-first x.first x.begun)
+    let l : TokensLive (packets_since x.first s x.called x.on).by_good (tokens_at_first x.begun) s.belongings.tokens =
+    subst (λ ts. TokensLive (packets_since x.first s x.called x.on).by_good ts s.belongings.tokens) (has-at-first x.first x.begun)
     (tokens-live-between-resets x.first s x.called x.on) in
     record {
       bound-if = λ h none-does. ⊎_elim (λ b. b) (λ y. absurd (none-does y)) (l.lives token h);

@@ -10,10 +10,10 @@ use Rattle.rules.specs.Numbers.{bad_handle, bad_state, too_many, most}
 use Rattle.rules.specs.Lists.Found.{none, found}
 use Rattle.rules.specs.Judging.{refusal}
 use Rattle.rules.specs.Layouts.{stream_header_size, packet_header_size}
-use Rattle.rules.specs.Table.{take-entry}
-use Rattle.rules.specs.Stream.{frame-of, size_of, left}
-use Rattle.rules.specs.StatePackets.{bad-sides}
-use Rattle.rules.specs.Packets.{Outcome, at_first, live-texture, on-target-packet, on-scissor-packet, apply, Progress, if-fine, target-after, pass, pass_frame, take-packet, Belongings, tokens-after}
+use Rattle.rules.specs.Table.{take_entry}
+use Rattle.rules.specs.Stream.{frame_of, size_of, left}
+use Rattle.rules.specs.StatePackets.{bad_sides}
+use Rattle.rules.specs.Packets.{Outcome, at_first, live_texture, on_target_packet, on_scissor_packet, apply, Progress, if-fine, target_after, pass, pass_frame, take_packet, Belongings, tokens_after}
 use Rattle.rules.specs.State.{Work, State, World}
 use Rattle.rules.specs.State.Work.{resting, entries, packets, waiting}
 use Rattle.rules.specs.Steps.{packets_at, entries_at}
@@ -44,13 +44,13 @@ use Rattle.promises_of_units.specs.Ranges.{called-sound}
 
 -- "The target is a live texture": one that is accepted names one, and is the target from then on; "else 18", and nothing changes
 module _ (es : List Entry) (h : Progress) (c : SetTarget) where
-  pub target-is-set : (s : Shape) → live-texture c.handle h.holdings ≡ found s
+  pub target-is-set : (s : Shape) → live_texture c.handle h.holdings ≡ found s
       → pass es h (Target c) ≡ record { verdict = Fine; held = record { holdings = h.holdings; target = c.handle; tokens = h.tokens } }
-  unfolding pass apply on-target-packet target-after tokens-after
+  unfolding pass apply on_target_packet target_after tokens_after
   target-is-set s e = rw e
 
-  pub target-is-refused : live-texture c.handle h.holdings ≡ none → pass es h (Target c) ≡ record { verdict = Broken (refusal bad_handle); held = h }
-  unfolding pass apply on-target-packet target-after tokens-after
+  pub target-is-refused : live_texture c.handle h.holdings ≡ none → pass es h (Target c) ≡ record { verdict = Broken (refusal bad_handle); held = h }
+  unfolding pass apply on_target_packet target_after tokens_after
   target-is-refused e = rw e
 
   pub accepted-target-is-live : (pass es h (Target c)).verdict ≡ Fine → LiveTexture c.handle h.holdings
@@ -65,7 +65,7 @@ module _ (es : List Entry) (h : Progress) where
   -- a packet that is neither a target nor a destroy leaves it, accepted or refused: so making a handle leaves it too
   pub other-packets-keep-the-target : (p : Packet) → ((c : SetTarget) → p ≡ Target c → ⊥) → ((c : DestroyResource) → p ≡ Destroy c → ⊥)
       → (pass es h p).held.target ≡ h.target
-  unfolding pass target-after tokens-after
+  unfolding pass target_after tokens_after
   other-packets-keep-the-target (Buffer c) t d = refl
   other-packets-keep-the-target (Texture c) t d = refl
   other-packets-keep-the-target (Destroy c) t d = absurd (d c refl)
@@ -84,11 +84,11 @@ module _ (es : List Entry) (h : Progress) where
   module _ (c : DestroyResource) where
     -- "until .. that handle is destroyed"
     pub destroyed-ends-the-target : (pass es h (Destroy c)).verdict ≡ Fine → c.handle ≡ h.target → (pass es h (Destroy c)).held.target ≡ 0
-    unfolding pass target-after tokens-after
+    unfolding pass target_after tokens_after
     destroyed-ends-the-target e same = rw (e, eq-eqb c.handle h.target same)
 
     pub another-destroyed-keeps-the-target : (c.handle ≡ h.target → ⊥) → (pass es h (Destroy c)).held.target ≡ h.target
-    unfolding pass target-after tokens-after
+    unfolding pass target_after tokens_after
     another-destroyed-keeps-the-target other = by-verdict (apply es h.target h.tokens h.holdings (Destroy c)).verdict
       where
         by-verdict : (v : Verdict) → if-fine v (pick (eqb c.handle h.target) 0 h.target) h.target ≡ h.target
@@ -97,7 +97,7 @@ module _ (es : List Entry) (h : Progress) where
 
   -- where there is none, there is none after it, unless it is a target packet
   none-stays-none : (p : Packet) → ((c : SetTarget) → p ≡ Target c → ⊥) → h.target ≡ 0 → (pass es h p).held.target ≡ 0
-  unfolding pass target-after tokens-after
+  unfolding pass target_after tokens_after
   none-stays-none (Buffer c) t z = z
   none-stays-none (Texture c) t z = z
   none-stays-none (Destroy c) t z = by-verdict (apply es h.target h.tokens h.holdings (Destroy c)).verdict (eqb c.handle h.target)
@@ -135,22 +135,22 @@ ended-target-stays-ended es h (p ∷ ps) k z = ended-target-stays-ended es (pass
 module _ (es : List Entry) (h : Progress) (c : SetScissor) where
   -- "scissor without a target": 30
   pub scissor-without-a-target : h.target ≡ 0 → pass es h (Scissor c) ≡ record { verdict = Broken (refusal bad_state); held = h }
-  unfolding pass apply on-scissor-packet live-texture target-after tokens-after
+  unfolding pass apply on_scissor_packet live_texture target_after tokens_after
   scissor-without-a-target z = rw z
 
-  module _ (s : Shape) (e : live-texture h.target h.holdings ≡ found s) where
+  module _ (s : Shape) (e : live_texture h.target h.holdings ≡ found s) where
     -- "scissor sides negative": 30
-    pub scissor-with-negative-sides : bad-sides c ≡ true → pass es h (Scissor c) ≡ record { verdict = Broken (refusal bad_state); held = h }
-    unfolding pass apply on-scissor-packet target-after tokens-after
+    pub scissor-with-negative-sides : bad_sides c ≡ true → pass es h (Scissor c) ≡ record { verdict = Broken (refusal bad_state); held = h }
+    unfolding pass apply on_scissor_packet target_after tokens_after
     scissor-with-negative-sides b = rw (e, b)
 
     -- its record "counts toward the 64": 19. "Order: 18, 30, 19"
-    pub scissor-past-the-last-record : bad-sides c ≡ false → most ≤ length h.holdings.records → pass es h (Scissor c) ≡ record { verdict = Broken (refusal too_many); held = h }
-    unfolding pass apply on-scissor-packet target-after tokens-after
+    pub scissor-past-the-last-record : bad_sides c ≡ false → most ≤ length h.holdings.records → pass es h (Scissor c) ≡ record { verdict = Broken (refusal too_many); held = h }
+    unfolding pass apply on_scissor_packet target_after tokens_after
     scissor-past-the-last-record b f = rw (e, b, le-leb most (length h.holdings.records) f)
 
-    pub scissor-is-accepted : bad-sides c ≡ false → length h.holdings.records < most → (pass es h (Scissor c)).verdict ≡ Fine
-    unfolding pass apply on-scissor-packet target-after tokens-after
+    pub scissor-is-accepted : bad_sides c ≡ false → length h.holdings.records < most → (pass es h (Scissor c)).verdict ≡ Fine
+    unfolding pass apply on_scissor_packet target_after tokens_after
     scissor-is-accepted b f = rw (e, b, lt-leb most (length h.holdings.records) f)
 
 -- ---- of any device that was made and called
@@ -181,19 +181,19 @@ entries-begin o kept owned = by_test (ltb (length kept) o.table.count)
     by_test false = packets-begin o.job o.stream stream_header_size kept (at_first owned) (omega arith) (λ _. refl)
 
 -- a packet that is accepted has a header, so the next one stands behind it
-goes_on : (es : List Entry) (h : Progress) (b : List ℕ) → (take-packet es h b).verdict ≡ Fine → packet_header_size ≤ size_of (frame-of b)
-unfolding take-packet
-goes_on es h b = by_frame (frame-of b) refl
+goes_on : (es : List Entry) (h : Progress) (b : List ℕ) → (take_packet es h b).verdict ≡ Fine → packet_header_size ≤ size_of (frame_of b)
+unfolding take_packet
+goes_on es h b = by_frame (frame_of b) refl
   where
-    by_frame : (f : Frame) → frame-of b ≡ f → (pass_frame es h b f).verdict ≡ Fine → packet_header_size ≤ size_of f
+    by_frame : (f : Frame) → frame_of b ≡ f → (pass_frame es h b f).verdict ≡ Fine → packet_header_size ≤ size_of f
     by_frame (Whole op size) e v = (frame-sound b op size e).header
     by_frame (Misframed r) e v = absurd (let z : ◌≡◌ {A = ℕ} 0 1 = cc in omega arith)
 
 next-begins : (w : World) (k next : Work) → Next w k next → BeginsWithNone k → BeginsWithNone next
 next-begins w resting next h b = subst BeginsWithNone (sym h.first) (entries-begin h.what [] w.state.belongings)
-next-begins w (entries o kept) next h b = subst BeginsWithNone (sym h.1) (entries-begin o (take-entry w.mem o.table kept).kept w.state.belongings)
+next-begins w (entries o kept) next h b = subst BeginsWithNone (sym h.1) (entries-begin o (take_entry w.mem o.table kept).kept w.state.belongings)
 next-begins w (packets j t at es held) next h b =
-    let more : packet_header_size ≤ size_of (frame-of (left w.mem t at)) = goes_on es held (left w.mem t at) h.0 in
+    let more : packet_header_size ≤ size_of (frame_of (left w.mem t at)) = goes_on es held (left w.mem t at) h.0 in
     subst BeginsWithNone (sym h.1) (packets-begin j t _ es _ (omega (arith, b.0)) (λ z. absurd (omega (arith, b.0))))
 next-begins w (waiting j es held) next h b = subst BeginsWithNone (sym h) b
 

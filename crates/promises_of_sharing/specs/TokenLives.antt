@@ -11,9 +11,9 @@ use Rattle.machine.specs.Machine.{pick}
 use Rattle.rules.specs.Numbers.{most, no_name}
 use Rattle.rules.specs.Lists.{Found, lookup, pushed}
 use Rattle.rules.specs.Lists.Found.{none, found}
-use Rattle.rules.specs.Names.{token_of, renamed, lower, lowest-left, tokens_left, tokens_with, of_another, is_new, with_token, without_token}
-use Rattle.rules.specs.Packets.{Outcome, Holdings, handle_of, live, without, bound_in, bound, apply, Progress, Passed, Belongings, left_by, passed, target-after, tokens-after, pass, pass_frame, take-packet}
-use Rattle.rules.specs.Stream.{left, frame-of, packet-of}
+use Rattle.rules.specs.Names.{token_of, renamed, lower, lowest_left, tokens_left, tokens_with, of_another, is_new, with_token, without_token}
+use Rattle.rules.specs.Packets.{Outcome, Holdings, handle_of, live, without, bound_in, bound, apply, Progress, Passed, Belongings, left_by, passed, target_after, tokens_after, pass, pass_frame, take_packet}
+use Rattle.rules.specs.Stream.{left, frame_of, packet_of}
 use Rattle.rules.specs.State.{State, Work, World, working}
 use Rattle.rules.specs.State.Work.{packets}
 use Rattle.rules.specs.Steps.{packets_at, next_place, step}
@@ -45,7 +45,7 @@ use Rattle.promises_of_sharing.specs.SharedTokens.{TokensGoOn, go-on-same, go-on
 use Rattle.promises_of_sharing.specs.BoundTokens.{ReleaseOf, DestroyOfItsLastName, a-bound-token-is-spent-only-by-its-release-or-with-its-last-name}
 use Rattle.promises_of_sharing.specs.SharedPackets.{when-an-import-is-accepted, when-a-release-is-accepted}
 use Rattle.promises_of_sharing.specs.TokensOverCalls.{what-is-held-is-sound}
-use Rattle.promises_of_sharing.specs.PacketsTaken.{CalledOn, Taken, Packets, packets-since, Carries, InWork, carried-between-resets, carried-in-work}
+use Rattle.promises_of_sharing.specs.PacketsTaken.{CalledOn, Taken, Packets, packets_since, Carries, InWork, carried-between-resets, carried-in-work}
 
 -- ---- one of a list
 
@@ -141,14 +141,14 @@ module _ (es : List Entry) (h : Progress) (s : SoundProgress es h) where
       by_found (found t) e o = (t, e, λ z. some (sym (eqb-true t.name r.lowest (not-false (eqb t.name r.lowest) o)) ∙ z))
 
   pub an-export-binds : (c : ExportSurface) → (pass es h (Export c)).verdict ≡ Fine → IsBound c.token (pass es h (Export c)).held.tokens
-  unfolding pass apply target-after tokens-after
+  unfolding pass apply target_after tokens_after
   an-export-binds c =
       export-or (λ (o : Outcome). o.verdict ≡ Fine → IsBound c.token (passed (Export c) h o).held.tokens) h (λ r e. absurd (fine-not-broken r e)) c
       (λ r x _. rw x.named (bound-with c r x))
 
   -- an accepted release finds its token bound
   released-was-bound : (c : ReleaseToken) → (pass es h (Release c)).verdict ≡ Fine → (r : Resource) × (bound c.token h.tokens h.holdings.resources ≡ found r)
-  unfolding pass apply target-after tokens-after
+  unfolding pass apply target_after tokens_after
   released-was-bound c =
       release-or (λ (o : Outcome). o.verdict ≡ Fine → (r : Resource) × (bound c.token h.tokens h.holdings.resources ≡ found r)) h.holdings
       (λ r e. absurd (fine-not-broken r e)) h.tokens c (λ r e _. (r, e))
@@ -175,7 +175,7 @@ module _ (es : List Entry) (h : Progress) (s : SoundProgress es h) where
 
     came-destroyed : (k : ℕ) (r : Resource) → live k h.holdings ≡ found r → IsBound token (tokens_left r (without k h.holdings) h.tokens) → IsBound token h.tokens
     came-destroyed k r e =
-        bound-followed token r.lowest (lowest-left r.lowest (without k h.holdings)) h.tokens (tokens_left r (without k h.holdings) h.tokens)
+        bound-followed token r.lowest (lowest_left r.lowest (without k h.holdings)) h.tokens (tokens_left r (without k h.holdings) h.tokens)
         (low-some held_now s.holdings.resources.once s.holdings.resources.some s.holdings.resources.names k r e)
         (token-after-destroy held_now s.holdings.resources.once s.holdings.resources.some s.holdings.resources.names k r e h.tokens s.tokens token)
 
@@ -206,7 +206,7 @@ module _ (es : List Entry) (h : Progress) (s : SoundProgress es h) where
         (same_or_not token other)
 
     came_from : (p : Packet) → Came p (pass es h p).held.tokens
-    unfolding pass apply target-after tokens-after
+    unfolding pass apply target_after tokens_after
     came_from (Buffer c) b = inl b
     came_from (Texture c) b = inl b
     came_from (Destroy c) b =
@@ -263,26 +263,26 @@ live-over =
     }
 
 -- of any device made and called, over any calls but resets, each lent any memory: the packets that count are those of the submissions answered good since
-pub tokens-live-between-resets : (s t : State) (k : Called s) (q : CalledOn s t) → TokensLive (packets-since s t k q).by_good s.belongings.tokens t.belongings.tokens
+pub tokens-live-between-resets : (s t : State) (k : Called s) (q : CalledOn s t) → TokensLive (packets_since s t k q).by_good s.belongings.tokens t.belongings.tokens
 tokens-live-between-resets s t k q = carried-between-resets LiveOver live-over s t k q
 
 -- so a token of the device's own that is bound stays bound exactly if no submission answered good spends it
 pub a-token-stays-bound-exactly : (s t : State) (k : Called s) (q : CalledOn s t) (token : ℕ) → IsBound token s.belongings.tokens
-    → ((Some (Spends token) (packets-since s t k q).by_good → ⊥) → IsBound token t.belongings.tokens)
-    × (IsBound token t.belongings.tokens → Some (Spends token) (packets-since s t k q).by_good → ⊥)
+    → ((Some (Spends token) (packets_since s t k q).by_good → ⊥) → IsBound token t.belongings.tokens)
+    × (IsBound token t.belongings.tokens → Some (Spends token) (packets_since s t k q).by_good → ⊥)
 a-token-stays-bound-exactly s t k q token b =
-    let l : TokensLive (packets-since s t k q).by_good s.belongings.tokens t.belongings.tokens = tokens-live-between-resets s t k q in (
+    let l : TokensLive (packets_since s t k q).by_good s.belongings.tokens t.belongings.tokens = tokens-live-between-resets s t k q in (
       λ none-does. ⊎_elim (λ x. x) (λ x. absurd (none-does x)) (l.lives token (inl b)),
       λ x y. not-both token t.belongings.tokens (l.spent token y) x,
     )
 
 -- and while a later submission is in work: those, and its own so far
 pub tokens-live-in-work : (s t : State) (k : Called s) (q : CalledOn s t) (j : Job) (r : Stream) (at : ℕ) (es : List Entry) (h : Progress) → t.work ≡ packets j r at es h
-    → TokensLive ((packets-since s t k q).in_work ++ (packets-since s t k q).by_good) s.belongings.tokens h.tokens
+    → TokensLive ((packets_since s t k q).in_work ++ (packets_since s t k q).by_good) s.belongings.tokens h.tokens
 tokens-live-in-work s t k q j r at es h e =
-    lives-both (packets-since s t k q).by_good (packets-since s t k q).in_work s.belongings.tokens t.belongings.tokens h.tokens
+    lives-both (packets_since s t k q).by_good (packets_since s t k q).in_work s.belongings.tokens t.belongings.tokens h.tokens
     (tokens-live-between-resets s t k q)
-    (subst (InWork LiveOver live-over (packets-since s t k q).in_work t.belongings) e (carried-in-work LiveOver live-over s t k q))
+    (subst (InWork LiveOver live-over (packets_since s t k q).in_work t.belongings) e (carried-in-work LiveOver live-over s t k q))
 
 -- ---- "a token bound to a live resource": what the promises say and what import's own test finds are one
 
@@ -326,13 +326,13 @@ an-import-of-a-bound-token es h s c b some free room =
 -- packet, where the handle is free and there is room, unless that submission or one answered good has spent the token since
 pub a-later-import-is-accepted : (s t : State) (k : Called s) → Called t → (q : CalledOn s t) (j : Job) (r : Stream) (at : ℕ) (es : List Entry) (h : Progress)
     → t.work ≡ packets j r at es h → (c : ImportSurface)
-    → IsBound c.token s.belongings.tokens ⊎ Some (Exports c.token) (packets-since s t k q).by_good
+    → IsBound c.token s.belongings.tokens ⊎ Some (Exports c.token) (packets_since s t k q).by_good
     → (c.handle ≡ 0 → ⊥) → live c.handle h.holdings ≡ none → length h.holdings.resources < most
-    → ImportAccepted es h c ⊎ Some (Spends c.token) ((packets-since s t k q).in_work ++ (packets-since s t k q).by_good)
+    → ImportAccepted es h c ⊎ Some (Spends c.token) ((packets_since s t k q).in_work ++ (packets_since s t k q).by_good)
 a-later-import-is-accepted s t k l q j r at es h e c b some free room =
     ⊎_elim (λ x. inl (an-import-of-a-bound-token es h (what-is-held-is-sound t l j r at es h e) c x some free room)) (λ x. inr x)
     ((tokens-live-in-work s t k q j r at es h e).lives c.token
-    (⊎_elim (λ x. inl x) (λ x. inr (some_back (Exports c.token) (packets-since s t k q).in_work (packets-since s t k q).by_good x)) b))
+    (⊎_elim (λ x. inl x) (λ x. inr (some_back (Exports c.token) (packets_since s t k q).in_work (packets_since s t k q).by_good x)) b))
 
 -- that packet's unit works on, and the names go on with one more
 pub record WorksOn (w : World) (j : Job) (r : Stream) (at : ℕ) (es : List Entry) (h : Progress) (c : ImportSurface) : Type 0 where
@@ -340,16 +340,16 @@ pub record WorksOn (w : World) (j : Job) (r : Stream) (at : ℕ) (es : List Entr
   pub second_name : SecondName c.token c.handle h (pass es h (Import c)).held
 
 pub an-accepted-import-works-on : (w : World) (j : Job) (r : Stream) (at : ℕ) (es : List Entry) (h : Progress) → w.state.work ≡ packets j r at es h
-    → (op size : ℕ) → frame-of (left w.mem r at) ≡ Whole op size → (c : ImportSurface) → packet-of op (take size (left w.mem r at)) ≡ Import c
+    → (op size : ℕ) → frame_of (left w.mem r at) ≡ Whole op size → (c : ImportSurface) → packet_of op (take size (left w.mem r at)) ≡ Import c
     → ImportAccepted es h c → WorksOn w j r at es h c
-unfolding take-packet
+unfolding take_packet
 an-accepted-import-works-on w j r at es h e op size framed c is a =
-    let taken : take-packet es h (left w.mem r at) ≡ pass es h (Import c) = ap (pass_frame es h (left w.mem r at)) framed ∙ ap (pass es h) is in
-    let next : Next w (packets j r at es h) (packets_at j r (next_place at (left w.mem r at)) es (take-packet es h (left w.mem r at)).held) =
+    let taken : take_packet es h (left w.mem r at) ≡ pass es h (Import c) = ap (pass_frame es h (left w.mem r at)) framed ∙ ap (pass es h) is in
+    let next : Next w (packets j r at es h) (packets_at j r (next_place at (left w.mem r at)) es (take_packet es h (left w.mem r at)).held) =
     (ap (λ (o : Passed). o.verdict) taken ∙ a.accepted, refl) in
     record {
       next =
-          unit-is-step w _ (works-on _ (subst (λ (k : Work). Next w k (packets_at j r (next_place at (left w.mem r at)) es (take-packet es h (left w.mem r at)).held)) (sym e) next))
+          unit-is-step w _ (works-on _ (subst (λ (k : Work). Next w k (packets_at j r (next_place at (left w.mem r at)) es (take_packet es h (left w.mem r at)).held)) (sym e) next))
           ∙ ap (λ (o : Passed). working (packets_at j r (next_place at (left w.mem r at)) es o.held) w) taken;
       second_name = a.second_name;
     }

@@ -10,8 +10,8 @@ use Rattle.machine.specs.Machine.{pick}
 use Rattle.rules.specs.Numbers.{no_name}
 use Rattle.rules.specs.Lists.{Found, lookup, pushed}
 use Rattle.rules.specs.Lists.Found.{none, found}
-use Rattle.rules.specs.Names.{token_of, renamed, under, lower, lowest-left, names_left, tokens_left, names_with, tokens_with, of_another, is_new, with_token, without_token}
-use Rattle.rules.specs.Packets.{Outcome, handle_of, live, without, bound_in, bound, apply, Progress, Passed, Belongings, left_by, passed, target-after, tokens-after, pass}
+use Rattle.rules.specs.Names.{token_of, renamed, under, lower, lowest_left, names_left, tokens_left, names_with, tokens_with, of_another, is_new, with_token, without_token}
+use Rattle.rules.specs.Packets.{Outcome, handle_of, live, without, bound_in, bound, apply, Progress, Passed, Belongings, left_by, passed, target_after, tokens_after, pass}
 use Rattle.rules.specs.State.{State}
 use Rattle.rules.specs.State.Work.{packets}
 use Rattle.rules.specs.declared.Entry.{Entry}
@@ -33,7 +33,7 @@ use Rattle.promises_of_units.specs.Called.{Called}
 use Rattle.promises_of_sharing.specs.Shared.{Meaning, meaning_of, meaning_in, means, Spent, IsBound, SecondName, an-import-is-a-second-name}
 use Rattle.promises_of_sharing.specs.SharedTokens.{spent_or_bound, not-both}
 use Rattle.promises_of_sharing.specs.TokensOverCalls.{what-is-held-is-sound}
-use Rattle.promises_of_sharing.specs.PacketsTaken.{CalledOn, Taken, packets-since, Carries, InWork, carried-between-resets, carried-in-work}
+use Rattle.promises_of_sharing.specs.PacketsTaken.{CalledOn, Taken, packets_since, Carries, InWork, carried-between-resets, carried-in-work}
 use Rattle.promises_of_sharing.specs.TokenLives.{Some, Exports, TokensLive, live-over}
 
 -- ---- what a token means
@@ -141,7 +141,7 @@ module _ (es : List Entry) (h : Progress) (s : SoundProgress es h) (token : ℕ)
     left = without k h.holdings
 
     abbrev new : ℕ
-    new = lowest-left r.lowest left
+    new = lowest_left r.lowest left
 
     left-means : (renamed r.lowest new name ≡ no_name → ⊥) → means (renamed r.lowest new name) left ≡ means name rs
     left-means some =
@@ -245,7 +245,7 @@ module _ (es : List Entry) (h : Progress) (s : SoundProgress es h) (c : ExportSu
       by_found (found t) e o = as-its-lowest r x.named h.tokens t e (eqb-true t.name r.lowest (not-false (eqb t.name r.lowest) o))
 
   an-export-means-its-handle : (pass es h (Export c)).verdict ≡ Fine → AsTheHandle (left_by (pass es h (Export c)).held)
-  unfolding pass apply target-after tokens-after
+  unfolding pass apply target_after tokens_after
   an-export-means-its-handle =
       export-or (λ (o : Outcome). o.verdict ≡ Fine → AsTheHandle (left_by (passed (Export c) h o).held)) h
       (λ r e. absurd (let z : ◌≡◌ {A = ℕ} 0 1 = cc in omega arith)) c (λ r x _. rw x.named (λ b. with-its-token r x b ∙ ap meaning_in x.named))
@@ -271,15 +271,15 @@ mean-packet es h s p v =
 tokens-mean : Carries TokensMean
 tokens-mean = record { same = mean-same; both = mean-both; packet = mean-packet }
 
-pub tokens-mean-between-resets : (s t : State) (k : Called s) (q : CalledOn s t) → TokensMean (packets-since s t k q).by_good s.belongings t.belongings
+pub tokens-mean-between-resets : (s t : State) (k : Called s) (q : CalledOn s t) → TokensMean (packets_since s t k q).by_good s.belongings t.belongings
 tokens-mean-between-resets s t k q = carried-between-resets TokensMean tokens-mean s t k q
 
 -- and while a later submission is in work: those, and its own so far
 pub tokens-mean-in-work : (s t : State) (k : Called s) (q : CalledOn s t) (j : Job) (r : Stream) (at : ℕ) (es : List Entry) (h : Progress) → t.work ≡ packets j r at es h
-    → TokensMean ((packets-since s t k q).in_work ++ (packets-since s t k q).by_good) s.belongings (left_by h)
+    → TokensMean ((packets_since s t k q).in_work ++ (packets_since s t k q).by_good) s.belongings (left_by h)
 tokens-mean-in-work s t k q j r at es h e =
-    mean-both (packets-since s t k q).by_good (packets-since s t k q).in_work s.belongings t.belongings (left_by h) (tokens-mean-between-resets s t k q)
-    (subst (InWork TokensMean tokens-mean (packets-since s t k q).in_work t.belongings) e (carried-in-work TokensMean tokens-mean s t k q))
+    mean-both (packets_since s t k q).by_good (packets_since s t k q).in_work s.belongings t.belongings (left_by h) (tokens-mean-between-resets s t k q)
+    (subst (InWork TokensMean tokens-mean (packets_since s t k q).in_work t.belongings) e (carried-in-work TokensMean tokens-mean s t k q))
 
 -- ---- so the handle of an accepted import is a second name of the resource that was exported
 
@@ -291,9 +291,9 @@ pub record NamesTheExported (token handle : ℕ) (xs : List Taken) (before : Bel
 
 pub a-later-import-names-the-exported : (s t : State) (k : Called s) → Called t → (q : CalledOn s t) (j : Job) (r : Stream) (at : ℕ) (es : List Entry) (h : Progress)
     → t.work ≡ packets j r at es h → (c : ImportSurface) → (pass es h (Import c)).verdict ≡ Fine
-    → NamesTheExported c.token c.handle ((packets-since s t k q).in_work ++ (packets-since s t k q).by_good) s.belongings (pass es h (Import c)).held.holdings.resources
+    → NamesTheExported c.token c.handle ((packets_since s t k q).in_work ++ (packets_since s t k q).by_good) s.belongings (pass es h (Import c)).held.holdings.resources
 a-later-import-names-the-exported s t k l q j r at es h e c v =
-    let m : TokensMean ((packets-since s t k q).in_work ++ (packets-since s t k q).by_good) s.belongings (left_by h) = tokens-mean-in-work s t k q j r at es h e in
+    let m : TokensMean ((packets_since s t k q).in_work ++ (packets_since s t k q).by_good) s.belongings (left_by h) = tokens-mean-in-work s t k q j r at es h e in
     let n : SecondName c.token c.handle h (pass es h (Import c)).held = an-import-is-a-second-name es h (what-is-held-is-sound t l j r at es h e) c v in
     let is : means c.handle (pass es h (Import c)).held.holdings.resources ≡ token_means c.token (left_by h) = n.same ∙ sym (ap meaning_in n.bound-to) in
     let b = bound-is c.token h.tokens h.holdings.resources n.what n.bound-to in
@@ -301,5 +301,5 @@ a-later-import-names-the-exported s t k l q j r at es h e c v =
       bound-before = λ p. is ∙ m.bound-before c.token p (b.0, b.1, b.2);
       exported-since =
           every-meant c.token (token_means c.token (left_by h)) (means c.handle (pass es h (Import c)).held.holdings.resources) is
-          ((packets-since s t k q).in_work ++ (packets-since s t k q).by_good) (m.exported-since c.token (b.0, b.1, b.2));
+          ((packets_since s t k q).in_work ++ (packets_since s t k q).by_good) (m.exported-since c.token (b.0, b.1, b.2));
     }

@@ -11,7 +11,7 @@ use Rattle.rules.specs.State.Work.{resting, entries, packets, waiting}
 use Rattle.rules.specs.Registers.{reset}
 use Rattle.rules.specs.Settle.{settled}
 use Rattle.rules.specs.Steps.{answer_on, answered}
-use Rattle.rules.specs.Calls.{call-write}
+use Rattle.rules.specs.Calls.{call_write}
 use Rattle.rules.specs.declared.Entry.{Entry}
 use Rattle.rules.specs.declared.Job.{Job}
 use Rattle.rules.specs.declared.Resource.{Resource}
@@ -39,7 +39,7 @@ pub tokens-go-on-between-resets : (s t : State) → Called s → CalledOn s t �
 tokens-go-on-between-resets s t k q = carried-between-resets (λ (xs : List Taken) (before after : Belongings). TokensGoOn before.tokens after.tokens) tokens-go-on s t k q
 
 -- "forgotten at reset"
-pub a-reset-forgets-the-tokens : (s : State) (offset v : ℕ) → resets offset v ≡ true → (call-write s offset v).state.belongings ≡ nothing_owned
+pub a-reset-forgets-the-tokens : (s : State) (offset v : ℕ) → resets offset v ≡ true → (call_write s offset v).state.belongings ≡ nothing_owned
 unfolding reset
 a-reset-forgets-the-tokens s offset v y = ap (λ (x : State). x.belongings) (reset-drops s offset v y)
 

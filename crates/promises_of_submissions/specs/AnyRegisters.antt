@@ -8,13 +8,13 @@ use mathlib.Core.List.{List, [], ◌∷◌}
 use Rattle.machine.specs.Machine.{Out, run_none, run-go}
 use Rattle.rules.specs.Judging.{Finding, at_place}
 use Rattle.rules.specs.Judging.Finding.{fine, broken}
-use Rattle.rules.specs.Table.{entries_of, take-entry}
+use Rattle.rules.specs.Table.{entries_of, take_entry}
 use Rattle.rules.specs.Stream.{left}
-use Rattle.rules.specs.Packets.{Progress, at_first, take-packet}
+use Rattle.rules.specs.Packets.{Progress, at_first, take_packet}
 use Rattle.rules.specs.State.{Work, World, working, registering}
 use Rattle.rules.specs.State.Work.{resting, entries, packets, waiting}
 use Rattle.rules.specs.Settle.{settled}
-use Rattle.rules.specs.Steps.{entries_at, after_entry, entry-step, after_packet, next_place, packet_step, step_on, step, busy, go, run_for}
+use Rattle.rules.specs.Steps.{entries_at, after_entry, entry_step, after_packet, next_place, packet_step, step_on, step, busy, go, run_for}
 use Rattle.rules.specs.Unsliced.{submission, finished}
 use Rattle.rules.specs.declared.Entry.{Entry}
 use Rattle.rules.specs.declared.Job.{Job}
@@ -40,11 +40,11 @@ module _ (x : World) (q r : Registers) where
   packet-heedless j t next es held (broken f) h = absurd (let z : ◌≡◌ {A = ℕ} 0 1 = cc in omega arith)
 
   on-heedless : (k : Work) → midst k ≡ true → midst (step_on (registering q x) k).state.work ≡ true → step_on (registering r x) k ≡ registering r (step_on (registering q x) k)
-  unfolding entry-step packet_step
+  unfolding entry_step packet_step
   on-heedless resting m h = absurd (let z : ◌≡◌ {A = ℕ} 0 1 = cc in omega arith)
-  on-heedless (entries o kept) m h = entry-heedless o (take-entry x.mem o.table kept).kept (at_place (length kept) (take-entry x.mem o.table kept).verdict) h
+  on-heedless (entries o kept) m h = entry-heedless o (take_entry x.mem o.table kept).kept (at_place (length kept) (take_entry x.mem o.table kept).verdict) h
   on-heedless (packets j t at es held) m h =
-      packet-heedless j t (next_place at (left x.mem t at)) es (take-packet es held (left x.mem t at)).held (at_place at (take-packet es held (left x.mem t at)).verdict) h
+      packet-heedless j t (next_place at (left x.mem t at)) es (take_packet es held (left x.mem t at)).held (at_place at (take_packet es held (left x.mem t at)).verdict) h
   on-heedless (waiting j es held) m h = absurd (let z : ◌≡◌ {A = ℕ} 0 1 = cc in omega arith)
 
   heedless : midst x.state.work ≡ true → midst (step (registering q x)).state.work ≡ true → step (registering r x) ≡ registering r (step (registering q x))

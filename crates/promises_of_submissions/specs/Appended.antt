@@ -7,9 +7,9 @@ use Rattle.std.proofs.lemmas.List.{take-append-le}
 use Rattle.std.proofs.Math.Seq.{drop-append-add, drop-append_seam}
 use Rattle.rules.specs.Layouts.{word, packet_header_size, entry_size, stream_header_size}
 use Rattle.rules.specs.Table.{entry_place, entries_from, entries_of}
-use Rattle.rules.specs.Stream.{least_size, frame-of, cut, left, packets_of}
+use Rattle.rules.specs.Stream.{least_size, frame_of, cut, left, packets_of}
 use Rattle.rules.specs.Packets.{Progress}
-use Rattle.rules.specs.Unsliced.{judge-packets, submission}
+use Rattle.rules.specs.Unsliced.{judge_packets, submission}
 use Rattle.rules.specs.declared.Entry.{Entry}
 use Rattle.rules.specs.declared.Refusal.{Refusal}
 use Rattle.rules.specs.declared.Table.{Table}
@@ -28,12 +28,12 @@ use Rattle.promises_of_submissions.specs.LocalPackets.{same-frame, same-packet}
 -- an unknown one's but the header.
 pub data SameButAppended : List ℕ → List ℕ → Type 0 where
   ends : SameButAppended [] []
-  packet : {b b' : List ℕ} (op size : ℕ) → frame-of b ≡ Whole op size → frame-of b' ≡ Whole op size → Agree b b' 0 (least_size op)
+  packet : {b b' : List ℕ} (op size : ℕ) → frame_of b ≡ Whole op size → frame_of b' ≡ Whole op size → Agree b b' 0 (least_size op)
       → SameButAppended (drop size b) (drop size b') → SameButAppended b b'
-  misframed : {b b' : List ℕ} (r : Refusal) → length b ≡ length b' → frame-of b ≡ Misframed r → frame-of b' ≡ Misframed r → SameButAppended b b'
+  misframed : {b b' : List ℕ} (r : Refusal) → length b ≡ length b' → frame_of b ≡ Misframed r → frame_of b' ≡ Misframed r → SameButAppended b b'
 
 -- a whole packet is not empty
-whole-some : (b : List ℕ) (op size : ℕ) → frame-of b ≡ Whole op size → 0 < length b
+whole-some : (b : List ℕ) (op size : ℕ) → frame_of b ≡ Whole op size → 0 < length b
 whole-some b op size e =
     let fits : FrameFits b op size = frame-sound b op size e in
     omega (arith, fits.header, fits.inside)
@@ -52,9 +52,9 @@ same-pieces (suc k) at b b' (misframed r len e e') = rw (len, e, e')
 -- two memories, and at two places.
 pub appended-bytes-cannot-matter : (m m' : List ℕ) (s s' : Stream) → s.size ≡ s'.size
     → SameButAppended (left m s stream_header_size) (left m' s' stream_header_size)
-    → (es : List Entry) (h : Progress) → judge-packets es h (packets_of m s) ≡ judge-packets es h (packets_of m' s')
+    → (es : List Entry) (h : Progress) → judge_packets es h (packets_of m s) ≡ judge_packets es h (packets_of m' s')
 appended-bytes-cannot-matter m m' s s' size same es h =
-    ap (judge-packets es h) (same-pieces s.size stream_header_size _ _ same ∙ ap (λ (k : ℕ). cut k stream_header_size (left m' s' stream_header_size)) size)
+    ap (judge_packets es h) (same-pieces s.size stream_header_size _ _ same ∙ ap (λ (k : ℕ). cut k stream_header_size (left m' s' stream_header_size)) size)
 
 -- ---- a submission, of what was opened
 
@@ -83,10 +83,10 @@ module _ (m m' : List ℕ) (len : length m ≡ length m') (o : Opened) (same : S
 
 -- ---- of bytes: any that are appended to a packet may be exchanged for as many others
 
-same_here : (b : List ℕ) → ((op size : ℕ) → frame-of b ≡ Whole op size → SameButAppended (drop size b) (drop size b)) → SameButAppended b b
-same_here b later = by_frame (frame-of b) refl
+same_here : (b : List ℕ) → ((op size : ℕ) → frame_of b ≡ Whole op size → SameButAppended (drop size b) (drop size b)) → SameButAppended b b
+same_here b later = by_frame (frame_of b) refl
   where
-    by_frame : (f : Frame) → frame-of b ≡ f → SameButAppended b b
+    by_frame : (f : Frame) → frame_of b ≡ f → SameButAppended b b
     by_frame (Whole op size) e = packet op size e e refl (later op size e)
     by_frame (Misframed r) e = misframed r refl e e
 
@@ -120,7 +120,7 @@ module _ (x y y' z z' : List ℕ) (head : packet_header_size ≤ length x) (row 
   behind : (u v : List ℕ) → drop (length x + length u) (x ++ (u ++ v)) ≡ v
   behind u v = drop-append-add x (u ++ v) (length u) ∙ drop-append_seam u v
 
-  by_frame : (f : Frame) → frame-of one ≡ f → SameButAppended one other
+  by_frame : (f : Frame) → frame_of one ≡ f → SameButAppended one other
   by_frame (Whole op size) e =
       let fits : FrameFits one op size = frame-sound one op size e in
       let own : Agree one x 0 packet_header_size = take-append-le packet_header_size x (y ++ z) head in
@@ -134,4 +134,4 @@ module _ (x y y' z z' : List ℕ) (head : packet_header_size ≤ length x) (row 
 
   -- whatever y and y' are
   pub exchanged : SameButAppended one other
-  exchanged = by_frame (frame-of one) refl
+  exchanged = by_frame (frame_of one) refl

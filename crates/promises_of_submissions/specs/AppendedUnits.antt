@@ -11,16 +11,16 @@ use Rattle.rules.specs.Judging.{refusal, Finding, fault_at, at_place, without_pl
 use Rattle.rules.specs.Judging.Finding.{fine, broken}
 use Rattle.rules.specs.Layouts.{entry, stream_header_size}
 use Rattle.rules.specs.Numbers.{bad_entry, other_memory}
-use Rattle.rules.specs.Table.{entry_place, entry-rules, entries_of, keep, in_reach, take-entry}
-use Rattle.rules.specs.Stream.{least_size, frame-rules, frame-of, size_of, left, stream_bytes}
+use Rattle.rules.specs.Table.{entry_place, entry_rules, entries_of, keep, in_reach, take_entry}
+use Rattle.rules.specs.Stream.{least_size, frame_rules, frame_of, size_of, left, stream_bytes}
 use Rattle.rules.specs.Ring.{opening_of}
-use Rattle.rules.specs.Packets.{Progress, at_first, pass_frame, take-packet, Belongings}
+use Rattle.rules.specs.Packets.{Progress, at_first, pass_frame, take_packet, Belongings}
 use Rattle.rules.specs.State.{Work, State, World, working}
 use Rattle.rules.specs.State.Work.{resting, entries, packets, waiting}
 use Rattle.rules.specs.Settle.{settled, settled_keeping}
-use Rattle.rules.specs.Steps.{packets_at, entries_at, after_opening, open_step, after_entry, entry-step, after_packet, next_place, packet_step, step_on, step, go, run_for}
+use Rattle.rules.specs.Steps.{packets_at, entries_at, after_opening, open_step, after_entry, entry_step, after_packet, next_place, packet_step, step_on, step, go, run_for}
 use Rattle.rules.specs.Unsliced.{Submission, submission, finished, submitted_on, submitted}
-use Rattle.rules.specs.Calls.{lent_another, ending, Ran, ran, call-run}
+use Rattle.rules.specs.Calls.{lent_another, ending, Ran, ran, call_run}
 use Rattle.rules.specs.declared.Entry.{Entry}
 use Rattle.rules.specs.declared.Job.{Job}
 use Rattle.rules.specs.declared.Fault.{Fault}
@@ -56,22 +56,22 @@ SameAhead r (waiting j es h) m m' = 0 ≤ 0
 
 -- ---- the next packet of two such streams
 
-same-frames : (b b' : List ℕ) → SameButAppended b b' → frame-of b ≡ frame-of b'
+same-frames : (b b' : List ℕ) → SameButAppended b b' → frame_of b ≡ frame_of b'
 same-frames b b' ends = refl
 same-frames b b' (packet op size e e' same later) = e ∙ sym e'
 same-frames b b' (misframed r len e e') = e ∙ sym e'
 
 module _ (op size : ℕ) where
-  no-packet : (b : List ℕ) (r : Refusal) → frame-of b ≡ Misframed r → frame-of b ≡ Whole op size → ⊥
+  no-packet : (b : List ℕ) (r : Refusal) → frame_of b ≡ Misframed r → frame_of b ≡ Whole op size → ⊥
   no-packet b r e h = let z : ◌≡◌ {A = ℕ} 0 1 = cc in omega arith
 
-  same_row : (b b' : List ℕ) → SameButAppended b b' → frame-of b ≡ Whole op size → Agree b b' 0 (least_size op)
+  same_row : (b b' : List ℕ) → SameButAppended b b' → frame_of b ≡ Whole op size → Agree b b' 0 (least_size op)
   same_row b b' ends h = refl
   same_row b b' (packet op₁ size₁ e e' same later) h = let is : op₁ ≡ op = cc in rw is at same
   same_row b b' (misframed r len e e') h = absurd (no-packet b r e h)
 
-  same_behind : (b b' : List ℕ) → SameButAppended b b' → frame-of b ≡ Whole op size → SameButAppended (drop size b) (drop size b')
-  unfolding frame-of frame-rules
+  same_behind : (b b' : List ℕ) → SameButAppended b b' → frame_of b ≡ Whole op size → SameButAppended (drop size b) (drop size b')
+  unfolding frame_of frame_rules
   same_behind b b' ends h = absurd (no-packet [] _ refl h)
   same_behind b b' (packet op₁ size₁ e e' same later) h = let is : size₁ ≡ size = cc in rw is at later
   same_behind b b' (misframed r len e e') h = absurd (no-packet b r e h)
@@ -140,9 +140,9 @@ fewer-entries : (m m' : List ℕ) (o : Opened) (i k : ℕ) → i ≤ k → SameS
 fewer-entries m m' o i k h same = record { table = λ n from to. same.table n (omega arith) to; stream = same.stream }
 
 -- an entry that is judged drops none of those kept
-kept-no-fewer : (m : List ℕ) (o : Opened) (kept : List Entry) → length kept ≤ length (take-entry m o.table kept).kept
-unfolding take-entry
-kept-no-fewer m o kept = by_tests (in_reach m o.table (length kept)) (entry-rules (length m) kept next)
+kept-no-fewer : (m : List ℕ) (o : Opened) (kept : List Entry) → length kept ≤ length (take_entry m o.table kept).kept
+unfolding take_entry
+kept-no-fewer m o kept = by_tests (in_reach m o.table (length kept)) (entry_rules (length m) kept next)
   where
     next : Entry
     next = entry m (entry_place o.table (length kept))
@@ -154,11 +154,11 @@ kept-no-fewer m o kept = by_tests (in_reach m o.table (length kept)) (entry-rule
 
 -- a packet that is fine has the same behind it
 packet_behind : (m m' : List ℕ) (t : Stream) (at : ℕ) (es : List Entry) (h : Progress) → SameButAppended (left m t at) (left m' t at)
-    → (take-packet es h (left m t at)).verdict ≡ Fine → SameButAppended (left m t (next_place at (left m t at))) (left m' t (next_place at (left m t at)))
-unfolding take-packet
-packet_behind m m' t at es h same = by_frame (frame-of (left m t at)) refl
+    → (take_packet es h (left m t at)).verdict ≡ Fine → SameButAppended (left m t (next_place at (left m t at))) (left m' t (next_place at (left m t at)))
+unfolding take_packet
+packet_behind m m' t at es h same = by_frame (frame_of (left m t at)) refl
   where
-    by_frame : (f : Frame) → frame-of (left m t at) ≡ f → (pass_frame es h (left m t at) f).verdict ≡ Fine
+    by_frame : (f : Frame) → frame_of (left m t at) ≡ f → (pass_frame es h (left m t at) f).verdict ≡ Fine
         → SameButAppended (left m t (at + size_of f)) (left m' t (at + size_of f))
     by_frame (Whole op size) e good =
         rw (← drop-drop size at (stream_bytes m t), ← drop-drop size at (stream_bytes m' t)) (same_behind op size (left m t at) (left m' t at) same e)
@@ -166,20 +166,20 @@ packet_behind m m' t at es h same = by_frame (frame-of (left m t at)) refl
 
 module _ (m m' : List ℕ) (len : length m ≡ length m') where
   unit-on : (s : State) (k : Work) → s.work ≡ k → SameAhead s.regs k m m' → Onward m m' (step_on (lent s m) k) (step_on (lent s m') k)
-  unfolding open_step entry-step packet_step
+  unfolding open_step entry_step packet_step
   unit-on s resting e same =
       rw (← same-opening m m' len s.regs.ring s.regs.ringsize same.0)
       (opening-onward s m m' e (opening_of m s.regs.ring s.regs.ringsize) same.1)
   unit-on s (entries o kept) e same =
       rw (← same-taken-entry m m' len o.table kept (same.1.table (length kept) (omega arith) same.0))
-      (entry-onward s m m' o (take-entry m o.table kept).kept (at_place (length kept) (take-entry m o.table kept).verdict)
+      (entry-onward s m m' o (take_entry m o.table kept).kept (at_place (length kept) (take_entry m o.table kept).verdict)
       (fewer-entries m m' o (length kept) _ (kept-no-fewer m o kept) same.1))
   unit-on s (packets j t at es h) e same =
-      let frames : frame-of (left m t at) ≡ frame-of (left m' t at) = same-frames (left m t at) (left m' t at) same in
-      let taken : take-packet es h (left m t at) ≡ take-packet es h (left m' t at) =
+      let frames : frame_of (left m t at) ≡ frame_of (left m' t at) = same-frames (left m t at) (left m' t at) same in
+      let taken : take_packet es h (left m t at) ≡ take_packet es h (left m' t at) =
       same_taken (left m t at) (left m' t at) es h frames (λ op size. same_row op size (left m t at) (left m' t at) same) in
       rw (← frames, ← taken)
-      (packet-onward s m m' j t at (next_place at (left m t at)) es (take-packet es h (left m t at)).held (take-packet es h (left m t at)).verdict
+      (packet-onward s m m' j t at (next_place at (left m t at)) es (take_packet es h (left m t at)).held (take_packet es h (left m t at)).verdict
       (packet_behind m m' t at es h same))
   unit-on s (waiting j es h) e same = at_rest m m' _ _ (ap midst e) (same-unwritten m m' _)
 
@@ -232,8 +232,8 @@ module _ (m m' : List ℕ) (len : length m ≡ length m') where
   -- the same of a call to run: its answer, its units, how it ended, and its end
   pub appended-bytes-same-run : (n : ℕ) (s : State) → SameAhead s.regs s.work m m'
       → ((i : ℕ) → 0 < i → i < n → midst (run_for i (lent s m)).state.state.work ≡ true)
-      → SameRun m m' (call-run (lent s m) n) (call-run (lent s m') n)
-  unfolding call-run
+      → SameRun m m' (call_run (lent s m) n) (call_run (lent s m') n)
+  unfolding call_run
   appended-bytes-same-run n s same inside = rw (← len) (by_test (lent_another (lent s m)) (appended-bytes-unit-by-unit n s same inside))
     where
       refused : World → Ran

@@ -13,8 +13,8 @@ use Rattle.machine.specs.Machine.{pick}
 use Rattle.rules.specs.Numbers.{clips}
 use Rattle.rules.specs.Lists.Found.{found}
 use Rattle.rules.specs.Layouts.{signed}
-use Rattle.rules.specs.StatePackets.{negative, bad-sides, begins, common, rectangle, clip-of}
-use Rattle.rules.specs.Packets.{Outcome, live-texture, recorded, apply, target-after, Progress, Passed, passed, pass, tokens-after}
+use Rattle.rules.specs.StatePackets.{negative, bad_sides, begins, common, rectangle, clip_of}
+use Rattle.rules.specs.Packets.{Outcome, live_texture, recorded, apply, target_after, Progress, Passed, passed, pass, tokens_after}
 use Rattle.rules.specs.declared.Entry.{Entry}
 use Rattle.rules.specs.declared.Record.{Record}
 use Rattle.rules.specs.declared.Shape.{Shape}
@@ -124,7 +124,7 @@ either : (a b : Bool) → a || b ≡ true → (a ≡ true) ⊎ (b ≡ true)
 either true b e = inl refl
 either false b e = inr e
 
-module _ (s : Shape) (c : SetScissor) (good : bad-sides c ≡ false) where
+module _ (s : Shape) (c : SetScissor) (good : bad_sides c ≡ false) where
   abbrev wide : ℕ
   wide = common c.x (nat_abs c.width) s.width
 
@@ -135,11 +135,11 @@ module _ (s : Shape) (c : SetScissor) (good : bad-sides c ≡ false) where
   CutBoth i j = Cut c.x (nat_abs c.width) s.width i × Cut c.y (nat_abs c.height) s.height j
 
   width_is : c.width ≡ pos (nat_abs c.width)
-  unfolding bad-sides
+  unfolding bad_sides
   width_is = not_negative c.width (neither (negative c.width) (negative c.height) good).0
 
   height-is : c.height ≡ pos (nat_abs c.height)
-  unfolding bad-sides
+  unfolding bad_sides
   height-is = not_negative c.height (neither (negative c.width) (negative c.height) good).1
 
   both-cut : (i j : ℕ) → CutBoth i j → InBoth s c i j
@@ -169,8 +169,8 @@ module _ (s : Shape) (c : SetScissor) (good : bad-sides c ≡ false) where
       (either (eqb wide 0) (eqb high 0) e)
 
   -- what the rules record is clipped so
-  pub clip-is-the-common-part : ClippedTo s c (clip-of s c)
-  unfolding clip-of
+  pub clip-is-the-common-part : ClippedTo s c (clip_of s c)
+  unfolding clip_of
   clip-is-the-common-part = by_test (eqb wide 0 || eqb high 0) refl
     where
       by_test : (b : Bool) → eqb wide 0 || eqb high 0 ≡ b → ClippedTo s c (pick b (rectangle 0 0 0 0) (rectangle (begins c.x) (begins c.y) wide high))
@@ -206,14 +206,14 @@ module _ (s : Shape) (c : SetScissor) (good : bad-sides c ≡ false) where
 -- a scissor that is accepted: its target is a live texture, and its record, one more than before, is clipped to it
 pub record Scissored (h : Progress) (c : SetScissor) (o : Passed) : Type 0 where
   pub texture : Shape
-  pub its-target : live-texture h.target h.holdings ≡ found texture
+  pub its-target : live_texture h.target h.holdings ≡ found texture
   pub clip : Record
   pub is-clipped : ClippedTo texture c clip
   pub held : o.held ≡ record { holdings = recorded clip h.holdings; target = h.target; tokens = h.tokens }
 
 pub accepted-scissor-is-clipped : (es : List Entry) (h : Progress) (c : SetScissor) → (pass es h (Scissor c)).verdict ≡ Fine → Scissored h c (pass es h (Scissor c))
-unfolding pass apply target-after tokens-after
+unfolding pass apply target_after tokens_after
 accepted-scissor-is-clipped es h c =
     scissor-or (λ (o : Outcome). o.verdict ≡ Fine → Scissored h c (passed (Scissor c) h o)) h.holdings
     (λ r e. absurd (let z : ◌≡◌ {A = ℕ} 0 1 = cc in omega arith)) h.target c
-    (λ s k e. record { texture = s; its-target = k.texture; clip = clip-of s c; is-clipped = clip-is-the-common-part s c k.sides; held = refl })
+    (λ s k e. record { texture = s; its-target = k.texture; clip = clip_of s c; is-clipped = clip-is-the-common-part s c k.sides; held = refl })

@@ -10,11 +10,11 @@ use Rattle.std.specs.Float.Ieee.Bits.{to_bits-of_bits, nan_bits_is, nan_bits_abo
 use Rattle.machine.specs.Machine.{pick}
 use Rattle.rules.specs.Numbers.{bad_state, set_viewport, clear}
 use Rattle.rules.specs.Judging.{refusal}
-use Rattle.rules.specs.Layouts.{word, viewport_floats, viewport-fields, clear_floats, clear-fields}
-use Rattle.rules.specs.Floats.{float_of, bits_of, infinity, sign_bit, is-nan, not_finite, nan_among, not_finite_among}
-use Rattle.rules.specs.StatePackets.{bad-bounds, bad-viewport, bad-values, bad-clear}
-use Rattle.rules.specs.Stream.{known, frame-of, packet-of}
-use Rattle.rules.specs.Packets.{accepted, refuse, on-viewport-packet, on-clear-packet, apply, Progress, Passed, passed, target-after, pass, take-packet, tokens-after}
+use Rattle.rules.specs.Layouts.{word, viewport_floats, viewport_fields, clear_floats, clear_fields}
+use Rattle.rules.specs.Floats.{float_of, bits_of, infinity, sign_bit, is_nan_bits, not_finite, nan_among, not_finite_among}
+use Rattle.rules.specs.StatePackets.{bad_bounds, bad_viewport, bad_values, bad_clear}
+use Rattle.rules.specs.Stream.{known, frame_of, packet_of}
+use Rattle.rules.specs.Packets.{accepted, refuse, on_viewport_packet, on_clear_packet, apply, Progress, Passed, passed, target_after, pass, take_packet, tokens_after}
 use Rattle.rules.specs.declared.Entry.{Entry}
 use Rattle.rules.specs.declared.SetViewport.{SetViewport}
 use Rattle.rules.specs.declared.ClearValues.{ClearValues}
@@ -28,15 +28,15 @@ use Rattle.promises_of_submissions.specs.LocalPackets.{framed-is-read}
 -- ---- one float
 
 -- a word that is no NaN's comes back from the float that it is
-pub bits-are-carried : (n : ℕ) → n < 2 ^ 32 → is-nan n ≡ false → bits_of (float_of n) ≡ n
-unfolding is-nan
+pub bits-are-carried : (n : ℕ) → n < 2 ^ 32 → is_nan_bits n ≡ false → bits_of (float_of n) ≡ n
+unfolding is_nan_bits
 bits-are-carried n h e =
     let number : is_nan (float_of n) ≡ false = sym (nan_bits_is binary32 n) ∙ (nan_bits_above binary32 n ∙ e) in
     to_bits-of_bits binary32 n h (rw number tt)
 
 -- a NaN is not finite, and neither is a packet that has one among its floats
-nan-is-not-finite : (n : ℕ) → is-nan n ≡ true → not_finite n ≡ true
-unfolding is-nan not_finite
+nan-is-not-finite : (n : ℕ) → is_nan_bits n ≡ true → not_finite n ≡ true
+unfolding is_nan_bits not_finite
 nan-is-not-finite n e = le-leb infinity (n % sign_bit) (omega (arith, ltb-true infinity (n % sign_bit) e))
 
 or-true : (b : Bool) → b || true ≡ true
@@ -45,20 +45,20 @@ or-true false = refl
 
 nan-not-finite-among : (bs : List ℕ) → nan_among bs ≡ true → not_finite_among bs ≡ true
 nan-not-finite-among [] e = e
-nan-not-finite-among (b ∷ bs) e = by_test (is-nan b) refl (nan-not-finite-among bs) e
+nan-not-finite-among (b ∷ bs) e = by_test (is_nan_bits b) refl (nan-not-finite-among bs) e
   where
-    by_test : (t : Bool) → is-nan b ≡ t → (nan_among bs ≡ true → not_finite_among bs ≡ true) → t || nan_among bs ≡ true → not_finite b || not_finite_among bs ≡ true
+    by_test : (t : Bool) → is_nan_bits b ≡ t → (nan_among bs ≡ true → not_finite_among bs ≡ true) → t || nan_among bs ≡ true → not_finite b || not_finite_among bs ≡ true
     by_test true t later k = rw (nan-is-not-finite b t)
     by_test false t later k = rw (later k, or-true)
 
 -- none of several is a NaN
-none-among : (bs : List ℕ) → nan_among bs ≡ false → Every (λ (n : ℕ). is-nan n ≡ false) bs
+none-among : (bs : List ℕ) → nan_among bs ≡ false → Every (λ (n : ℕ). is_nan_bits n ≡ false) bs
 unfolding Every
 none-among [] e = omega arith
-none-among (b ∷ bs) e = by_test (is-nan b) refl (none-among bs) e
+none-among (b ∷ bs) e = by_test (is_nan_bits b) refl (none-among bs) e
   where
-    by_test : (t : Bool) → is-nan b ≡ t → (nan_among bs ≡ false → Every (λ (n : ℕ). is-nan n ≡ false) bs) → t || nan_among bs ≡ false
-        → (is-nan b ≡ false) × Every (λ (n : ℕ). is-nan n ≡ false) bs
+    by_test : (t : Bool) → is_nan_bits b ≡ t → (nan_among bs ≡ false → Every (λ (n : ℕ). is_nan_bits n ≡ false) bs) → t || nan_among bs ≡ false
+        → (is_nan_bits b ≡ false) × Every (λ (n : ℕ). is_nan_bits n ≡ false) bs
     by_test true t later k = absurd (let z : ◌≡◌ {A = ℕ} 0 1 = cc in omega arith)
     by_test false t later k = (t, later k)
 
@@ -69,24 +69,24 @@ abbrev pub judged_state : Progress → Bool → Passed
 judged_state h bad = pick bad (record { verdict = Broken (refusal bad_state); held = h }) (record { verdict = Fine; held = h })
 
 module _ (es : List Entry) (h : Progress) where
-  viewport-comes-to : (v : SetViewport) → pass es h (Viewport v) ≡ judged_state h (bad-viewport v)
-  unfolding pass apply on-viewport-packet target-after tokens-after
-  viewport-comes-to v = by_test (bad-viewport v)
+  viewport-comes-to : (v : SetViewport) → pass es h (Viewport v) ≡ judged_state h (bad_viewport v)
+  unfolding pass apply on_viewport_packet target_after tokens_after
+  viewport-comes-to v = by_test (bad_viewport v)
     where
       by_test : (t : Bool) → passed (Viewport v) h (refuse bad_state t h.holdings (accepted h.holdings)) ≡ judged_state h t
       by_test true = refl
       by_test false = refl
 
-  clear-comes-to : (c : ClearValues) → pass es h (Clear c) ≡ judged_state h (bad-clear c)
-  unfolding pass apply on-clear-packet target-after tokens-after
-  clear-comes-to c = by_test (bad-clear c)
+  clear-comes-to : (c : ClearValues) → pass es h (Clear c) ≡ judged_state h (bad_clear c)
+  unfolding pass apply on_clear_packet target_after tokens_after
+  clear-comes-to c = by_test (bad_clear c)
     where
       by_test : (t : Bool) → passed (Clear c) h (refuse bad_state t h.holdings (accepted h.holdings)) ≡ judged_state h t
       by_test true = refl
       by_test false = refl
 
   pub nan-comes-to : pass es h NotANumber ≡ judged_state h true
-  unfolding pass apply target-after tokens-after
+  unfolding pass apply target_after tokens_after
   nan-comes-to = refl
 
 -- ---- a packet's own bytes
@@ -112,27 +112,27 @@ module _ (b : List ℕ) where
 
   -- the rules for a viewport and for a clear, of the words that stand there
   abbrev pub bad_viewport_words : Bool
-  bad_viewport_words = bad-bounds (word b 8) (word b 12) (word b 16) (word b 20) (word b 24) (word b 28)
+  bad_viewport_words = bad_bounds (word b 8) (word b 12) (word b 16) (word b 20) (word b 24) (word b 28)
 
   abbrev pub bad_clear_words : Bool
-  bad_clear_words = bad-values (word b 8) (word b 12) (word b 16) (word b 20) (word b 24) (word b 28)
+  bad_clear_words = bad_values (word b 8) (word b 12) (word b 16) (word b 20) (word b 24) (word b 28)
 
   -- a NaN or an infinity among the floats breaks them
   pub not-finite-viewport : not_finite_among (viewport_floats b) ≡ true → bad_viewport_words ≡ true
-  unfolding bad-bounds
+  unfolding bad_bounds
   not-finite-viewport e = rw e
 
   pub not-finite-clear : not_finite_among (clear_floats b) ≡ true → bad_clear_words ≡ true
-  unfolding bad-values
+  unfolding bad_values
   not-finite-clear e = rw e
 
   module _ (bytes : OfBytes b) where
-    carried : (at : ℕ) → is-nan (word b at) ≡ false → bits_of (float_of (word b at)) ≡ word b at
+    carried : (at : ℕ) → is_nan_bits (word b at) ≡ false → bits_of (float_of (word b at)) ≡ word b at
     carried at e = bits-are-carried (word b at) (word_fits b at bytes) e
 
     -- no NaN among them: the packet is read as a viewport, bit for bit
-    pub viewport-is-carried : nan_among (viewport_floats b) ≡ false → (packet-of set_viewport b ≡ Viewport (viewport-fields b)) × ViewportCarried (viewport-fields b)
-    unfolding packet-of known viewport-fields Every
+    pub viewport-is-carried : nan_among (viewport_floats b) ≡ false → (packet_of set_viewport b ≡ Viewport (viewport_fields b)) × ViewportCarried (viewport_fields b)
+    unfolding packet_of known viewport_fields Every
     viewport-is-carried e =
         let no_nan = none-among (viewport_floats b) e in (
           rw e,
@@ -146,8 +146,8 @@ module _ (b : List ℕ) where
           },
         )
 
-    pub clear-is-carried : nan_among (clear_floats b) ≡ false → (packet-of clear b ≡ Clear (clear-fields b)) × ClearCarried (clear-fields b)
-    unfolding packet-of known clear-fields Every
+    pub clear-is-carried : nan_among (clear_floats b) ≡ false → (packet_of clear b ≡ Clear (clear_fields b)) × ClearCarried (clear_fields b)
+    unfolding packet_of known clear_fields Every
     clear-is-carried e =
         let no_nan = none-among (clear_floats b) e in (
           rw e,
@@ -164,29 +164,29 @@ module _ (b : List ℕ) where
 
     -- and so it is judged by its words, with a NaN or without one
     module _ (es : List Entry) (h : Progress) where
-      pub viewport-judged-by-its-words : pass es h (packet-of set_viewport b) ≡ judged_state h bad_viewport_words
-      unfolding packet-of known bad-viewport
+      pub viewport-judged-by-its-words : pass es h (packet_of set_viewport b) ≡ judged_state h bad_viewport_words
+      unfolding packet_of known bad_viewport
       viewport-judged-by-its-words = by_test (nan_among (viewport_floats b)) refl
         where
-          by_test : (t : Bool) → nan_among (viewport_floats b) ≡ t → pass es h (pick t NotANumber (Viewport (viewport-fields b))) ≡ judged_state h bad_viewport_words
+          by_test : (t : Bool) → nan_among (viewport_floats b) ≡ t → pass es h (pick t NotANumber (Viewport (viewport_fields b))) ≡ judged_state h bad_viewport_words
           by_test true e = nan-comes-to es h ∙ ap (judged_state h) (sym (not-finite-viewport (nan-not-finite-among (viewport_floats b) e)))
           by_test false e =
-              let c : ViewportCarried (viewport-fields b) = (viewport-is-carried e).1 in
-              viewport-comes-to es h (viewport-fields b) ∙ rw (c.x, c.y, c.width, c.height, c.near, c.far)
+              let c : ViewportCarried (viewport_fields b) = (viewport-is-carried e).1 in
+              viewport-comes-to es h (viewport_fields b) ∙ rw (c.x, c.y, c.width, c.height, c.near, c.far)
 
-      pub clear-judged-by-its-words : pass es h (packet-of clear b) ≡ judged_state h bad_clear_words
-      unfolding packet-of known bad-clear
+      pub clear-judged-by-its-words : pass es h (packet_of clear b) ≡ judged_state h bad_clear_words
+      unfolding packet_of known bad_clear
       clear-judged-by-its-words = by_test (nan_among (clear_floats b)) refl
         where
-          by_test : (t : Bool) → nan_among (clear_floats b) ≡ t → pass es h (pick t NotANumber (Clear (clear-fields b))) ≡ judged_state h bad_clear_words
+          by_test : (t : Bool) → nan_among (clear_floats b) ≡ t → pass es h (pick t NotANumber (Clear (clear_fields b))) ≡ judged_state h bad_clear_words
           by_test true e = nan-comes-to es h ∙ ap (judged_state h) (sym (not-finite-clear (nan-not-finite-among (clear_floats b) e)))
           by_test false e =
-              let c : ClearCarried (clear-fields b) = (clear-is-carried e).1 in
-              clear-comes-to es h (clear-fields b) ∙ rw (c.flags, c.red, c.green, c.blue, c.alpha, c.depth)
+              let c : ClearCarried (clear_fields b) = (clear-is-carried e).1 in
+              clear-comes-to es h (clear_fields b) ∙ rw (c.flags, c.red, c.green, c.blue, c.alpha, c.depth)
 
       -- the same of the packet that the bytes left of a stream begin with
-      pub framed-viewport-judged-by-its-words : (size : ℕ) → frame-of b ≡ Whole set_viewport size → take-packet es h b ≡ judged_state h bad_viewport_words
+      pub framed-viewport-judged-by-its-words : (size : ℕ) → frame_of b ≡ Whole set_viewport size → take_packet es h b ≡ judged_state h bad_viewport_words
       framed-viewport-judged-by-its-words size e = framed-is-read b es h set_viewport size e ∙ viewport-judged-by-its-words
 
-      pub framed-clear-judged-by-its-words : (size : ℕ) → frame-of b ≡ Whole clear size → take-packet es h b ≡ judged_state h bad_clear_words
+      pub framed-clear-judged-by-its-words : (size : ℕ) → frame_of b ≡ Whole clear size → take_packet es h b ≡ judged_state h bad_clear_words
       framed-clear-judged-by-its-words size e = framed-is-read b es h clear size e ∙ clear-judged-by-its-words

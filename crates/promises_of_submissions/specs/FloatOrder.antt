@@ -14,7 +14,7 @@ use Rattle.std.specs.Float.Ieee as Ieee
 use Rattle.std.specs.Float.Ieee.Exact.{HasValue, odd_sign}
 use Rattle.std.specs.Float.Ieee.Fits.{down_pos}
 use Rattle.std.specs.Float.Ieee.Order.{transfer}
-use Rattle.rules.specs.Floats.{float_of, infinity, sign_bit, is-nan, key, below, float_zero, float_one}
+use Rattle.rules.specs.Floats.{float_of, infinity, sign_bit, is_nan_bits, key, below, float_zero, float_one}
 use Rattle.words.specs.Over.{below_or_not}
 
 -- ---- a float's fields
@@ -234,12 +234,12 @@ module _ (a b : ℕ) (fits : a < 2 ^ 32) (small : b < 2 ^ 32) where
 rest-is : (n : ℕ) → n % sign_bit ≡ n % sign_bit / digits * digits + n % digits
 rest-is n = omega arith
 
-no-nan-rest : (n : ℕ) → is-nan n ≡ false → n % sign_bit / digits * digits + n % digits ≤ infinity
-unfolding is-nan
+no-nan-rest : (n : ℕ) → is_nan_bits n ≡ false → n % sign_bit / digits * digits + n % digits ≤ infinity
+unfolding is_nan_bits
 no-nan-rest n e = omega (arith, rest-is n, ltb-false infinity (n % sign_bit) e)
 
 -- of two words that are no NaN's
-pub below-is-the-order : (a b : ℕ) → a < 2 ^ 32 → b < 2 ^ 32 → is-nan a ≡ false → is-nan b ≡ false → below a b ≡ lt (float_of a) (float_of b)
+pub below-is-the-order : (a b : ℕ) → a < 2 ^ 32 → b < 2 ^ 32 → is_nan_bits a ≡ false → is_nan_bits b ≡ false → below a b ≡ lt (float_of a) (float_of b)
 unfolding of_bits
 below-is-the-order a b fits small p q =
     let s : Bool = leb sign_bit a in

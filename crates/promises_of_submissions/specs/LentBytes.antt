@@ -8,8 +8,8 @@ use Rattle.words.specs.Fields.{field_bound}
 use Rattle.rules.specs.Numbers.{page_magic, version}
 use Rattle.rules.specs.Bytes.{bytes_of}
 use Rattle.rules.specs.Lists.{over}
-use Rattle.rules.specs.Layouts.{word, head_offset, page-bytes}
-use Rattle.rules.specs.Settle.{written, head-written, page-written, marked, next_head}
+use Rattle.rules.specs.Layouts.{word, head_offset, page_bytes}
+use Rattle.rules.specs.Settle.{written, head_written, page_written, marked, next_head}
 use Rattle.rules.specs.declared.Job.{Job}
 use Rattle.rules.specs.declared.Registers.{Registers}
 
@@ -32,8 +32,8 @@ both_bytes [] ys h k i = k i
 both_bytes (x ∷ xs) ys h k zero = h 0
 both_bytes (x ∷ xs) ys h k (suc i) = both_bytes xs ys (λ n. h (suc n)) k i
 
-page-of-bytes : (completed : ℕ) → OfBytes (page-bytes completed)
-unfolding page-bytes
+page-of-bytes : (completed : ℕ) → OfBytes (page_bytes completed)
+unfolding page_bytes
 page-of-bytes completed =
     both_bytes (bytes_of 4 page_magic) (bytes_of 4 version ++ bytes_of 8 completed) (bytes-of 4 page_magic)
     (both_bytes (bytes_of 4 version) (bytes_of 8 completed) (bytes-of 4 version) (bytes-of 8 completed))
@@ -58,12 +58,12 @@ written-bytes at b m h k = by_test (leb (at + length b) (length m)) refl
     by_test false e = k
 
 pub marked-bytes : (j : Job) (r : Registers) (m : List ℕ) → OfBytes m → OfBytes (marked j r m)
-unfolding marked head-written page-written
+unfolding marked head_written page_written
 marked-bytes j r m b = by-page (eqb r.fencepage 0)
   where
-    head : OfBytes (head-written j m)
+    head : OfBytes (head_written j m)
     head = written-bytes (j.ring + head_offset) (bytes_of 4 (next_head j.head)) m (bytes-of 4 (next_head j.head)) b
 
-    by-page : (t : Bool) → OfBytes (pick t (head-written j m) (written r.fencepage (page-bytes r.completed) (head-written j m)))
+    by-page : (t : Bool) → OfBytes (pick t (head_written j m) (written r.fencepage (page_bytes r.completed) (head_written j m)))
     by-page true = head
-    by-page false = written-bytes r.fencepage (page-bytes r.completed) (head-written j m) (page-of-bytes r.completed) head
+    by-page false = written-bytes r.fencepage (page_bytes r.completed) (head_written j m) (page-of-bytes r.completed) head

@@ -1,8 +1,8 @@
 -- An opening reads the ring's header, the head's slot, and the headers of the table and of the stream, each only where the rules before
 -- it let it be read. Assumes nothing.
 use Rattle.std.specs.Prelude.{◌≡◌, true, List, ℕ, ◌+◌, ◌≤◌, length}
-use Rattle.rules.specs.Layouts.{ring-header, ring_header_size, descriptor, descriptor_size, table_header_size, stream_header_size}
-use Rattle.rules.specs.Ring.{descriptor-rules, range-rules, good-ring, slot_place, opening_of}
+use Rattle.rules.specs.Layouts.{ring_header, ring_header_size, descriptor, descriptor_size, table_header_size, stream_header_size}
+use Rattle.rules.specs.Ring.{descriptor_rules, range_rules, good_ring, slot_place, opening_of}
 use Rattle.rules.specs.Listed.{table_fine}
 use Rattle.rules.specs.declared.Descriptor.{Descriptor}
 use Rattle.rules.specs.declared.Verdict.TheVariants.{Fine}
@@ -18,13 +18,13 @@ pub record SameRanges (m m' : List ℕ) (d : Descriptor) : Type 0 where
 -- of a slot: its descriptor, and the ranges if 11 and 12 let them pass
 pub record SameSlot (m m' : List ℕ) (at stride : ℕ) : Type 0 where
   pub slot : Agree m m' at descriptor_size
-  pub ranges : descriptor-rules stride (descriptor m at) ≡ Fine → range-rules (length m) (descriptor m at) ≡ Fine → SameRanges m m' (descriptor m at)
+  pub ranges : descriptor_rules stride (descriptor m at) ≡ Fine → range_rules (length m) (descriptor m at) ≡ Fine → SameRanges m m' (descriptor m at)
 
 -- of a ring: its header if it lies within memory and is no smaller than that, and the head's slot if the header is good and a submission is pending
 pub record SameOpening (m m' : List ℕ) (ring size : ℕ) : Type 0 where
   pub header : ring_header_size ≤ size → ring + size ≤ length m → Agree m m' ring ring_header_size
-  pub pending : good-ring m ring size ≡ true → ((ring-header m ring).head ≡ (ring-header m ring).tail → ⊥)
-      → SameSlot m m' (slot_place ring (ring-header m ring)) (ring-header m ring).stride
+  pub pending : good_ring m ring size ≡ true → ((ring_header m ring).head ≡ (ring_header m ring).tail → ⊥)
+      → SameSlot m m' (slot_place ring (ring_header m ring)) (ring_header m ring).stride
 
 -- ---- the same bytes say the same
 
@@ -46,5 +46,5 @@ module _ (m m' : List ℕ) where
       read-opening m m' len ring size
       (record {
         header = λ h k. same-ring-header m m' ring (same.header h k);
-        pending = λ good some. same-slot (slot_place ring (ring-header m ring)) (ring-header m ring).stride (same.pending good some);
+        pending = λ good some. same-slot (slot_place ring (ring_header m ring)) (ring_header m ring).stride (same.pending good some);
       })

@@ -7,8 +7,8 @@ use Rattle.std.proofs.Math.Bool.{true, false}
 use Rattle.std.proofs.Math.Nat.{min-le_left}
 use Rattle.std.proofs.Math.Dec.{ltb}
 use Rattle.rules.specs.Layouts.{packet_header_size}
-use Rattle.rules.specs.Stream.{least_size, frame-rules, frame-of, packet-of, left}
-use Rattle.rules.specs.Packets.{Progress, pass, pass_frame, take-packet}
+use Rattle.rules.specs.Stream.{least_size, frame_rules, frame_of, packet_of, left}
+use Rattle.rules.specs.Packets.{Progress, pass, pass_frame, take_packet}
 use Rattle.rules.specs.declared.Entry.{Entry}
 use Rattle.rules.specs.declared.Stream.{Stream}
 use Rattle.rules.specs.declared.Packet.{Packet}
@@ -22,17 +22,17 @@ use Rattle.promises_of_submissions.specs.Reads.{packet-reads-only}
 -- packet as many bytes as its opcode's row has, which are none for an unknown one
 pub record SamePacket (m m' : List ℕ) (s : Stream) (at : ℕ) : Type 0 where
   pub header : packet_header_size ≤ length (left m s at) → Agree m m' (s.gpa + at) packet_header_size
-  pub packet : (op size : ℕ) → frame-of (left m s at) ≡ Whole op size → Agree m m' (s.gpa + at) (least_size op)
+  pub packet : (op size : ℕ) → frame_of (left m s at) ≡ Whole op size → Agree m m' (s.gpa + at) (least_size op)
 
 -- ---- some bytes, whatever they are a part of
 
 module _ (b b' : List ℕ) (len : length b ≡ length b') where
   -- the frame is the header's and the number of bytes'
-  pub same-frame : (packet_header_size ≤ length b → Agree b b' 0 packet_header_size) → frame-of b ≡ frame-of b'
-  unfolding frame-of frame-rules
+  pub same-frame : (packet_header_size ≤ length b → Agree b b' 0 packet_header_size) → frame_of b ≡ frame_of b'
+  unfolding frame_of frame_rules
   same-frame h = by_test (ltb (length b') packet_header_size) refl
     where
-      by_test : (t : Bool) → ltb (length b') packet_header_size ≡ t → frame-of b ≡ frame-of b'
+      by_test : (t : Bool) → ltb (length b') packet_header_size ≡ t → frame_of b ≡ frame_of b'
       by_test true t = rw (len, t)
       by_test false t =
           let s : Agree b b' 0 packet_header_size = h (rw len (ltb-false (length b') packet_header_size t)) in
@@ -40,7 +40,7 @@ module _ (b b' : List ℕ) (len : length b ≡ length b') where
 
 module _ (b b' : List ℕ) where
   -- a packet that is framed in both says the same if they agree on its row's bytes
-  pub same-packet : (op size : ℕ) → least_size op ≤ size → Agree b b' 0 (least_size op) → packet-of op (take size b) ≡ packet-of op (take size b')
+  pub same-packet : (op size : ℕ) → least_size op ≤ size → Agree b b' 0 (least_size op) → packet_of op (take size b) ≡ packet_of op (take size b')
   same-packet op size fits same =
       packet-reads-only op (take size b) (take size b') (take-take (least_size op) size b fits ∙ (same ∙ sym (take-take (least_size op) size b' fits)))
 
@@ -50,16 +50,16 @@ module _ (b b' : List ℕ) where
   same-applied es h (Misframed r) k = refl
 
   -- what the next packet comes to, of two streams whose next frame is the same and its row's bytes too
-  pub same_taken : (es : List Entry) (h : Progress) → frame-of b ≡ frame-of b' → ((op size : ℕ) → frame-of b ≡ Whole op size → Agree b b' 0 (least_size op))
-      → take-packet es h b ≡ take-packet es h b'
-  unfolding take-packet
+  pub same_taken : (es : List Entry) (h : Progress) → frame_of b ≡ frame_of b' → ((op size : ℕ) → frame_of b ≡ Whole op size → Agree b b' 0 (least_size op))
+      → take_packet es h b ≡ take_packet es h b'
+  unfolding take_packet
   same_taken es h e same =
-      same-applied es h (frame-of b) (λ op size w. ((frame-sound b op size w).known, same op size w))
+      same-applied es h (frame_of b) (λ op size w. ((frame-sound b op size w).known, same op size w))
       ∙ ap (λ (f : Frame). pass_frame es h b' f) e
 
 -- what is framed says what stands at its front, whatever is behind it
-pub framed-is-read : (b : List ℕ) (es : List Entry) (h : Progress) (op size : ℕ) → frame-of b ≡ Whole op size → take-packet es h b ≡ pass es h (packet-of op b)
-unfolding take-packet
+pub framed-is-read : (b : List ℕ) (es : List Entry) (h : Progress) (op size : ℕ) → frame_of b ≡ Whole op size → take_packet es h b ≡ pass es h (packet_of op b)
+unfolding take_packet
 framed-is-read b es h op size e =
     rw e (ap (λ (p : Packet). pass es h p) (packet-reads-only op (take size b) b (take-take (least_size op) size b (frame-sound b op size e).known)))
 
@@ -88,13 +88,13 @@ module _ (s : Stream) (at : ℕ) where
     left-length = simp (length-drop, length-take, len)
 
     module _ (same : SamePacket m m' s at) where
-      pub same-next-frame : frame-of (left m s at) ≡ frame-of (left m' s at)
+      pub same-next-frame : frame_of (left m s at) ≡ frame_of (left m' s at)
       same-next-frame = same-frame (left m s at) (left m' s at) left-length (λ h. left-agree packet_header_size h (same.header h))
 
-      row-bytes : (op size : ℕ) → frame-of (left m s at) ≡ Whole op size → Agree (left m s at) (left m' s at) 0 (least_size op)
+      row-bytes : (op size : ℕ) → frame_of (left m s at) ≡ Whole op size → Agree (left m s at) (left m' s at) 0 (least_size op)
       row-bytes op size e =
           let fits : FrameFits (left m s at) op size = frame-sound (left m s at) op size e in
           left-agree (least_size op) (omega (arith, fits.known, fits.inside)) (same.packet op size e)
 
-      pub same-taken-packet : (es : List Entry) (h : Progress) → take-packet es h (left m s at) ≡ take-packet es h (left m' s at)
+      pub same-taken-packet : (es : List Entry) (h : Progress) → take_packet es h (left m s at) ≡ take_packet es h (left m' s at)
       same-taken-packet es h = same_taken (left m s at) (left m' s at) es h same-next-frame row-bytes

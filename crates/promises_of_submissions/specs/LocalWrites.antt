@@ -8,8 +8,8 @@ use Rattle.std.proofs.Math.Dec.{ltb, leb}
 use Rattle.std.proofs.Math.ListN.{length}
 use Rattle.machine.specs.Machine.{pick}
 use Rattle.rules.specs.Bytes.{bytes_of}
-use Rattle.rules.specs.Layouts.{head_offset, page-bytes}
-use Rattle.rules.specs.Settle.{written, next_head, head-written, page-written, marked}
+use Rattle.rules.specs.Layouts.{head_offset, page_bytes}
+use Rattle.rules.specs.Settle.{written, next_head, head_written, page_written, marked}
 use Rattle.rules.specs.declared.Job.{Job}
 use Rattle.rules.specs.declared.Registers.{Registers}
 use Rattle.settle.specs.Only.{Apart, written_byte, written_stands, head-length}
@@ -50,16 +50,16 @@ module _ (i : ℕ) (m m' : List ℕ) (len : length m ≡ length m') (same : Agre
           written-inside i at b m fit from to ∙ sym (written-inside i at b m' (rw (← len) fit) from to)
       by_tests false true false x y z = rw (← len, z) same
 
-  page-both : (r : Registers) → AgreeAt i (page-written r m) (page-written r m')
-  unfolding page-written
+  page-both : (r : Registers) → AgreeAt i (page_written r m) (page_written r m')
+  unfolding page_written
   page-both r = by_test (eqb r.fencepage 0)
     where
-      by_test : (t : Bool) → AgreeAt i (pick t m (written r.fencepage (page-bytes r.completed) m)) (pick t m' (written r.fencepage (page-bytes r.completed) m'))
+      by_test : (t : Bool) → AgreeAt i (pick t m (written r.fencepage (page_bytes r.completed) m)) (pick t m' (written r.fencepage (page_bytes r.completed) m'))
       by_test true = same
-      by_test false = written_both r.fencepage (page-bytes r.completed)
+      by_test false = written_both r.fencepage (page_bytes r.completed)
 
-  head-both : (j : Job) → AgreeAt i (head-written j m) (head-written j m')
-  unfolding head-written
+  head-both : (j : Job) → AgreeAt i (head_written j m) (head_written j m')
+  unfolding head_written
   head-both j = written_both (j.ring + head_offset) (bytes_of 4 (next_head j.head))
 
 -- a byte that the two memories hold alike they hold alike after the same writes
@@ -67,4 +67,4 @@ pub same-writes-agree : (i : ℕ) (r : Registers) (m m' n n' : List ℕ) → len
 unfolding marked
 same-writes-agree i r m m' n n' len same unwritten = same
 same-writes-agree i r m m' n n' len same (settles j) =
-    page-both i (head-written j m) (head-written j m') (head-length j m ∙ (len ∙ sym (head-length j m'))) (head-both i m m' len same j) r
+    page-both i (head_written j m) (head_written j m') (head-length j m ∙ (len ∙ sym (head-length j m'))) (head-both i m m' len same j) r

@@ -3,20 +3,20 @@
 use Rattle.std.specs.Prelude.{◌≡◌, refl, Bool, List, [], ◌∷◌, ℕ, ◌≤◌, length}
 use Rattle.std.proofs.Common.{ap, ◌∙◌}
 use Rattle.std.proofs.Math.Bool.{true, false}
-use Rattle.machine.specs.Machine.{pick, halt, spent, runFor}
+use Rattle.machine.specs.Machine.{pick, halt, spent, run_while}
 use Rattle.rules.specs.Numbers.{other_memory}
 use Rattle.rules.specs.Judging.{Finding, at_place}
 use Rattle.rules.specs.Judging.Finding.{fine, broken}
 use Rattle.rules.specs.Layouts.{entry_size}
-use Rattle.rules.specs.Table.{entry_place, take-entry}
+use Rattle.rules.specs.Table.{entry_place, take_entry}
 use Rattle.rules.specs.Stream.{left}
 use Rattle.rules.specs.Ring.{opening_of}
-use Rattle.rules.specs.Packets.{Progress, take-packet}
+use Rattle.rules.specs.Packets.{Progress, take_packet}
 use Rattle.rules.specs.State.{Work, State, World}
 use Rattle.rules.specs.State.Work.{resting, entries, packets, waiting}
 use Rattle.rules.specs.Settle.{settled}
-use Rattle.rules.specs.Steps.{after_opening, open_step, after_entry, entry-step, after_packet, next_place, packet_step, step_on, step, go, answer_on, answered}
-use Rattle.rules.specs.Calls.{lent_another, ending, Ran, ran, call-run}
+use Rattle.rules.specs.Steps.{after_opening, open_step, after_entry, entry_step, after_packet, next_place, packet_step, step_on, step, go, answer_on, answered}
+use Rattle.rules.specs.Calls.{lent_another, ending, Ran, ran, call_run}
 use Rattle.rules.specs.declared.Entry.{Entry}
 use Rattle.rules.specs.declared.Job.{Job}
 use Rattle.rules.specs.declared.Registers.{Registers}
@@ -55,8 +55,8 @@ pub record SameEnd (m m' : List ℕ) (x x' : World) : Type 0 where
 
 -- the next entry is judged by its own 32 bytes, those kept before it and the memory's length
 pub same-taken-entry : (m m' : List ℕ) → length m ≡ length m' → (t : Table) (kept : List Entry) → Agree m m' (entry_place t (length kept)) entry_size
-    → take-entry m t kept ≡ take-entry m' t kept
-unfolding take-entry
+    → take_entry m t kept ≡ take_entry m' t kept
+unfolding take_entry
 same-taken-entry m m' len t kept same = rw (len, same-entry m m' (entry_place t (length kept)) same)
 
 module _ (s : State) (m m' : List ℕ) where
@@ -81,14 +81,14 @@ module _ (s : State) (m m' : List ℕ) where
 
   module _ (len : length m ≡ length m') where
     on-reads-only : (k : Work) → SameFor s.regs k m m' → SameEnd m m' (step_on (lent s m) k) (step_on (lent s m') k)
-    unfolding open_step entry-step packet_step
+    unfolding open_step entry_step packet_step
     on-reads-only resting same =
         rw (← same-opening m m' len s.regs.ring s.regs.ringsize same) (opening-blind (opening_of m s.regs.ring s.regs.ringsize))
     on-reads-only (entries o kept) same =
-        rw (← same-taken-entry m m' len o.table kept same) (entry-blind o (take-entry m o.table kept).kept (at_place (length kept) (take-entry m o.table kept).verdict))
+        rw (← same-taken-entry m m' len o.table kept same) (entry-blind o (take_entry m o.table kept).kept (at_place (length kept) (take_entry m o.table kept).verdict))
     on-reads-only (packets j t at es h) same =
         rw (← same-next-frame t at m m' len same, ← same-taken-packet t at m m' len same es h)
-        (packet-blind j t (next_place at (left m t at)) es (take-packet es h (left m t at)).held (at_place at (take-packet es h (left m t at)).verdict))
+        (packet-blind j t (next_place at (left m t at)) es (take_packet es h (left m t at)).held (at_place at (take_packet es h (left m t at)).verdict))
     on-reads-only (waiting j es h) same = record { state = refl; writes = unwritten }
 
     -- one unit, of one device over two memories of one length
@@ -127,8 +127,8 @@ pub record SameRun (m m' : List ℕ) (x x' : Ran) : Type 0 where
 
 -- a run of one unit; of a device that does not go it reads nothing
 pub run-of-one-reads-only : (s : State) (m m' : List ℕ) → length m ≡ length m' → (go (lent s m) ≡ true → SameWhereRead s m m')
-    → SameRun m m' (call-run (lent s m) 1) (call-run (lent s m') 1)
-unfolding call-run runFor go
+    → SameRun m m' (call_run (lent s m) 1) (call_run (lent s m') 1)
+unfolding call_run run_while go
 run-of-one-reads-only s m m' len same = rw (← len) (by_tests (lent_another (lent s m)) (go (lent s m)) refl)
   where
     refused : World → Ran
@@ -147,11 +147,11 @@ run-of-one-reads-only s m m' len same = rw (← len) (by_tests (lent_another (le
 -- ---- memory may move: runs of one unit each, each lent a memory of its own
 
 abbrev pub after_one : State → List ℕ → State
-after_one s m = (call-run (lent s m) 1).world.state
+after_one s m = (call_run (lent s m) 1).world.state
 
-unfoldable pub over-moving : List (List ℕ) → State → State
-over-moving [] s = s
-over-moving (m ∷ ms) s = over-moving ms (after_one s m)
+unfoldable pub over_moving : List (List ℕ) → State → State
+over_moving [] s = s
+over_moving (m ∷ ms) s = over_moving ms (after_one s m)
 
 -- other memories, each of the same length and with the same bytes where its unit reads
 pub data SameWhenRead : State → List (List ℕ) → List (List ℕ) → Type 0 where
@@ -160,8 +160,8 @@ pub data SameWhenRead : State → List (List ℕ) → List (List ℕ) → Type 0
       → SameWhenRead (after_one s m) ms ms' → SameWhenRead s (m ∷ ms) (m' ∷ ms')
 
 -- so what a device comes to is fixed by the bytes that each unit reads, as they stand at that unit
-pub moving-memory-reads-only : (s : State) (ms ms' : List (List ℕ)) → SameWhenRead s ms ms' → over-moving ms s ≡ over-moving ms' s
-unfolding over-moving
+pub moving-memory-reads-only : (s : State) (ms ms' : List (List ℕ)) → SameWhenRead s ms ms' → over_moving ms s ≡ over_moving ms' s
+unfolding over_moving
 moving-memory-reads-only s ms ms' ends = refl
 moving-memory-reads-only s ms ms' (unit {ms = ns} {ms' = ns'} m m' len same later) =
-    moving-memory-reads-only (after_one s m) ns ns' later ∙ ap (over-moving ns') (run-of-one-reads-only s m m' len same).end.state
+    moving-memory-reads-only (after_one s m) ns ns' later ∙ ap (over_moving ns') (run-of-one-reads-only s m m' len same).end.state

@@ -10,11 +10,11 @@ use Rattle.std.proofs.Math.Dec.{leb}
 use Rattle.machine.specs.Machine.{pick}
 use Rattle.rules.specs.Numbers.{bad_table, bad_stream}
 use Rattle.rules.specs.Judging.{refusal, only, ◌▹◌}
-use Rattle.rules.specs.Layouts.{ring-header, ring_header_size, descriptor, table-header, table_header_size, stream-header, stream_header_size}
-use Rattle.rules.specs.Headers.{wrong-header}
-use Rattle.rules.specs.Table.{header-rules, checked_table, no_table}
-use Rattle.rules.specs.Stream.{stream-rules, stream_of, no_stream}
-use Rattle.rules.specs.Ring.{present, descriptor-rules, range-rules, submission-rules, job_of, opened_of, concluded, slot_place, submission-opening, good-header, good-ring, ring-opening, opening_of}
+use Rattle.rules.specs.Layouts.{ring_header, ring_header_size, descriptor, table_header, table_header_size, stream_header, stream_header_size}
+use Rattle.rules.specs.Headers.{wrong_header}
+use Rattle.rules.specs.Table.{header_rules, checked_table, no_table}
+use Rattle.rules.specs.Stream.{stream_rules, stream_of, no_stream}
+use Rattle.rules.specs.Ring.{present, descriptor_rules, range_rules, submission_rules, job_of, opened_of, concluded, slot_place, submission_opening, good_header, good_ring, ring_opening, opening_of}
 use Rattle.rules.specs.Listed.{table_fine}
 use Rattle.rules.specs.declared.RingHeader.{RingHeader}
 use Rattle.rules.specs.declared.Descriptor.{Descriptor}
@@ -30,23 +30,23 @@ use Rattle.rule_laws.specs.Fine.{broken-not-fine, both_left, both_right}
 
 -- the rules of a stream that is present, if one is
 abbrev pub stream_fine : List ℕ → Descriptor → Verdict
-stream_fine m d = only (present d.cmdsize) (stream-rules d.cmdsize (stream-header m d.cmd))
+stream_fine m d = only (present d.cmdsize) (stream_rules d.cmdsize (stream_header m d.cmd))
 
 -- of the ranges that a descriptor names: the table's header, and the stream's if the table's is good
 pub record RangesRead (m m' : List ℕ) (d : Descriptor) : Type 0 where
-  pub table : table_header_size ≤ d.tablesize → table-header m d.table ≡ table-header m' d.table
-  pub stream : table_fine m d ≡ Fine → stream_header_size ≤ d.cmdsize → stream-header m d.cmd ≡ stream-header m' d.cmd
+  pub table : table_header_size ≤ d.tablesize → table_header m d.table ≡ table_header m' d.table
+  pub stream : table_fine m d ≡ Fine → stream_header_size ≤ d.cmdsize → stream_header m d.cmd ≡ stream_header m' d.cmd
 
 -- of a slot: its descriptor, and the ranges if 11 and 12 let them pass
 pub record SlotRead (m m' : List ℕ) (at stride : ℕ) : Type 0 where
   pub slot : descriptor m at ≡ descriptor m' at
-  pub ranges : descriptor-rules stride (descriptor m at) ≡ Fine → range-rules (length m) (descriptor m at) ≡ Fine → RangesRead m m' (descriptor m at)
+  pub ranges : descriptor_rules stride (descriptor m at) ≡ Fine → range_rules (length m) (descriptor m at) ≡ Fine → RangesRead m m' (descriptor m at)
 
 -- of a ring: its header if it lies within memory and is no smaller than that, and the head's slot if the header is good and a submission is pending
 pub record OpeningRead (m m' : List ℕ) (ring size : ℕ) : Type 0 where
-  pub header : ring_header_size ≤ size → ring + size ≤ length m → ring-header m ring ≡ ring-header m' ring
-  pub pending : good-ring m ring size ≡ true → ((ring-header m ring).head ≡ (ring-header m ring).tail → ⊥)
-      → SlotRead m m' (slot_place ring (ring-header m ring)) (ring-header m ring).stride
+  pub header : ring_header_size ≤ size → ring + size ≤ length m → ring_header m ring ≡ ring_header m' ring
+  pub pending : good_ring m ring size ≡ true → ((ring_header m ring).head ≡ (ring_header m ring).tail → ⊥)
+      → SlotRead m m' (slot_place ring (ring_header m ring)) (ring_header m ring).stride
 
 -- ---- a header that a descriptor leads to, the table's or the stream's: a range that is too small for it is refused without a look at it
 
@@ -67,41 +67,41 @@ module _ {H : Type 0} (rules : H → Verdict) (code least size : ℕ) (small : l
       by_tests a false t k = rw (same (ltb-false size least t))
       by_tests false true t k = refl
 
-small-table : (size : ℕ) → ltb size table_header_size ≡ true → (h : TableHeader) → header-rules size h ≡ Broken (refusal bad_table)
-unfolding header-rules wrong-header
+small-table : (size : ℕ) → ltb size table_header_size ≡ true → (h : TableHeader) → header_rules size h ≡ Broken (refusal bad_table)
+unfolding header_rules wrong_header
 small-table size t h = rw t
 
-small-stream : (size : ℕ) → ltb size stream_header_size ≡ true → (h : StreamHeader) → stream-rules size h ≡ Broken (refusal bad_stream)
-unfolding stream-rules wrong-header
+small-stream : (size : ℕ) → ltb size stream_header_size ≡ true → (h : StreamHeader) → stream_rules size h ≡ Broken (refusal bad_stream)
+unfolding stream_rules wrong_header
 small-stream size t h = rw t
 
 -- ---- a submission
 
 module _ (m m' : List ℕ) (d : Descriptor) (same : RangesRead m m' d) where
-  table_same : table_header_size ≤ d.tablesize → table-header m d.table ≡ table-header m' d.table
+  table_same : table_header_size ≤ d.tablesize → table_header m d.table ≡ table_header m' d.table
   table_same h = same.table h
 
-  stream-same : table_fine m d ≡ Fine → stream_header_size ≤ d.cmdsize → stream-header m d.cmd ≡ stream-header m' d.cmd
+  stream-same : table_fine m d ≡ Fine → stream_header_size ≤ d.cmdsize → stream_header m d.cmd ≡ stream_header m' d.cmd
   stream-same f h = same.stream f h
 
   pub same-table-rules : table_fine m d ≡ table_fine m' d
   same-table-rules =
-      same-rules (header-rules d.tablesize) bad_table table_header_size d.tablesize (small-table d.tablesize)
-      (table-header m d.table) (table-header m' d.table) table_same
+      same-rules (header_rules d.tablesize) bad_table table_header_size d.tablesize (small-table d.tablesize)
+      (table_header m d.table) (table_header m' d.table) table_same
 
   same-stream-rules : table_fine m d ≡ Fine → stream_fine m d ≡ stream_fine m' d
   same-stream-rules f =
-      same-rules (stream-rules d.cmdsize) bad_stream stream_header_size d.cmdsize (small-stream d.cmdsize)
-      (stream-header m d.cmd) (stream-header m' d.cmd) (stream-same f)
+      same-rules (stream_rules d.cmdsize) bad_stream stream_header_size d.cmdsize (small-stream d.cmdsize)
+      (stream_header m d.cmd) (stream_header m' d.cmd) (stream-same f)
 
   same-opened : (j : Job) → table_fine m d ≡ Fine → stream_fine m d ≡ Fine → opened_of m j d ≡ opened_of m' j d
   same-opened j f g =
       let t =
-      same_kept (header-rules d.tablesize) bad_table table_header_size d.tablesize (small-table d.tablesize)
-      (table-header m d.table) (table-header m' d.table) table_same (checked_table d.table) no_table f in
+      same_kept (header_rules d.tablesize) bad_table table_header_size d.tablesize (small-table d.tablesize)
+      (table_header m d.table) (table_header m' d.table) table_same (checked_table d.table) no_table f in
       let s =
-      same_kept (stream-rules d.cmdsize) bad_stream stream_header_size d.cmdsize (small-stream d.cmdsize)
-      (stream-header m d.cmd) (stream-header m' d.cmd) (stream-same f) (stream_of d.cmd) no_stream g in
+      same_kept (stream_rules d.cmdsize) bad_stream stream_header_size d.cmdsize (small-stream d.cmdsize)
+      (stream_header m d.cmd) (stream_header m' d.cmd) (stream-same f) (stream_of d.cmd) no_stream g in
       rw (t, s)
 
   -- the rules of both, and what is concluded of them
@@ -118,12 +118,12 @@ module _ (m m' : List ℕ) (d : Descriptor) (same : RangesRead m m' d) where
 
 module _ (m m' : List ℕ) (len : length m ≡ length m') where
   same-submission : (stride : ℕ) (j : Job) (d : Descriptor)
-      → (descriptor-rules stride d ≡ Fine → range-rules (length m) d ≡ Fine → RangesRead m m' d)
-      → submission-opening m stride j d ≡ submission-opening m' stride j d
-  unfolding submission-opening submission-rules
-  same-submission stride j d same = rw (← len) (by-verdicts (descriptor-rules stride d) (range-rules (length m) d) refl refl)
+      → (descriptor_rules stride d ≡ Fine → range_rules (length m) d ≡ Fine → RangesRead m m' d)
+      → submission_opening m stride j d ≡ submission_opening m' stride j d
+  unfolding submission_opening submission_rules
+  same-submission stride j d same = rw (← len) (by-verdicts (descriptor_rules stride d) (range_rules (length m) d) refl refl)
     where
-      by-verdicts : (u v : Verdict) → descriptor-rules stride d ≡ u → range-rules (length m) d ≡ v
+      by-verdicts : (u v : Verdict) → descriptor_rules stride d ≡ u → range_rules (length m) d ≡ v
           → concluded (u ▹ v ▹ table_fine m d ▹ stream_fine m d) j (opened_of m j d) ≡ concluded (u ▹ v ▹ table_fine m' d ▹ stream_fine m' d) j (opened_of m' j d)
       by-verdicts Fine Fine p q = same-concluded m m' d (same p q) j
       by-verdicts Fine (Broken r) p q = refl
@@ -133,35 +133,35 @@ module _ (m m' : List ℕ) (len : length m ≡ length m') where
 
   module _ (ring size : ℕ) (same : OpeningRead m m' ring size) where
     abbrev header : RingHeader
-    header = ring-header m ring
+    header = ring_header m ring
 
-    pub same_good : good-ring m ring size ≡ good-ring m' ring size
-    unfolding good-ring
+    pub same_good : good_ring m ring size ≡ good_ring m' ring size
+    unfolding good_ring
     same_good = rw (← len) (by_tests (leb ring_header_size size) (leb (ring + size) (length m)) refl refl)
       where
         by_tests : (a b : Bool) → leb ring_header_size size ≡ a → leb (ring + size) (length m) ≡ b
-            → a && (b && good-header size (ring-header m ring)) ≡ a && (b && good-header size (ring-header m' ring))
+            → a && (b && good_header size (ring_header m ring)) ≡ a && (b && good_header size (ring_header m' ring))
         by_tests true true p q =
-            ap (good-header size) (same.header (leb-true ring_header_size size p) (leb-true (ring + size) (length m) q))
+            ap (good_header size) (same.header (leb-true ring_header_size size p) (leb-true (ring + size) (length m) q))
         by_tests true false p q = refl
         by_tests false b p q = refl
 
-    module _ (good : good-ring m ring size ≡ true) where
-      pub same-header : header ≡ ring-header m' ring
-      unfolding good-ring
+    module _ (good : good_ring m ring size ≡ true) where
+      pub same-header : header ≡ ring_header m' ring
+      unfolding good_ring
       same-header =
           same.header (leb-true ring_header_size size (both_left _ _ good))
           (leb-true (ring + size) (length m) (both_left _ _ (both_right (leb ring_header_size size) _ good)))
 
-      same-slot : ring-opening m ring header ≡ ring-opening m' ring header
-      unfolding ring-opening
+      same-slot : ring_opening m ring header ≡ ring_opening m' ring header
+      unfolding ring_opening
       same-slot = by_test (eqb header.head header.tail) refl
         where
           place : ℕ
           place = slot_place ring header
 
           opened : List ℕ → Descriptor → Opening
-          opened l d = submission-opening l header.stride (job_of ring header d) d
+          opened l d = submission_opening l header.stride (job_of ring header d) d
 
           by_test : (t : Bool) → eqb header.head header.tail ≡ t
               → pick t NoWork (opened m (descriptor m place)) ≡ pick t NoWork (opened m' (descriptor m' place))
@@ -174,8 +174,8 @@ module _ (m m' : List ℕ) (len : length m ≡ length m') where
     -- the same opening, whatever the other bytes are
     pub read-opening : opening_of m ring size ≡ opening_of m' ring size
     unfolding opening_of
-    read-opening = rw (← same_good) (by_test (good-ring m ring size) refl)
+    read-opening = rw (← same_good) (by_test (good_ring m ring size) refl)
       where
-        by_test : (t : Bool) → good-ring m ring size ≡ t → pick t (ring-opening m ring header) BadRing ≡ pick t (ring-opening m' ring (ring-header m' ring)) BadRing
-        by_test true t = same-slot t ∙ ap (ring-opening m' ring) (same-header t)
+        by_test : (t : Bool) → good_ring m ring size ≡ t → pick t (ring_opening m ring header) BadRing ≡ pick t (ring_opening m' ring (ring_header m' ring)) BadRing
+        by_test true t = same-slot t ∙ ap (ring_opening m' ring) (same-header t)
         by_test false t = refl

@@ -5,11 +5,11 @@ use Rattle.std.proofs.Common.{add-zero, arith}
 use Rattle.machine.specs.Machine.{pick}
 use Rattle.rules.specs.Numbers.{create_buffer, create_texture, destroy, dirty_range, copy_buffer, set_target, set_viewport, set_scissor, clear, export_surface, import_surface, release_token, create_buffer_size, create_texture_size, destroy_size, dirty_range_size, copy_buffer_size, set_target_size, set_viewport_size, set_scissor_size, clear_size, export_surface_size, import_surface_size, release_token_size}
 use Rattle.rules.specs.Fields.{Field, width_of}
-use Rattle.rules.specs.Layouts.{ring-header, ring_header_size, ring_header_layout, descriptor, descriptor_size, descriptor_layout, table-header, table_header_size, table_header_layout, entry, entry_size, entry_layout, stream-header, stream_header_size, stream_header_layout, buffer_layout, texture_layout, destroy_layout, dirty_layout, copy_layout, target_layout, viewport_layout, scissor_layout, clear_layout, share_layout, release_layout, buffer-fields, texture-fields, destroy-fields, dirty-fields, copy-fields, target-fields, viewport_floats, viewport-fields, scissor-fields, clear_floats, clear-fields, export-fields, import-fields, release-fields}
+use Rattle.rules.specs.Layouts.{ring_header, ring_header_size, ring_header_layout, descriptor, descriptor_size, descriptor_layout, table_header, table_header_size, table_header_layout, entry, entry_size, entry_layout, stream_header, stream_header_size, stream_header_layout, buffer_layout, texture_layout, destroy_layout, dirty_layout, copy_layout, target_layout, viewport_layout, scissor_layout, clear_layout, share_layout, release_layout, buffer_fields, texture_fields, destroy_fields, dirty_fields, copy_fields, target_fields, viewport_floats, viewport_fields, scissor_fields, clear_floats, clear_fields, export_fields, import_fields, release_fields}
 use Rattle.rules.specs.Lists.{Found}
 use Rattle.rules.specs.Lists.Found.{none}
-use Rattle.rules.specs.Stream.{Known, row, unless_nan, known, bytes_in, says_in, least_size, packet-of}
-use Rattle.rules.specs.Listed.{Named, placed, layout_in, packet-layout}
+use Rattle.rules.specs.Stream.{Known, row, unless_nan, known, bytes_in, says_in, least_size, packet_of}
+use Rattle.rules.specs.Listed.{Named, placed, layout_in, packet_layout}
 use Rattle.rules.specs.declared.Packet.TheVariants.{Buffer, Texture, Destroy, Dirty, Copy, Target, Viewport, Scissor, Clear, Export, Import, Release}
 use Rattle.promises_of_packets.specs.Held.{Every}
 use Rattle.promises_of_submissions.specs.LocalBytes.{Agree, agree-within}
@@ -39,11 +39,11 @@ module _ (m m' : List ℕ) (at : ℕ) where
   first : (w : ℕ) → Agree m m' (at + 0) w → Agree m m' at w
   first w s = rw add-zero at s
 
-  pub named-ring-header : AgreeOn m m' (placed at ring_header_layout) → ring-header m at ≡ ring-header m' at
-  unfolding Every placed ring-header
+  pub named-ring-header : AgreeOn m m' (placed at ring_header_layout) → ring_header m at ≡ ring_header m' at
+  unfolding Every placed ring_header
   named-ring-header s = let f = first 4 s.0 in cc
 
-  pub same-ring-header : Agree m m' at ring_header_size → ring-header m at ≡ ring-header m' at
+  pub same-ring-header : Agree m m' at ring_header_size → ring_header m at ≡ ring_header m' at
   unfolding Every
   same-ring-header s = named-ring-header (agree-placed m m' at ring_header_size s ring_header_layout (search arith))
 
@@ -55,11 +55,11 @@ module _ (m m' : List ℕ) (at : ℕ) where
   unfolding Every
   same-descriptor s = named-descriptor (agree-placed m m' at descriptor_size s descriptor_layout (search arith))
 
-  pub named-table-header : AgreeOn m m' (placed at table_header_layout) → table-header m at ≡ table-header m' at
-  unfolding Every placed table-header
+  pub named-table-header : AgreeOn m m' (placed at table_header_layout) → table_header m at ≡ table_header m' at
+  unfolding Every placed table_header
   named-table-header s = let f = first 4 s.0 in cc
 
-  pub same-table-header : Agree m m' at table_header_size → table-header m at ≡ table-header m' at
+  pub same-table-header : Agree m m' at table_header_size → table_header m at ≡ table_header m' at
   unfolding Every
   same-table-header s = named-table-header (agree-placed m m' at table_header_size s table_header_layout (search arith))
 
@@ -71,11 +71,11 @@ module _ (m m' : List ℕ) (at : ℕ) where
   unfolding Every
   same-entry s = named-entry (agree-placed m m' at entry_size s entry_layout (search arith))
 
-  pub named-stream-header : AgreeOn m m' (placed at stream_header_layout) → stream-header m at ≡ stream-header m' at
-  unfolding Every placed stream-header
+  pub named-stream-header : AgreeOn m m' (placed at stream_header_layout) → stream_header m at ≡ stream_header m' at
+  unfolding Every placed stream_header
   named-stream-header s = let f = first 4 s.0 in cc
 
-  pub same-stream-header : Agree m m' at stream_header_size → stream-header m at ≡ stream-header m' at
+  pub same-stream-header : Agree m m' at stream_header_size → stream_header m at ≡ stream_header m' at
   unfolding Every
   same-stream-header s = named-stream-header (agree-placed m m' at stream_header_size s stream_header_layout (search arith))
 
@@ -91,52 +91,52 @@ reads-pick : {f g : Found Known} (t : Bool) → ReadsNamed f → ReadsNamed g �
 reads-pick true p q = p
 reads-pick false p q = q
 
-buffer-reads : ReadsNamed (row "CreateBuffer" create_buffer_size buffer_layout (λ b. Buffer (buffer-fields b)))
-unfolding Every placed buffer-fields
+buffer-reads : ReadsNamed (row "CreateBuffer" create_buffer_size buffer_layout (λ b. Buffer (buffer_fields b)))
+unfolding Every placed buffer_fields
 buffer-reads = record { same = λ b b' s. cc; inside = search arith }
 
-texture-reads : ReadsNamed (row "CreateTexture" create_texture_size texture_layout (λ b. Texture (texture-fields b)))
-unfolding Every placed texture-fields
+texture-reads : ReadsNamed (row "CreateTexture" create_texture_size texture_layout (λ b. Texture (texture_fields b)))
+unfolding Every placed texture_fields
 texture-reads = record { same = λ b b' s. cc; inside = search arith }
 
-destroy-reads : ReadsNamed (row "Destroy" destroy_size destroy_layout (λ b. Destroy (destroy-fields b)))
-unfolding Every placed destroy-fields
+destroy-reads : ReadsNamed (row "Destroy" destroy_size destroy_layout (λ b. Destroy (destroy_fields b)))
+unfolding Every placed destroy_fields
 destroy-reads = record { same = λ b b' s. cc; inside = search arith }
 
-dirty-reads : ReadsNamed (row "DirtyRange" dirty_range_size dirty_layout (λ b. Dirty (dirty-fields b)))
-unfolding Every placed dirty-fields
+dirty-reads : ReadsNamed (row "DirtyRange" dirty_range_size dirty_layout (λ b. Dirty (dirty_fields b)))
+unfolding Every placed dirty_fields
 dirty-reads = record { same = λ b b' s. cc; inside = search arith }
 
-copy-reads : ReadsNamed (row "CopyBuffer" copy_buffer_size copy_layout (λ b. Copy (copy-fields b)))
-unfolding Every placed copy-fields
+copy-reads : ReadsNamed (row "CopyBuffer" copy_buffer_size copy_layout (λ b. Copy (copy_fields b)))
+unfolding Every placed copy_fields
 copy-reads = record { same = λ b b' s. cc; inside = search arith }
 
-target-reads : ReadsNamed (row "Target" set_target_size target_layout (λ b. Target (target-fields b)))
-unfolding Every placed target-fields
+target-reads : ReadsNamed (row "Target" set_target_size target_layout (λ b. Target (target_fields b)))
+unfolding Every placed target_fields
 target-reads = record { same = λ b b' s. cc; inside = search arith }
 
-viewport-reads : ReadsNamed (row "Viewport" set_viewport_size viewport_layout (λ b. unless_nan (viewport_floats b) (Viewport (viewport-fields b))))
-unfolding Every placed viewport-fields
+viewport-reads : ReadsNamed (row "Viewport" set_viewport_size viewport_layout (λ b. unless_nan (viewport_floats b) (Viewport (viewport_fields b))))
+unfolding Every placed viewport_fields
 viewport-reads = record { same = λ b b' s. cc; inside = search arith }
 
-scissor-reads : ReadsNamed (row "Scissor" set_scissor_size scissor_layout (λ b. Scissor (scissor-fields b)))
-unfolding Every placed scissor-fields
+scissor-reads : ReadsNamed (row "Scissor" set_scissor_size scissor_layout (λ b. Scissor (scissor_fields b)))
+unfolding Every placed scissor_fields
 scissor-reads = record { same = λ b b' s. cc; inside = search arith }
 
-clear_reads : ReadsNamed (row "Clear" clear_size clear_layout (λ b. unless_nan (clear_floats b) (Clear (clear-fields b))))
-unfolding Every placed clear-fields
+clear_reads : ReadsNamed (row "Clear" clear_size clear_layout (λ b. unless_nan (clear_floats b) (Clear (clear_fields b))))
+unfolding Every placed clear_fields
 clear_reads = record { same = λ b b' s. cc; inside = search arith }
 
-export-reads : ReadsNamed (row "Export" export_surface_size share_layout (λ b. Export (export-fields b)))
-unfolding Every placed export-fields
+export-reads : ReadsNamed (row "Export" export_surface_size share_layout (λ b. Export (export_fields b)))
+unfolding Every placed export_fields
 export-reads = record { same = λ b b' s. cc; inside = search arith }
 
-import-reads : ReadsNamed (row "Import" import_surface_size share_layout (λ b. Import (import-fields b)))
-unfolding Every placed import-fields
+import-reads : ReadsNamed (row "Import" import_surface_size share_layout (λ b. Import (import_fields b)))
+unfolding Every placed import_fields
 import-reads = record { same = λ b b' s. cc; inside = search arith }
 
-release-reads : ReadsNamed (row "Release" release_token_size release_layout (λ b. Release (release-fields b)))
-unfolding Every placed release-fields
+release-reads : ReadsNamed (row "Release" release_token_size release_layout (λ b. Release (release_fields b)))
+unfolding Every placed release_fields
 release-reads = record { same = λ b b' s. cc; inside = search arith }
 
 none_reads : ReadsNamed none
@@ -160,20 +160,20 @@ known-reads op =
     (reads-pick (eqb op release_token) release-reads none_reads)))))))))))
 
 -- a packet says the same whatever the bytes outside its named fields are, and an unknown one whatever its bytes are
-pub named-packet : (op : ℕ) (b b' : List ℕ) → AgreeOn b b' (placed 0 (packet-layout op)) → packet-of op b ≡ packet-of op b'
-unfolding packet-of packet-layout
+pub named-packet : (op : ℕ) (b b' : List ℕ) → AgreeOn b b' (placed 0 (packet_layout op)) → packet_of op b ≡ packet_of op b'
+unfolding packet_of packet_layout
 named-packet op b b' s = (known-reads op).same b b' s
 
 -- and its fields lie in the bytes that it has at least
-pub named-inside : (op : ℕ) → Ends (least_size op) (packet-layout op)
-unfolding least_size packet-layout
+pub named-inside : (op : ℕ) → Ends (least_size op) (packet_layout op)
+unfolding least_size packet_layout
 named-inside op = (known-reads op).inside
 
 -- an unknown one has none
-pub unknown-names-nothing : (op : ℕ) → known op ≡ none → packet-layout op ≡ []
-unfolding packet-layout
+pub unknown-names-nothing : (op : ℕ) → known op ≡ none → packet_layout op ≡ []
+unfolding packet_layout
 unknown-names-nothing op e = rw e
 
 -- so it says the same whatever the bytes past its row's are
-pub packet-reads-only : (op : ℕ) (b b' : List ℕ) → Agree b b' 0 (least_size op) → packet-of op b ≡ packet-of op b'
-packet-reads-only op b b' same = named-packet op b b' (agree-placed b b' 0 (least_size op) same (packet-layout op) (named-inside op))
+pub packet-reads-only : (op : ℕ) (b b' : List ℕ) → Agree b b' 0 (least_size op) → packet_of op b ≡ packet_of op b'
+packet-reads-only op b b' same = named-packet op b b' (agree-placed b b' 0 (least_size op) same (packet_layout op) (named-inside op))

@@ -12,15 +12,15 @@ use Rattle.machine.specs.Machine.{pick, Out, spent, run-go, sliced}
 use Rattle.rules.specs.Numbers.{most, outside_memory}
 use Rattle.rules.specs.Judging.{rule, only, Finding}
 use Rattle.rules.specs.Judging.Finding.{fine, broken}
-use Rattle.rules.specs.Layouts.{ring-header, descriptor, table-header, entry_size, stream-header, stream_header_size}
-use Rattle.rules.specs.Table.{Judged, header-rules, in_reach, entries_of, judge-entries}
-use Rattle.rules.specs.Stream.{stream-rules, stream_bytes, packets_of}
-use Rattle.rules.specs.Ring.{present, descriptor-rules, range-rules, submission-rules, opened_of, concluded, job_of, slot_place, submission-opening, good-ring, ring-opening, opening_of}
+use Rattle.rules.specs.Layouts.{ring_header, descriptor, table_header, entry_size, stream_header, stream_header_size}
+use Rattle.rules.specs.Table.{Judged, header_rules, in_reach, entries_of, judge_entries}
+use Rattle.rules.specs.Stream.{stream_rules, stream_bytes, packets_of}
+use Rattle.rules.specs.Ring.{present, descriptor_rules, range_rules, submission_rules, opened_of, concluded, job_of, slot_place, submission_opening, good_ring, ring_opening, opening_of}
 use Rattle.rules.specs.Packets.{Progress, at_first}
 use Rattle.rules.specs.State.{World}
 use Rattle.rules.specs.State.Work.{resting}
 use Rattle.rules.specs.Steps.{after_opening, open_step, step, go, run_for}
-use Rattle.rules.specs.Unsliced.{Reckoned, judge-packets, after_entries, submission, finished, concluding, submitted_on, submitted}
+use Rattle.rules.specs.Unsliced.{Reckoned, judge_packets, after_entries, submission, finished, concluding, submitted_on, submitted}
 use Rattle.rules.specs.declared.Descriptor.{Descriptor}
 use Rattle.rules.specs.declared.Entry.{Entry}
 use Rattle.rules.specs.declared.Job.{Job}
@@ -54,55 +54,55 @@ part_length m at n h = length-take-le n (drop at m) (omega (arith, length-drop a
 row_inside : (i n stride : ℕ) → i < n → entry_size ≤ stride → i * stride + entry_size ≤ n * stride
 row_inside i n stride h big = omega (arith, mul-le-mul_right stride h)
 
-module _ (m : List ℕ) (j : Job) (d : Descriptor) (stride : ℕ) (good : submission-rules m stride d ≡ Fine) where
-  ranges-fine : range-rules (length m) d ≡ Fine
-  unfolding submission-rules
-  ranges-fine = fine-first _ _ (fine-later (descriptor-rules stride d) _ good)
+module _ (m : List ℕ) (j : Job) (d : Descriptor) (stride : ℕ) (good : submission_rules m stride d ≡ Fine) where
+  ranges-fine : range_rules (length m) d ≡ Fine
+  unfolding submission_rules
+  ranges-fine = fine-first _ _ (fine-later (descriptor_rules stride d) _ good)
 
-  header-fine : only (present d.tablesize) (header-rules d.tablesize (table-header m d.table)) ≡ Fine
-  unfolding submission-rules
-  header-fine = fine-first _ _ (fine-later (range-rules (length m) d) _ (fine-later (descriptor-rules stride d) _ good))
+  header-fine : only (present d.tablesize) (header_rules d.tablesize (table_header m d.table)) ≡ Fine
+  unfolding submission_rules
+  header-fine = fine-first _ _ (fine-later (range_rules (length m) d) _ (fine-later (descriptor_rules stride d) _ good))
 
-  stream_fine : only (present d.cmdsize) (stream-rules d.cmdsize (stream-header m d.cmd)) ≡ Fine
-  unfolding submission-rules
-  stream_fine = fine-later (only (present d.tablesize) (header-rules d.tablesize (table-header m d.table))) _ (fine-later (range-rules (length m) d) _ (fine-later (descriptor-rules stride d) _ good))
+  stream_fine : only (present d.cmdsize) (stream_rules d.cmdsize (stream_header m d.cmd)) ≡ Fine
+  unfolding submission_rules
+  stream_fine = fine-later (only (present d.tablesize) (header_rules d.tablesize (table_header m d.table))) _ (fine-later (range_rules (length m) d) _ (fine-later (descriptor_rules stride d) _ good))
 
   cmd-inside : present d.cmdsize ≡ true → d.cmd + d.cmdsize ≤ length m
-  unfolding range-rules
+  unfolding range_rules
   cmd-inside p = ltb-false (length m) (d.cmd + d.cmdsize) (kept_rule outside_memory _ (kept-only (present d.cmdsize) _ p (fine-first _ _ ranges-fine)))
 
   table-inside : present d.tablesize ≡ true → d.table + d.tablesize ≤ length m
-  unfolding range-rules
+  unfolding range_rules
   table-inside p =
       ltb-false (length m) (d.table + d.tablesize)
       (kept_rule outside_memory _ (kept-only (present d.tablesize) _ p (fine-later (only (present d.cmdsize) (rule outside_memory (ltb (length m) (d.cmd + d.cmdsize)))) _ ranges-fine)))
 
   abbrev kept_table : Bool → Table
-  kept_table t = pick t (record { gpa = d.table; count = (table-header m d.table).count; stride = (table-header m d.table).stride }) (record { gpa = 0; count = 0; stride = 0 })
+  kept_table t = pick t (record { gpa = d.table; count = (table_header m d.table).count; stride = (table_header m d.table).stride }) (record { gpa = 0; count = 0; stride = 0 })
 
   abbrev kept_stream : Bool → Stream
-  kept_stream t = pick t (record { gpa = d.cmd; size = (stream-header m d.cmd).size }) (record { gpa = 0; size = 0 })
+  kept_stream t = pick t (record { gpa = d.cmd; size = (stream_header m d.cmd).size }) (record { gpa = 0; size = 0 })
 
   table-few : (t : Bool) → present d.tablesize ≡ t → (kept_table t).count ≤ most
-  table-few true p = (fine-sized d.tablesize (table-header m d.table) (kept-only (present d.tablesize) _ p header-fine)).few
+  table-few true p = (fine-sized d.tablesize (table_header m d.table) (kept-only (present d.tablesize) _ p header-fine)).few
   table-few false p = omega arith
 
   table-reach : (t : Bool) → present d.tablesize ≡ t → (i : ℕ) → i < (kept_table t).count → in_reach m (kept_table t) i ≡ true
   table-reach true p i h =
-      let g : Sized d.tablesize (table-header m d.table) = fine-sized d.tablesize (table-header m d.table) (kept-only (present d.tablesize) _ p header-fine) in
+      let g : Sized d.tablesize (table_header m d.table) = fine-sized d.tablesize (table_header m d.table) (kept-only (present d.tablesize) _ p header-fine) in
       let few : i < most = omega (arith, g.few) in
-      let fits : d.table + (24 + i * (table-header m d.table).stride) + 32 ≤ length m =
-      omega (arith, table-inside p, g.room, row_inside i (table-header m d.table).count (table-header m d.table).stride h g.wide) in
+      let fits : d.table + (24 + i * (table_header m d.table).stride) + 32 ≤ length m =
+      omega (arith, table-inside p, g.room, row_inside i (table_header m d.table).count (table_header m d.table).stride h g.wide) in
       rw (lt-ltb i most few, le-leb _ _ fits)
   table-reach false p i h = absurd (omega arith)
 
   stream-long : (t : Bool) → present d.cmdsize ≡ t → length (stream_bytes m (kept_stream t)) ≡ (kept_stream t).size
   stream-long true p =
-      part_length m d.cmd (stream-header m d.cmd).size (omega (arith, cmd-inside p, (stream-sound d.cmdsize (stream-header m d.cmd) (kept-only (present d.cmdsize) _ p stream_fine)).inside))
+      part_length m d.cmd (stream_header m d.cmd).size (omega (arith, cmd-inside p, (stream-sound d.cmdsize (stream_header m d.cmd) (kept-only (present d.cmdsize) _ p stream_fine)).inside))
   stream-long false p = part_length m 0 0 (omega arith)
 
   stream-short : (t : Bool) → OfBytes m → (kept_stream t).size < 2 ^ 32
-  unfolding stream-header
+  unfolding stream_header
   stream-short true b = word_fits m (d.cmd + 8) b
   stream-short false b = omega arith
 
@@ -122,7 +122,7 @@ LiesOn m NoWork = 0 ≤ length m
 LiesOn m (Refused j r) = 0 ≤ length m
 LiesOn m (Started o) = Lies m o
 
-concluded-lies : (m : List ℕ) (j : Job) (d : Descriptor) (stride : ℕ) (v : Verdict) → submission-rules m stride d ≡ v → LiesOn m (concluded v j (opened_of m j d))
+concluded-lies : (m : List ℕ) (j : Job) (d : Descriptor) (stride : ℕ) (v : Verdict) → submission_rules m stride d ≡ v → LiesOn m (concluded v j (opened_of m j d))
 concluded-lies m j d stride Fine e = started-lies m j d stride e
 concluded-lies m j d stride (Broken r) e = omega arith
 
@@ -132,21 +132,21 @@ pick-lies m false x y p q = q
 
 module _ (m : List ℕ) (ring : ℕ) where
   abbrev head_slot : Descriptor
-  head_slot = descriptor m (slot_place ring (ring-header m ring))
+  head_slot = descriptor m (slot_place ring (ring_header m ring))
 
   abbrev head_job : Job
-  head_job = job_of ring (ring-header m ring) head_slot
+  head_job = job_of ring (ring_header m ring) head_slot
 
-  ring-lies : LiesOn m (ring-opening m ring (ring-header m ring))
-  unfolding ring-opening submission-opening
+  ring-lies : LiesOn m (ring_opening m ring (ring_header m ring))
+  unfolding ring_opening submission_opening
   ring-lies =
-      pick-lies m (eqb (ring-header m ring).head (ring-header m ring).tail) NoWork
-      (concluded (submission-rules m (ring-header m ring).stride head_slot) head_job (opened_of m head_job head_slot)) (omega arith)
-      (concluded-lies m head_job head_slot (ring-header m ring).stride (submission-rules m (ring-header m ring).stride head_slot) refl)
+      pick-lies m (eqb (ring_header m ring).head (ring_header m ring).tail) NoWork
+      (concluded (submission_rules m (ring_header m ring).stride head_slot) head_job (opened_of m head_job head_slot)) (omega arith)
+      (concluded-lies m head_job head_slot (ring_header m ring).stride (submission_rules m (ring_header m ring).stride head_slot) refl)
 
   pub opening-lies : (size : ℕ) → LiesOn m (opening_of m ring size)
   unfolding opening_of
-  opening-lies size = pick-lies m (good-ring m ring size) (ring-opening m ring (ring-header m ring)) BadRing ring-lies (omega arith)
+  opening-lies size = pick-lies m (good_ring m ring size) (ring_opening m ring (ring_header m ring)) BadRing ring-lies (omega arith)
 
 -- ---- from the opening on
 
@@ -177,10 +177,10 @@ module _ (w : World) (on : w.state.regs.enabled ≡ true) (o : Opened) (lies : L
 
   -- what the table and the packets are judged to be
   abbrev pub table_judged : Judged
-  table_judged = judge-entries (length w.mem) [] all
+  table_judged = judge_entries (length w.mem) [] all
 
   abbrev pub packets_judged : Reckoned
-  packets_judged = judge-packets all first (packets_of w.mem o.stream)
+  packets_judged = judge_packets all first (packets_of w.mem o.stream)
 
   stream-is : (v : Finding) (h : Progress) → after_stream w on o.job o.stream all lies.stream v h ≡ finished w o.job all h v
   stream-is fine h = refl

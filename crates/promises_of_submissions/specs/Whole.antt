@@ -10,16 +10,16 @@ use Rattle.rules.specs.Lists.{pushed}
 use Rattle.rules.specs.Judging.{Finding, at_place}
 use Rattle.rules.specs.Judging.Finding.{fine, broken}
 use Rattle.rules.specs.Layouts.{entry, stream_header_size}
-use Rattle.rules.specs.Table.{Judged, entry_place, entry-rules, keep, in_reach, take-entry, entries_from, stop_or_go, judge-entries}
-use Rattle.rules.specs.Stream.{frame-of, packet-of, size_of, before, cut, stream_bytes}
-use Rattle.rules.specs.Packets.{Progress, at_first, pass, pass_frame, take-packet}
-use Rattle.rules.specs.Unsliced.{Reckoned, one_further, judge-packets}
+use Rattle.rules.specs.Table.{Judged, entry_place, entry_rules, keep, in_reach, take_entry, entries_from, stop_or_go, judge_entries}
+use Rattle.rules.specs.Stream.{frame_of, packet_of, size_of, before, cut, stream_bytes}
+use Rattle.rules.specs.Packets.{Progress, at_first, pass, pass_frame, take_packet}
+use Rattle.rules.specs.Unsliced.{Reckoned, one_further, judge_packets}
 use Rattle.stream_packets.specs.Framing.{FrameFits, frame-sound}
 use Rattle.stream_packets.specs.Listing.{cut-none, cut-next}
 use Rattle.rules.specs.State.{Work, World, working}
 use Rattle.rules.specs.State.Work.{resting, entries, packets, waiting}
 use Rattle.rules.specs.Settle.{settled, settled_keeping}
-use Rattle.rules.specs.Steps.{packets_at, entries_at, after_entry, entry-step, after_packet, next_place, packet_step, step, go, run_for}
+use Rattle.rules.specs.Steps.{packets_at, entries_at, after_entry, entry_step, after_packet, next_place, packet_step, step, go, run_for}
 use Rattle.rules.specs.declared.Entry.{Entry}
 use Rattle.rules.specs.declared.Job.{Job}
 use Rattle.rules.specs.declared.Stream.{Stream}
@@ -90,7 +90,7 @@ module _ (w : World) (on : w.state.regs.enabled ≡ true) (o : Opened) where
 
   -- the rules' word on it
   abbrev pub word_on : List Entry → Verdict
-  word_on kept = entry-rules (length w.mem) kept (next kept)
+  word_on kept = entry_rules (length w.mem) kept (next kept)
 
   -- what an entry comes to does not look at the work before it
   after-entry-on : (k : Work) (kept : List Entry) (v : Finding) → after_entry (working k w) o kept v ≡ after_entry w o kept v
@@ -108,7 +108,7 @@ module _ (w : World) (on : w.state.regs.enabled ≡ true) (o : Opened) where
       midst-entry = rw (lt-ltb (length kept) o.table.count more)
 
       step-entry : step (reading kept) ≡ after_entry w o (keep (word_on kept) kept (next kept)).kept (at_place (length kept) (keep (word_on kept) kept (next kept)).verdict)
-      unfolding step entry-step take-entry
+      unfolding step entry_step take_entry
       step-entry =
           rw (lt-ltb (length kept) o.table.count more, reach (length kept) more)
           (after-entry-on (entries o kept) (keep (word_on kept) kept (next kept)).kept (at_place (length kept) (keep (word_on kept) kept (next kept)).verdict))
@@ -123,15 +123,15 @@ module _ (w : World) (on : w.state.regs.enabled ≡ true) (o : Opened) where
 
     -- from the entries kept so far, n being left
     pub entries_end : (n i : ℕ) (kept : List Entry) → i ≡ length kept → i + n ≡ o.table.count
-        → Course (judge-entries (length w.mem) kept (entries_from w.mem o.table i n)).count (reading kept)
-        (after_table (judge-entries (length w.mem) kept (entries_from w.mem o.table i n)).finding (kept ++ entries_from w.mem o.table i n))
-    unfolding judge-entries entries_from
+        → Course (judge_entries (length w.mem) kept (entries_from w.mem o.table i n)).count (reading kept)
+        (after_table (judge_entries (length w.mem) kept (entries_from w.mem o.table i n)).finding (kept ++ entries_from w.mem o.table i n))
+    unfolding judge_entries entries_from
     entries_end zero i kept e h = rw (le-ltb (length kept) o.table.count (omega arith), append-nil) (course_none _)
     entries_end (suc n) i kept e h =
         let len : suc (length kept) ≡ length (pushed kept (next kept)) = simp length-append (omega arith) in
         rw e
         (at_entry kept (omega arith) (word_on kept) (entries_from w.mem o.table (suc (length kept)) n)
-        (judge-entries (length w.mem) (pushed kept (next kept)) (entries_from w.mem o.table (suc (length kept)) n))
+        (judge_entries (length w.mem) (pushed kept (next kept)) (entries_from w.mem o.table (suc (length kept)) n))
         (step-entry kept (omega arith)) (entries_end n (suc (length kept)) (pushed kept (next kept)) len (omega arith)))
 
 -- ---- the packets
@@ -166,14 +166,14 @@ module _ (w : World) (on : w.state.regs.enabled ≡ true) (j : Job) (s : Stream)
     midst-packet : midst (placed at h).state.work ≡ true
     midst-packet = rw (lt-ltb at s.size more)
 
-    step-packet : step (placed at h) ≡ after_packet w j s (next_place at (drop at bytes)) es (take-packet es h (drop at bytes)).held (at_place at (take-packet es h (drop at bytes)).verdict)
+    step-packet : step (placed at h) ≡ after_packet w j s (next_place at (drop at bytes)) es (take_packet es h (drop at bytes)).held (at_place at (take_packet es h (drop at bytes)).verdict)
     unfolding step packet_step
     step-packet =
         rw (lt-ltb at s.size more)
-        (after-packet-on (packets j s at es h) (next_place at (drop at bytes)) (take-packet es h (drop at bytes)).held (at_place at (take-packet es h (drop at bytes)).verdict))
+        (after-packet-on (packets j s at es h) (next_place at (drop at bytes)) (take_packet es h (drop at bytes)).held (at_place at (take_packet es h (drop at bytes)).verdict))
 
-    step-as-frame : step (placed at h) ≡ after_packet w j s (at + size_of (frame-of (drop at bytes))) es (pass_frame es h (drop at bytes) (frame-of (drop at bytes))).held (at_place at (pass_frame es h (drop at bytes) (frame-of (drop at bytes))).verdict)
-    unfolding take-packet
+    step-as-frame : step (placed at h) ≡ after_packet w j s (at + size_of (frame_of (drop at bytes))) es (pass_frame es h (drop at bytes) (frame_of (drop at bytes))).held (at_place at (pass_frame es h (drop at bytes) (frame_of (drop at bytes))).verdict)
+    unfolding take_packet
     step-as-frame = step-packet
 
     at_applied : (v : Verdict) (size : ℕ) (held : Progress) (q : Reckoned) → step (placed at h) ≡ after_packet w j s (at + size) es held (at_place at v)
@@ -184,35 +184,35 @@ module _ (w : World) (on : w.state.regs.enabled ≡ true) (j : Job) (s : Stream)
 
     at-frame : (k : ℕ) (f : Frame) → ((op size : ℕ) → f ≡ Whole op size → FrameFits (drop at bytes) op size)
         → step (placed at h) ≡ after_packet w j s (at + size_of f) es (pass_frame es h (drop at bytes) f).held (at_place at (pass_frame es h (drop at bytes) f).verdict)
-        → ((n : ℕ) (g : Progress) → at < n → n ≤ s.size → Reckons n g (judge-packets es g (cut k n (drop n bytes))))
-        → Reckons at h (judge-packets es h (before at f (drop at bytes) (cut k (at + size_of f) (drop (at + size_of f) bytes))))
-    unfolding judge-packets
+        → ((n : ℕ) (g : Progress) → at < n → n ≤ s.size → Reckons n g (judge_packets es g (cut k n (drop n bytes))))
+        → Reckons at h (judge_packets es h (before at f (drop at bytes) (cut k (at + size_of f) (drop (at + size_of f) bytes))))
+    unfolding judge_packets
     at-frame k (Whole op size) d st ih =
         let room : length (drop at bytes) ≡ s.size - at = length-drop at bytes ∙ rw len in
         let some : 8 ≤ size = (d op size refl).header in
         let fits : size ≤ length (drop at bytes) = (d op size refl).inside in
-        at_applied (pass es h (packet-of op (take size (drop at bytes)))).verdict size (pass es h (packet-of op (take size (drop at bytes)))).held
-        (judge-packets es (pass es h (packet-of op (take size (drop at bytes)))).held (cut k (at + size) (drop (at + size) bytes))) st
-        (ih (at + size) (pass es h (packet-of op (take size (drop at bytes)))).held (omega arith) (omega arith))
+        at_applied (pass es h (packet_of op (take size (drop at bytes)))).verdict size (pass es h (packet_of op (take size (drop at bytes)))).held
+        (judge_packets es (pass es h (packet_of op (take size (drop at bytes)))).held (cut k (at + size) (drop (at + size) bytes))) st
+        (ih (at + size) (pass es h (packet_of op (take size (drop at bytes)))).held (omega arith) (omega arith))
     at-frame k (Misframed r) d st ih = course_last (placed at h) _ go-packet st midst-packet
 
-  packets-none : (k at : ℕ) (h : Progress) → s.size ≤ at → Reckons at h (judge-packets es h (cut k at (drop at bytes)))
-  unfolding judge-packets
+  packets-none : (k at : ℕ) (h : Progress) → s.size ≤ at → Reckons at h (judge_packets es h (cut k at (drop at bytes)))
+  unfolding judge_packets
   packets-none k at h p =
       let gone : length bytes ≤ at = rw len p in
       rw (cut-none k bytes at gone, le-ltb at s.size p) (course_none _)
 
   -- from a place in the stream, k bounding what is left
-  pub packets-end : (k at : ℕ) (h : Progress) → s.size - at ≤ k → Reckons at h (judge-packets es h (cut k at (drop at bytes)))
+  pub packets-end : (k at : ℕ) (h : Progress) → s.size - at ≤ k → Reckons at h (judge_packets es h (cut k at (drop at bytes)))
   packets-end zero at h f = packets-none zero at h (omega arith)
   packets-end (suc k) at h f = by_test (ltb at s.size) refl (λ n g p q. packets-end k n g (omega arith))
     where
       by_test : (t : Bool) → ltb at s.size ≡ t
-          → ((n : ℕ) (g : Progress) → at < n → n ≤ s.size → Reckons n g (judge-packets es g (cut k n (drop n bytes))))
-          → Reckons at h (judge-packets es h (cut (suc k) at (drop at bytes)))
+          → ((n : ℕ) (g : Progress) → at < n → n ≤ s.size → Reckons n g (judge_packets es g (cut k n (drop n bytes))))
+          → Reckons at h (judge_packets es h (cut (suc k) at (drop at bytes)))
       by_test true t ih =
           let more : at < s.size = ltb-true at s.size t in
           let some : at < length bytes = rw len more in
           rw (cut-next k bytes at some)
-          (at-frame at h more k (frame-of (drop at bytes)) (frame-sound (drop at bytes)) (step-as-frame at h more) ih)
+          (at-frame at h more k (frame_of (drop at bytes)) (frame-sound (drop at bytes)) (step-as-frame at h more) ih)
       by_test false t ih = packets-none (suc k) at h (ltb-false at s.size t)

@@ -6,12 +6,12 @@ use Rattle.machine.specs.Machine.{pick, run_none, run-stop, run-go}
 use Rattle.rules.specs.Numbers.{done}
 use Rattle.rules.specs.State.{State, World, with_state, registering}
 use Rattle.rules.specs.Steps.{step, go, run_for, waits, answered}
-use Rattle.rules.specs.Calls.{Ran, call-run, call-answer}
+use Rattle.rules.specs.Calls.{Ran, call_run, call_answer}
 use Rattle.rules.specs.declared.Registers.{Registers}
 use Rattle.promises_of_packets.specs.Held.{Every}
 use Rattle.promises_of_units.specs.Writes.{resets, registers_written, write-is-by-registers}
 use Rattle.promises_of_units.specs.Runs.{of-run, of-answer}
-use Rattle.promises_of_units.specs.Called.{Call, after, units_of, taken-by, after-all, units-of-all, taken-by-all, is_reset}
+use Rattle.promises_of_units.specs.Called.{Call, after, units_of, taken_by, after_all, units_of_all, taken_by_all, is_reset}
 use Rattle.promises_of_units.specs.Called.Call.{writes, reads, runs, records, answers}
 
 -- one act of a device: a unit, a register written with a number, an answer taken
@@ -30,17 +30,17 @@ abbrev pub answer_acts : Bool → Ran → List Act
 answer_acts good r = pick (eqb r.answer done) (answer good ∷ in_a_row r.units) []
 
 -- the acts of one call: the register that it writes, the answer that it takes, then the units that it reports
-unfoldable pub acts-of : Call → World → List Act
-acts-of (writes offset v) w = write offset v ∷ []
-acts-of (reads offset) w = []
-acts-of (runs n) w = in_a_row (call-run w n).units
-acts-of (records i) w = []
-acts-of (answers good n) w = answer_acts good (call-answer w good n)
+unfoldable pub acts_of : Call → World → List Act
+acts_of (writes offset v) w = write offset v ∷ []
+acts_of (reads offset) w = []
+acts_of (runs n) w = in_a_row (call_run w n).units
+acts_of (records i) w = []
+acts_of (answers good n) w = answer_acts good (call_answer w good n)
 
 -- and of calls one after the other, each lent what the one before left
-unfoldable pub acts-of-all : List Call → World → List Act
-acts-of-all [] w = []
-acts-of-all (c ∷ cs) w = acts-of c w ++ acts-of-all cs (after c w)
+unfoldable pub acts_of_all : List Call → World → List Act
+acts_of_all [] w = []
+acts_of_all (c ∷ cs) w = acts_of c w ++ acts_of_all cs (after c w)
 
 -- ---- what acts come to
 
@@ -52,18 +52,18 @@ units_in (write offset v ∷ xs) = units_in xs
 units_in (answer good ∷ xs) = units_in xs
 
 -- the answers among them, in order
-unfoldable pub answers-in : List Act → List Bool
-answers-in [] = []
-answers-in (unit ∷ xs) = answers-in xs
-answers-in (write offset v ∷ xs) = answers-in xs
-answers-in (answer good ∷ xs) = good ∷ answers-in xs
+unfoldable pub answers_in : List Act → List Bool
+answers_in [] = []
+answers_in (unit ∷ xs) = answers_in xs
+answers_in (write offset v ∷ xs) = answers_in xs
+answers_in (answer good ∷ xs) = good ∷ answers_in xs
 
 -- what their writes make of the registers
-unfoldable pub registers-after : List Act → Registers → Registers
-registers-after [] r = r
-registers-after (unit ∷ xs) r = registers-after xs r
-registers-after (write offset v ∷ xs) r = registers-after xs (registers_written offset v r)
-registers-after (answer good ∷ xs) r = registers-after xs r
+unfoldable pub registers_after : List Act → Registers → Registers
+registers_after [] r = r
+registers_after (unit ∷ xs) r = registers_after xs r
+registers_after (write offset v ∷ xs) r = registers_after xs (registers_written offset v r)
+registers_after (answer good ∷ xs) r = registers_after xs r
 
 -- the units of some acts and then others are the sum
 pub units-in-both : (xs ys : List Act) → units_in (xs ++ ys) ≡ units_in xs + units_in ys
@@ -74,8 +74,8 @@ units-in-both (write offset v ∷ xs) ys = units-in-both xs ys
 units-in-both (answer good ∷ xs) ys = units-in-both xs ys
 
 -- and the answers are those of the first and then those of the others
-pub answers-in-both : (xs ys : List Act) → answers-in (xs ++ ys) ≡ answers-in xs ++ answers-in ys
-unfolding answers-in
+pub answers-in-both : (xs ys : List Act) → answers_in (xs ++ ys) ≡ answers_in xs ++ answers_in ys
+unfolding answers_in
 answers-in-both [] ys = refl
 answers-in-both (unit ∷ xs) ys = answers-in-both xs ys
 answers-in-both (write offset v ∷ xs) ys = answers-in-both xs ys
@@ -88,43 +88,43 @@ unfolding units_in in_a_row
 row-units zero = refl
 row-units (suc n) = ap suc (row-units n)
 
-row-answers : (n : ℕ) → answers-in (in_a_row n) ≡ []
-unfolding answers-in in_a_row
+row-answers : (n : ℕ) → answers_in (in_a_row n) ≡ []
+unfolding answers_in in_a_row
 row-answers zero = refl
 row-answers (suc n) = row-answers n
 
-call-units : (c : Call) (w : World) → units_in (acts-of c w) ≡ units_of c w
-unfolding units_in acts-of units_of
+call-units : (c : Call) (w : World) → units_in (acts_of c w) ≡ units_of c w
+unfolding units_in acts_of units_of
 call-units (writes offset v) w = refl
 call-units (reads offset) w = refl
-call-units (runs n) w = row-units (call-run w n).units
+call-units (runs n) w = row-units (call_run w n).units
 call-units (records i) w = refl
 call-units (answers good n) w =
     of-answer (λ (r : Ran). units_in (answer_acts good r) ≡ r.units) w good n (λ e. refl) (λ e f. refl) (λ e f. row-units (run_for n (answered good w)).units)
 
-call-answers : (c : Call) (w : World) → answers-in (acts-of c w) ≡ taken-by c w
-unfolding answers-in acts-of taken-by
+call-answers : (c : Call) (w : World) → answers_in (acts_of c w) ≡ taken_by c w
+unfolding answers_in acts_of taken_by
 call-answers (writes offset v) w = refl
 call-answers (reads offset) w = refl
-call-answers (runs n) w = row-answers (call-run w n).units
+call-answers (runs n) w = row-answers (call_run w n).units
 call-answers (records i) w = refl
-call-answers (answers good n) w = by_test (eqb (call-answer w good n).answer done)
+call-answers (answers good n) w = by_test (eqb (call_answer w good n).answer done)
   where
-    by_test : (b : Bool) → answers-in (pick b (answer good ∷ in_a_row (call-answer w good n).units) []) ≡ pick b (good ∷ []) []
-    by_test true = ap (λ l. good ∷ l) (row-answers (call-answer w good n).units)
+    by_test : (b : Bool) → answers_in (pick b (answer good ∷ in_a_row (call_answer w good n).units) []) ≡ pick b (good ∷ []) []
+    by_test true = ap (λ l. good ∷ l) (row-answers (call_answer w good n).units)
     by_test false = refl
 
 -- the units of calls' acts are those that the calls report
-pub acts-units : (cs : List Call) (w : World) → units_in (acts-of-all cs w) ≡ units-of-all cs w
-unfolding acts-of-all units-of-all units_in
+pub acts-units : (cs : List Call) (w : World) → units_in (acts_of_all cs w) ≡ units_of_all cs w
+unfolding acts_of_all units_of_all units_in
 acts-units [] w = refl
-acts-units (c ∷ cs) w = units-in-both (acts-of c w) (acts-of-all cs (after c w)) ∙ rw (call-units c w, acts-units cs (after c w))
+acts-units (c ∷ cs) w = units-in-both (acts_of c w) (acts_of_all cs (after c w)) ∙ rw (call-units c w, acts-units cs (after c w))
 
 -- and the answers are those that they took
-pub acts-answers : (cs : List Call) (w : World) → answers-in (acts-of-all cs w) ≡ taken-by-all cs w
-unfolding acts-of-all taken-by-all answers-in
+pub acts-answers : (cs : List Call) (w : World) → answers_in (acts_of_all cs w) ≡ taken_by_all cs w
+unfolding acts_of_all taken_by_all answers_in
 acts-answers [] w = refl
-acts-answers (c ∷ cs) w = answers-in-both (acts-of c w) (acts-of-all cs (after c w)) ∙ rw (call-answers c w, acts-answers cs (after c w))
+acts-answers (c ∷ cs) w = answers-in-both (acts_of c w) (acts_of_all cs (after c w)) ∙ rw (call-answers c w, acts-answers cs (after c w))
 
 -- ---- where acts lead
 
@@ -152,8 +152,8 @@ run_leads (suc n) w = by_test (go w) refl (run_leads n (step w))
     by_test true g later = rw (run-go go step n w g, one-add) (spends g later)
     by_test false g later = rw (run-stop go step (suc n) w g) stays
 
-call_leads : (c : Call) (w : World) → is_reset c ≡ false → Led w (acts-of c w) (after c w)
-unfolding acts-of after in_a_row
+call_leads : (c : Call) (w : World) → is_reset c ≡ false → Led w (acts_of c w) (after c w)
+unfolding acts_of after in_a_row
 call_leads (writes offset v) w n =
     subst (λ (s : State). Led w (write offset v ∷ []) (with_state s w)) (sym (write-is-by-registers w.state offset v n)) (writes_one offset v n stays)
 call_leads (reads offset) w n = stays
@@ -167,7 +167,7 @@ abbrev pub NoReset : List Call → Type 0
 NoReset = Every (λ (c : Call). is_reset c ≡ false)
 
 -- calls of which none is a reset lead where their acts lead
-pub calls_lead : (cs : List Call) (w : World) → NoReset cs → Led w (acts-of-all cs w) (after-all cs w)
-unfolding acts-of-all after-all Every
+pub calls_lead : (cs : List Call) (w : World) → NoReset cs → Led w (acts_of_all cs w) (after_all cs w)
+unfolding acts_of_all after_all Every
 calls_lead [] w n = stays
 calls_lead (c ∷ cs) w n = led_on (call_leads c w n.0) (calls_lead cs (after c w) n.1)

@@ -6,45 +6,45 @@ use Rattle.machine.specs.Machine.{pick, run_none}
 use Rattle.rules.specs.Numbers.{done, other_memory, nothing_waits}
 use Rattle.rules.specs.State.{World}
 use Rattle.rules.specs.Steps.{step, go, waits, answered}
-use Rattle.rules.specs.Calls.{not_run, lent_another, Ran, call-run, Answered, answer-alone, call-answer}
+use Rattle.rules.specs.Calls.{not_run, lent_another, Ran, call_run, Answered, answer_alone, call_answer}
 use Rattle.promises_of_units.specs.Runs.{of-answer}
 
 -- ---- the old answer, by what is lent and what waits
 
 module _ (w : World) (good : Bool) where
-  pub refused-with-1 : lent_another w ≡ true → answer-alone w good ≡ record { answer = other_memory; world = w }
-  unfolding answer-alone
+  pub refused-with-1 : lent_another w ≡ true → answer_alone w good ≡ record { answer = other_memory; world = w }
+  unfolding answer_alone
   refused-with-1 e = rw e
 
-  pub refused-with-3 : lent_another w ≡ false → waits w.state ≡ false → answer-alone w good ≡ record { answer = nothing_waits; world = w }
-  unfolding answer-alone
+  pub refused-with-3 : lent_another w ≡ false → waits w.state ≡ false → answer_alone w good ≡ record { answer = nothing_waits; world = w }
+  unfolding answer_alone
   refused-with-3 e f = rw (e, f)
 
-  pub taken-alone : lent_another w ≡ false → waits w.state ≡ true → answer-alone w good ≡ record { answer = done; world = answered good w }
-  unfolding answer-alone
+  pub taken-alone : lent_another w ≡ false → waits w.state ≡ true → answer_alone w good ≡ record { answer = done; world = answered good w }
+  unfolding answer_alone
   taken-alone e f = rw (e, f)
 
 -- ---- "it must equal the two old calls one after the other"
 
 pub record IsBoth (w : World) (good : Bool) (n : ℕ) : Type 0 where
   -- where the old answer is taken, it is the old run of what that leaves, and this run is not refused
-  pub taken : (answer-alone w good).answer ≡ done
-      → (call-answer w good n ≡ call-run (answer-alone w good).world n) × ((call-answer w good n).answer ≡ done)
+  pub taken : (answer_alone w good).answer ≡ done
+      → (call_answer w good n ≡ call_run (answer_alone w good).world n) × ((call_answer w good n).answer ≡ done)
   -- else it is refused with the old answer's number: 0 units and idle, and nothing changes
-  pub refused : ((answer-alone w good).answer ≡ done → ⊥) → call-answer w good n ≡ not_run (answer-alone w good).answer w
+  pub refused : ((answer_alone w good).answer ≡ done → ⊥) → call_answer w good n ≡ not_run (answer_alone w good).answer w
 
 pub answer-and-run-is-both : (w : World) (good : Bool) (n : ℕ) → IsBoth w good n
-unfolding call-answer
+unfolding call_answer
 answer-and-run-is-both w good n =
     record {
       taken = λ h. (
-        ap (λ b. pick b (call-run (answer-alone w good).world n) (not_run (answer-alone w good).answer (answer-alone w good).world)) (eq-eqb _ _ h),
+        ap (λ b. pick b (call_run (answer_alone w good).world n) (not_run (answer_alone w good).answer (answer_alone w good).world)) (eq-eqb _ _ h),
         of-answer (λ (r : Ran). r.answer ≡ done) w good n
             (λ e. absurd (let z : ◌≡◌ {A = ℕ} 0 1 = sym h ∙ ap (λ (a : Answered). a.answer) (refused-with-1 w good e) in omega arith))
             (λ e f. absurd (let z : ◌≡◌ {A = ℕ} 0 3 = sym h ∙ ap (λ (a : Answered). a.answer) (refused-with-3 w good e f) in omega arith)) (λ e f. refl),
       );
       refused = λ h.
-          of-answer (λ (r : Ran). r ≡ not_run (answer-alone w good).answer w) w good n
+          of-answer (λ (r : Ran). r ≡ not_run (answer_alone w good).answer w) w good n
           (λ e. ap (λ (a : Answered). not_run a.answer w) (sym (refused-with-1 w good e)))
           (λ e f. ap (λ (a : Answered). not_run a.answer w) (sym (refused-with-3 w good e f)))
           (λ e f. absurd (h (ap (λ (a : Answered). a.answer) (taken-alone w good e f))));
@@ -52,8 +52,8 @@ answer-and-run-is-both w good n =
 
 -- "an allowance of 0 is the old call": its answer and what it leaves; no unit is spent
 pub allowance-0-is-the-old-call : (w : World) (good : Bool)
-    → ((call-answer w good 0).answer ≡ (answer-alone w good).answer) × ((call-answer w good 0).world ≡ (answer-alone w good).world) × ((call-answer w good 0).units ≡ 0)
+    → ((call_answer w good 0).answer ≡ (answer_alone w good).answer) × ((call_answer w good 0).world ≡ (answer_alone w good).world) × ((call_answer w good 0).units ≡ 0)
 allowance-0-is-the-old-call w good =
-    of-answer (λ (r : Ran). (r.answer ≡ (answer-alone w good).answer) × (r.world ≡ (answer-alone w good).world) × (r.units ≡ 0)) w good 0
+    of-answer (λ (r : Ran). (r.answer ≡ (answer_alone w good).answer) × (r.world ≡ (answer_alone w good).world) × (r.units ≡ 0)) w good 0
     (λ e. rw (refused-with-1 w good e) (refl, refl, refl)) (λ e f. rw (refused-with-3 w good e f) (refl, refl, refl))
     (λ e f. rw (taken-alone w good e f, run_none go step (answered good w)) (refl, refl, refl))

@@ -9,7 +9,7 @@ use Rattle.rules.specs.Lists.{Found}
 use Rattle.rules.specs.Lists.Found.{none, found}
 use Rattle.rules.specs.Packets.{Belongings}
 use Rattle.rules.specs.State.{State, World}
-use Rattle.rules.specs.Loaded.{Loaded, bad-place, loaded, loaded_or, call-load}
+use Rattle.rules.specs.Loaded.{Loaded, bad_place, loaded, loaded_or, call_load}
 use Rattle.rules.specs.declared.Form.{Form}
 use Rattle.rules.specs.declared.LastError.{LastError}
 use Rattle.promises_of_packets.specs.Held.{Every}
@@ -31,12 +31,12 @@ pub data Asked : Type 0 where
 unfoldable pub left : Asked → State → State
 left (calls c m) s = (after c (record { state = s; mem = m })).state
 left (saves f buffer) s = s
-left (loads b) s = (call-load s b).state
+left (loads b) s = (call_load s b).state
 left (moves b buffer) s = s
 
-unfoldable pub left-all : List Asked → State → State
-left-all [] s = s
-left-all (a ∷ qs) s = left-all qs (left a s)
+unfoldable pub left_all : List Asked → State → State
+left_all [] s = s
+left_all (a ∷ qs) s = left_all qs (left a s)
 
 -- ---- what happens to the device
 
@@ -54,8 +54,8 @@ pub data Happened (s : State) : Asked → List Change → State → Type 0 where
   by_call : {w' : World} {es : List Event} (c : Call) (m : List ℕ) → Happens (record { state = s; mem = m }) c es w' → Happened s (calls c m) (changes es) w'.state
   by_save : (f : Form) (buffer : List ℕ) → Happened s (saves f buffer) [] s
   by_move : (b buffer : List ℕ) → Happened s (moves b buffer) [] s
-  by_load : (b : List ℕ) → bad-place b ≡ none → Happened s (loads b) (loading b ∷ []) (loaded b)
-  by-bad-file : (b : List ℕ) (place : ℕ) → bad-place b ≡ found place → Happened s (loads b) [] s
+  by_load : (b : List ℕ) → bad_place b ≡ none → Happened s (loads b) (loading b ∷ []) (loaded b)
+  by-bad-file : (b : List ℕ) (place : ℕ) → bad_place b ≡ found place → Happened s (loads b) [] s
 
 -- one after the other
 pub data Course : State → List Asked → List Change → State → Type 0 where
@@ -65,24 +65,24 @@ pub data Course : State → List Asked → List Change → State → Type 0 wher
 -- ---- there are such changes, whatever is asked
 
 asked-happens : (a : Asked) (s : State) → (ds : List Change) × Happened s a ds (left a s)
-unfolding left call-load
+unfolding left call_load
 asked-happens (calls c m) s =
     let e : (es : List Event) × Happens (record { state = s; mem = m }) c es (after c (record { state = s; mem = m })) = call-has-events c (record { state = s; mem = m }) in
     (changes e.0, by_call c m e.1)
 asked-happens (saves f buffer) s = ([], by_save f buffer)
-asked-happens (loads b) s = by_found (bad-place b) refl
+asked-happens (loads b) s = by_found (bad_place b) refl
   where
-    by_found : (f : Found ℕ) → bad-place b ≡ f → (ds : List Change) × Happened s (loads b) ds (loaded_or f b s).state
+    by_found : (f : Found ℕ) → bad_place b ≡ f → (ds : List Change) × Happened s (loads b) ds (loaded_or f b s).state
     by_found none e = (loading b ∷ [], by_load b e)
     by_found (found place) e = ([], by-bad-file b place e)
 asked-happens (moves b buffer) s = ([], by_move b buffer)
 
-pub asked-have-changes : (qs : List Asked) (s : State) → (ds : List Change) × Course s qs ds (left-all qs s)
-unfolding left-all
+pub asked-have-changes : (qs : List Asked) (s : State) → (ds : List Change) × Course s qs ds (left_all qs s)
+unfolding left_all
 asked-have-changes [] s = ([], no_more)
 asked-have-changes (a ∷ qs) s =
     let here : (ds : List Change) × Happened s a ds (left a s) = asked-happens a s in
-    let later : (ds : List Change) × Course (left a s) qs ds (left-all qs (left a s)) = asked-have-changes qs (left a s) in
+    let later : (ds : List Change) × Course (left a s) qs ds (left_all qs (left a s)) = asked-have-changes qs (left a s) in
     (here.0 ++ later.0, one_more here.1 later.1)
 
 -- ---- and they say what is there after them
@@ -139,18 +139,18 @@ course-says s qs ds t k =
 -- ---- whatever was asked of a device made and called, it is one still: a load between calls is one at the beginning
 
 asked_called : (a : Asked) (s : State) → Called s → Called (left a s)
-unfolding left call-load
+unfolding left call_load
 asked_called (calls c m) s k = was_Called c m k
 asked_called (saves f buffer) s k = k
-asked_called (loads b) s k = by_found (bad-place b) refl
+asked_called (loads b) s k = by_found (bad_place b) refl
   where
-    by_found : (f : Found ℕ) → bad-place b ≡ f → Called (loaded_or f b s).state
+    by_found : (f : Found ℕ) → bad_place b ≡ f → Called (loaded_or f b s).state
     by_found none e = was_loaded b e
     by_found (found place) e = k
 asked_called (moves b buffer) s k = k
 
-pub all_asked_called : (qs : List Asked) (s : State) → Called s → Called (left-all qs s)
-unfolding left-all
+pub all_asked_called : (qs : List Asked) (s : State) → Called s → Called (left_all qs s)
+unfolding left_all
 all_asked_called [] s k = k
 all_asked_called (a ∷ qs) s k = all_asked_called qs (left a s) (asked_called a s k)
 
@@ -163,16 +163,16 @@ is_none (found place) = false
 abbrev pub resets_or_loads : Asked → Bool
 resets_or_loads (calls c m) = is_reset c
 resets_or_loads (saves f buffer) = false
-resets_or_loads (loads b) = is_none (bad-place b)
+resets_or_loads (loads b) = is_none (bad_place b)
 resets_or_loads (moves b buffer) = false
 
 abbrev pub NoResetOrLoad : List Asked → Type 0
 NoResetOrLoad = Every (λ (a : Asked). resets_or_loads a ≡ false)
 
 -- such a load leaves the device
-pub bad-file-leaves : (b : List ℕ) (s : State) → is_none (bad-place b) ≡ false → left (loads b) s ≡ s
-unfolding left call-load
-bad-file-leaves b s = by_found (bad-place b)
+pub bad-file-leaves : (b : List ℕ) (s : State) → is_none (bad_place b) ≡ false → left (loads b) s ≡ s
+unfolding left call_load
+bad-file-leaves b s = by_found (bad_place b)
   where
     by_found : (f : Found ℕ) → is_none f ≡ false → (loaded_or f b s).state ≡ s
     by_found none e = absurd (let z : ◌≡◌ {A = ℕ} 0 1 = cc in omega arith)

@@ -7,7 +7,7 @@ use mathlib.Core.List.{List, [], ◌∷◌}
 use Rattle.rules.specs.Bytes.{bytes_of}
 use Rattle.rules.specs.State.{World}
 use Rattle.rules.specs.Registers.{reset}
-use Rattle.rules.specs.Settle.{next_head, head-written, page-written, marked, settled}
+use Rattle.rules.specs.Settle.{next_head, head_written, page_written, marked, settled}
 use Rattle.rules.specs.declared.Job.{Job}
 use Rattle.rules.specs.declared.Registers.{Registers}
 use Rattle.settle.specs.Settling.{page_size, head_size}
@@ -65,7 +65,7 @@ silent-keeps resetting m h = refl
 
 -- without a page only the head is written
 pageless-byte : (j : Job) (r : Registers) (m : List ℕ) (i : ℕ) → r.fencepage ≡ 0 → Apart i 1 (head_at j) head_size → get_or (marked j r m) i 0 ≡ get_or m i 0
-unfolding marked page-written head-written bytes_of
+unfolding marked page_written head_written bytes_of
 pageless-byte j r m i z h = rw (eq-eqb r.fencepage 0 z) (written_byte (head_at j) (bytes_of head_size (next_head j.head)) m i h)
 
 outside-keeps : (i : ℕ) (e : Event) (m : List ℕ) → Outside i e → get_or (marked_by e m) i 0 ≡ get_or m i 0

@@ -13,9 +13,9 @@ use Rattle.rules.specs.Lists.{Found, lookup, nth}
 use Rattle.rules.specs.Lists.Found.{none, found}
 use Rattle.rules.specs.State.{Work, State, World}
 use Rattle.rules.specs.State.Work.{resting, entries, packets, waiting}
-use Rattle.rules.specs.Registers.{Read, read_offset, readable, register, Write, write_offset, writable, write-of}
+use Rattle.rules.specs.Registers.{Read, read_offset, readable, register, Write, write_offset, writable, write_of}
 use Rattle.rules.specs.Steps.{waits_on, waits}
-use Rattle.rules.specs.Calls.{lent_another, wrote, call-write, valued, call-read, Ran, call-run, handed_out, record_read, call-record, call-answer}
+use Rattle.rules.specs.Calls.{lent_another, wrote, call_write, valued, call_read, Ran, call_run, handed_out, record_read, call_record, call_answer}
 use Rattle.rules.specs.declared.Record.{Record}
 use Rattle.rows.specs.Keys.{lookup-here, lookup-later}
 use Rattle.promises_of_packets.specs.Held.{Every, every-none}
@@ -29,31 +29,31 @@ Exactly A B = (A → B) × (B → A)
 -- ---- run and answer: 1 comes before 3
 
 module _ (w : World) (n : ℕ) where
-  pub run-is-refused-with-1 : Exactly ((call-run w n).answer ≡ other_memory) (lent_another w ≡ true)
+  pub run-is-refused-with-1 : Exactly ((call_run w n).answer ≡ other_memory) (lent_another w ≡ true)
   run-is-refused-with-1 =
       of-run (λ (r : Ran). Exactly (r.answer ≡ other_memory) (lent_another w ≡ true)) w n (λ e. (λ _. e, λ _. refl))
       (λ e. (λ h. absurd (omega arith), λ h. absurd (true-not-false (sym h ∙ e))))
 
-  pub run-is-done : Exactly ((call-run w n).answer ≡ done) (lent_another w ≡ false)
+  pub run-is-done : Exactly ((call_run w n).answer ≡ done) (lent_another w ≡ false)
   run-is-done =
       of-run (λ (r : Ran). Exactly (r.answer ≡ done) (lent_another w ≡ false)) w n
       (λ e. (λ h. absurd (omega arith), λ h. absurd (true-not-false (sym e ∙ h)))) (λ e. (λ _. e, λ _. refl))
 
 module _ (w : World) (good : Bool) (n : ℕ) where
-  pub answer-is-refused-with-1 : Exactly ((call-answer w good n).answer ≡ other_memory) (lent_another w ≡ true)
+  pub answer-is-refused-with-1 : Exactly ((call_answer w good n).answer ≡ other_memory) (lent_another w ≡ true)
   answer-is-refused-with-1 =
       of-answer (λ (r : Ran). Exactly (r.answer ≡ other_memory) (lent_another w ≡ true)) w good n (λ e. (λ _. e, λ _. refl))
       (λ e f. (λ h. absurd (omega arith), λ h. absurd (true-not-false (sym h ∙ e))))
       (λ e f. (λ h. absurd (omega arith), λ h. absurd (true-not-false (sym h ∙ e))))
 
-  pub answer-is-refused-with-3 : Exactly ((call-answer w good n).answer ≡ nothing_waits) ((lent_another w ≡ false) × (waits w.state ≡ false))
+  pub answer-is-refused-with-3 : Exactly ((call_answer w good n).answer ≡ nothing_waits) ((lent_another w ≡ false) × (waits w.state ≡ false))
   answer-is-refused-with-3 =
       of-answer (λ (r : Ran). Exactly (r.answer ≡ nothing_waits) ((lent_another w ≡ false) × (waits w.state ≡ false))) w good n
       (λ e. (λ h. absurd (omega arith), λ h. absurd (true-not-false (sym e ∙ h.0))))
       (λ e f. (λ _. (e, f), λ _. refl))
       (λ e f. (λ h. absurd (omega arith), λ h. absurd (true-not-false (sym f ∙ h.1))))
 
-  pub answer-is-done : Exactly ((call-answer w good n).answer ≡ done) ((lent_another w ≡ false) × (waits w.state ≡ true))
+  pub answer-is-done : Exactly ((call_answer w good n).answer ≡ done) ((lent_another w ≡ false) × (waits w.state ≡ true))
   answer-is-done =
       of-answer (λ (r : Ran). Exactly (r.answer ≡ done) ((lent_another w ≡ false) × (waits w.state ≡ true))) w good n
       (λ e. (λ h. absurd (omega arith), λ h. absurd (true-not-false (sym e ∙ h.0))))
@@ -94,23 +94,23 @@ module _ {A : Type 0} (key : A → ℕ) where
       )
 
 module _ (s : State) (offset v : ℕ) where
-  write_found_none : Exactly (write-of s offset v ≡ none) (NoneOf writable_offsets offset)
-  unfolding write-of keys
+  write_found_none : Exactly (write_of s offset v ≡ none) (NoneOf writable_offsets offset)
+  unfolding write_of keys
   write_found_none = found_none write_offset offset (writable s v)
 
-  pub write-is-refused-with-2 : Exactly ((call-write s offset v).answer ≡ no_register) (NoneOf writable_offsets offset)
-  unfolding call-write
-  write-is-refused-with-2 = by_found (write-of s offset v) refl
+  pub write-is-refused-with-2 : Exactly ((call_write s offset v).answer ≡ no_register) (NoneOf writable_offsets offset)
+  unfolding call_write
+  write-is-refused-with-2 = by_found (write_of s offset v) refl
     where
-      by_found : (f : Found Write) → write-of s offset v ≡ f → Exactly ((wrote s f).answer ≡ no_register) (NoneOf writable_offsets offset)
+      by_found : (f : Found Write) → write_of s offset v ≡ f → Exactly ((wrote s f).answer ≡ no_register) (NoneOf writable_offsets offset)
       by_found none e = (λ _. write_found_none.0 e, λ _. refl)
       by_found (found x) e = (λ h. absurd (omega arith), λ h. absurd (none-not-found x (sym (write_found_none.1 h) ∙ e)))
 
-  pub write-is-done : Exactly ((call-write s offset v).answer ≡ done) (NoneOf writable_offsets offset → ⊥)
-  unfolding call-write
-  write-is-done = by_found (write-of s offset v) refl
+  pub write-is-done : Exactly ((call_write s offset v).answer ≡ done) (NoneOf writable_offsets offset → ⊥)
+  unfolding call_write
+  write-is-done = by_found (write_of s offset v) refl
     where
-      by_found : (f : Found Write) → write-of s offset v ≡ f → Exactly ((wrote s f).answer ≡ done) (NoneOf writable_offsets offset → ⊥)
+      by_found : (f : Found Write) → write_of s offset v ≡ f → Exactly ((wrote s f).answer ≡ done) (NoneOf writable_offsets offset → ⊥)
       by_found none e = (λ h. absurd (omega arith), λ h. absurd (h (write_found_none.0 e)))
       by_found (found x) e = (λ _ h. none-not-found x (sym (write_found_none.1 h) ∙ e), λ _. refl)
 
@@ -119,16 +119,16 @@ module _ (s : State) (offset : ℕ) where
   unfolding register keys
   read_found_none = found_none read_offset offset (readable s.regs)
 
-  pub read-is-refused-with-2 : Exactly ((call-read s offset).answer ≡ no_register) (NoneOf readable_offsets offset)
-  unfolding call-read
+  pub read-is-refused-with-2 : Exactly ((call_read s offset).answer ≡ no_register) (NoneOf readable_offsets offset)
+  unfolding call_read
   read-is-refused-with-2 = by_found (register s.regs offset) refl
     where
       by_found : (f : Found Read) → register s.regs offset ≡ f → Exactly ((valued f).answer ≡ no_register) (NoneOf readable_offsets offset)
       by_found none e = (λ _. read_found_none.0 e, λ _. refl)
       by_found (found x) e = (λ h. absurd (omega arith), λ h. absurd (none-not-found x (sym (read_found_none.1 h) ∙ e)))
 
-  pub read-is-done : Exactly ((call-read s offset).answer ≡ done) (NoneOf readable_offsets offset → ⊥)
-  unfolding call-read
+  pub read-is-done : Exactly ((call_read s offset).answer ≡ done) (NoneOf readable_offsets offset → ⊥)
+  unfolding call_read
   read-is-done = by_found (register s.regs offset) refl
     where
       by_found : (f : Found Read) → register s.regs offset ≡ f → Exactly ((valued f).answer ≡ done) (NoneOf readable_offsets offset → ⊥)
@@ -163,16 +163,16 @@ module _ (s : State) (i : ℕ) where
       by-work (waiting j es held) (inl e) = absurd (true-not-false e)
       by-work (waiting j es held) (inr h) = h
 
-  pub record-is-refused-with-4 : Exactly ((call-record s i).answer ≡ no_record) ((waits s ≡ false) ⊎ (length (records_waiting s) ≤ i))
-  unfolding call-record
+  pub record-is-refused-with-4 : Exactly ((call_record s i).answer ≡ no_record) ((waits s ≡ false) ⊎ (length (records_waiting s) ≤ i))
+  unfolding call_record
   record-is-refused-with-4 = by_found (nth (records_waiting s) i) refl
     where
       by_found : (f : Found Record) → nth (records_waiting s) i ≡ f → Exactly ((record_read f).answer ≡ no_record) NoRecord
       by_found none e = (λ _. inr ((nth_none (records_waiting s) i).0 e), λ _. refl)
       by_found (found c) e = (λ h. absurd (omega arith), λ h. absurd (none-not-found c (sym ((nth_none (records_waiting s) i).1 (few-enough h)) ∙ e)))
 
-  pub record-is-done : Exactly ((call-record s i).answer ≡ done) ((waits s ≡ true) × (i < length (records_waiting s)))
-  unfolding call-record
+  pub record-is-done : Exactly ((call_record s i).answer ≡ done) ((waits s ≡ true) × (i < length (records_waiting s)))
+  unfolding call_record
   record-is-done = by_found (nth (records_waiting s) i) refl
     where
       waits-with : (k : Work) → i < length (handed_out k) → waits_on k ≡ true

@@ -11,8 +11,8 @@ use Rattle.rules.specs.Shapes.{larger}
 use Rattle.rules.specs.Packets.{Progress, Belongings, left_by}
 use Rattle.rules.specs.State.{Work, State, World, with_state, working, registering, nothing_owned}
 use Rattle.rules.specs.State.Work.{waiting}
-use Rattle.rules.specs.Registers.{bit_of, reset-registers, reset}
-use Rattle.rules.specs.Settle.{one_more, faulted, signalled, doorbell-cleared, ended_by, settled, settled_keeping, ring_refused, found_no_work}
+use Rattle.rules.specs.Registers.{bit_of, reset_registers, reset}
+use Rattle.rules.specs.Settle.{one_more, faulted, signalled, doorbell_cleared, ended_by, settled, settled_keeping, ring_refused, found_no_work}
 use Rattle.rules.specs.Steps.{answered}
 use Rattle.rules.specs.declared.Entry.{Entry}
 use Rattle.rules.specs.declared.Job.{Job}
@@ -124,7 +124,7 @@ belongings_by ring_refusal before = before
 belongings_by resetting before = nothing_owned
 
 completed-changed : ChangedBy completed_by (λ w. w.state.regs.completed)
-unfolding settled ended_by signalled faulted doorbell-cleared reset reset-registers
+unfolding settled ended_by signalled faulted doorbell_cleared reset reset_registers
 completed-changed =
     record {
       works = λ k w. refl;
@@ -137,7 +137,7 @@ completed-changed =
     }
 
 error-changed : ChangedBy error_by (λ w. w.state.regs.error)
-unfolding settled ended_by signalled faulted doorbell-cleared reset reset-registers
+unfolding settled ended_by signalled faulted doorbell_cleared reset reset_registers
 error-changed =
     record {
       works = λ k w. refl;

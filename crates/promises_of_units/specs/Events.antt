@@ -11,18 +11,18 @@ use Rattle.rules.specs.Judging.Finding.{fine, broken}
 use Rattle.rules.specs.Packets.{Progress, Belongings, left_by}
 use Rattle.rules.specs.State.{Work, State, World, made, with_regs, with_state, registering}
 use Rattle.rules.specs.State.Work.{resting, entries, packets, waiting}
-use Rattle.rules.specs.Registers.{Write, bit_of, reset, write-of}
+use Rattle.rules.specs.Registers.{Write, bit_of, reset, write_of}
 use Rattle.rules.specs.Steps.{step, go, run_for, waits_on, waits, answered}
-use Rattle.rules.specs.Calls.{lent_another, wrote, call-write, Ran, call-run, call-answer}
+use Rattle.rules.specs.Calls.{lent_another, wrote, call_write, Ran, call_run, call_answer}
 use Rattle.rules.specs.declared.Entry.{Entry}
 use Rattle.rules.specs.declared.Job.{Job}
 use Rattle.rules.specs.declared.Registers.{Registers}
-use Rattle.rules.specs.Loaded.{bad-place, loaded}
+use Rattle.rules.specs.Loaded.{bad_place, loaded}
 use Rattle.promises_of_units.specs.Writes.{resets, Written, write-keeps-or-drops}
 use Rattle.promises_of_units.specs.Writes.Written.{keeps, drops}
 use Rattle.promises_of_units.specs.Runs.{of-run, of-answer, taken-and-run}
 use Rattle.promises_of_units.specs.Refused.{refused-run-changes-nothing, refused-answer-changes-nothing, refused-write-changes-nothing}
-use Rattle.promises_of_units.specs.Called.{Call, after, after-all, Called}
+use Rattle.promises_of_units.specs.Called.{Call, after, after_all, Called}
 use Rattle.promises_of_units.specs.Called.Called.{makes, loads, calls}
 use Rattle.promises_of_units.specs.Called.Call.{writes, reads, runs, records, answers}
 use Rattle.promises_of_units.specs.Units.{Unit, unit}
@@ -57,16 +57,16 @@ pub data Units : World → List Event → World → Type 0 where
 -- one call and its events
 pub data Happens (w : World) : Call → List Event → World → Type 0 where
   -- it is refused, or only asks
-  refused-write : (offset v : ℕ) → ((call-write w.state offset v).answer ≡ done → ⊥) → Happens w (writes offset v) [] w
-  refused-run : (n : ℕ) → ((call-run w n).answer ≡ done → ⊥) → Happens w (runs n) [] w
-  refused-answer : (good : Bool) (n : ℕ) → ((call-answer w good n).answer ≡ done → ⊥) → Happens w (answers good n) [] w
+  refused-write : (offset v : ℕ) → ((call_write w.state offset v).answer ≡ done → ⊥) → Happens w (writes offset v) [] w
+  refused-run : (n : ℕ) → ((call_run w n).answer ≡ done → ⊥) → Happens w (runs n) [] w
+  refused-answer : (good : Bool) (n : ℕ) → ((call_answer w good n).answer ≡ done → ⊥) → Happens w (answers good n) [] w
   asks-register : (offset : ℕ) → Happens w (reads offset) [] w
   asks-record : (i : ℕ) → Happens w (records i) [] w
   -- registers are written, but not those that the device tells its fence and its error by
-  changes-registers : (offset v : ℕ) (r : Registers) → resets offset v ≡ false → (call-write w.state offset v).state ≡ with_regs r w.state
+  changes-registers : (offset v : ℕ) (r : Registers) → resets offset v ≡ false → (call_write w.state offset v).state ≡ with_regs r w.state
       → r.completed ≡ w.state.regs.completed → r.error ≡ w.state.regs.error → Happens w (writes offset v) [] (registering r w)
   -- a reset
-  resets-all : (offset v : ℕ) → resets offset v ≡ true → (call-write w.state offset v).state ≡ reset (bit_of 0 v) w.state
+  resets-all : (offset v : ℕ) → resets offset v ≡ true → (call_write w.state offset v).state ≡ reset (bit_of 0 v) w.state
       → Happens w (writes offset v) (resetting ∷ []) (with_state (reset (bit_of 0 v) w.state) w)
   -- memory of the right length is lent, and units are spent
   spends : (n : ℕ) {es : List Event} → lent_another w ≡ false → Units w es (run_for n w).state → Happens w (runs n) es (run_for n w).state
@@ -96,24 +96,24 @@ run-has-events (suc n) w = by_test (go w) refl (run-has-events n (step w))
     by_test true g q = (events_of_unit (unit w) ++ q.0, rw (run-go go step n w g) (one g (unit w) q.1))
     by_test false g q = ([], rw (run-stop go step (suc n) w g) stop)
 
-write-has-events : (offset v : ℕ) (w : World) → (es : List Event) × Happens w (writes offset v) es (with_state (call-write w.state offset v).state w)
-unfolding call-write
-write-has-events offset v w = by_found (write-of w.state offset v) refl (write-keeps-or-drops w.state offset v)
+write-has-events : (offset v : ℕ) (w : World) → (es : List Event) × Happens w (writes offset v) es (with_state (call_write w.state offset v).state w)
+unfolding call_write
+write-has-events offset v w = by_found (write_of w.state offset v) refl (write-keeps-or-drops w.state offset v)
   where
-    by_written : (s : State) → (call-write w.state offset v).state ≡ s → Written w.state offset v s
+    by_written : (s : State) → (call_write w.state offset v).state ≡ s → Written w.state offset v s
         → (es : List Event) × Happens w (writes offset v) es (with_state s w)
     by_written s q (keeps r n c e) = ([], changes-registers offset v r n q c e)
     by_written s q (drops h) = (resetting ∷ [], resets-all offset v h q)
 
-    by_found : (f : Found Write) → write-of w.state offset v ≡ f → Written w.state offset v (wrote w.state (write-of w.state offset v)).state
+    by_found : (f : Found Write) → write_of w.state offset v ≡ f → Written w.state offset v (wrote w.state (write_of w.state offset v)).state
         → (es : List Event) × Happens w (writes offset v) es (with_state (wrote w.state f).state w)
     by_found none e k = ([], refused-write offset v (λ d. absurd (let z : ◌≡◌ {A = ℕ} 0 1 = cc in omega arith)))
     by_found (found x) e k =
         by_written x.state (ap (λ f. (wrote w.state f).state) e) (subst (λ f. Written w.state offset v (wrote w.state f).state) e k)
 
-run-call-has-events : (n : ℕ) (w : World) → (es : List Event) × Happens w (runs n) es (call-run w n).world
+run-call-has-events : (n : ℕ) (w : World) → (es : List Event) × Happens w (runs n) es (call_run w n).world
 run-call-has-events n w =
-    of-run (λ (r : Ran). (call-run w n).answer ≡ r.answer → (es : List Event) × Happens w (runs n) es r.world) w n
+    of-run (λ (r : Ran). (call_run w n).answer ≡ r.answer → (es : List Event) × Happens w (runs n) es r.world) w n
     (λ e a. ([], refused-run n (λ d. absurd (omega arith)))) (λ e a. let q : (es : List Event) × Units w es (run_for n w).state = run-has-events n w in (q.0, spends n e q.1)) refl
 
 -- a device that waits has a submission that waits
@@ -123,9 +123,9 @@ waits-for (entries o kept) e = absurd (let z : ◌≡◌ {A = ℕ} 0 1 = cc in o
 waits-for (packets j s at es h) e = absurd (let z : ◌≡◌ {A = ℕ} 0 1 = cc in omega arith)
 waits-for (waiting j es h) e = (j, es, h, refl)
 
-answer-call-has-events : (good : Bool) (n : ℕ) (w : World) → (es : List Event) × Happens w (answers good n) es (call-answer w good n).world
+answer-call-has-events : (good : Bool) (n : ℕ) (w : World) → (es : List Event) × Happens w (answers good n) es (call_answer w good n).world
 answer-call-has-events good n w =
-    of-answer (λ (r : Ran). (call-answer w good n).answer ≡ r.answer → (es : List Event) × Happens w (answers good n) es r.world) w good n
+    of-answer (λ (r : Ran). (call_answer w good n).answer ≡ r.answer → (es : List Event) × Happens w (answers good n) es r.world) w good n
     (λ e a. ([], refused-answer good n (λ d. absurd (omega arith)))) (λ e f a. ([], refused-answer good n (λ d. absurd (omega arith)))) (λ e f a. taken e f) refl
   where
     taken : lent_another w ≡ false → waits w.state ≡ true → (es : List Event) × Happens w (answers good n) es (run_for n (answered good w)).state
@@ -142,18 +142,18 @@ call-has-events (runs n) w = run-call-has-events n w
 call-has-events (records i) w = ([], asks-record i)
 call-has-events (answers good n) w = answer-call-has-events good n w
 
-pub calls-have-events : (cs : List Call) (w : World) → (es : List Event) × History w cs es (after-all cs w)
-unfolding after-all
+pub calls-have-events : (cs : List Call) (w : World) → (es : List Event) × History w cs es (after_all cs w)
+unfolding after_all
 calls-have-events [] w = ([], no_call)
 calls-have-events (c ∷ cs) w =
     let here : (es : List Event) × Happens w c es (after c w) = call-has-events c w in
-    let later : (es : List Event) × History (after c w) cs es (after-all cs (after c w)) = calls-have-events cs (after c w) in
+    let later : (es : List Event) × History (after c w) cs es (after_all cs (after c w)) = calls-have-events cs (after c w) in
     (here.0 ++ later.0, next_call here.1 later.1)
 
 -- a device as it was made, or as it was loaded
 pub data Begun : State → Type 0 where
   was_made : (memory : ℕ) → Begun (made memory)
-  was_loaded : (b : List ℕ) → bad-place b ≡ none → Begun (loaded b)
+  was_loaded : (b : List ℕ) → bad_place b ≡ none → Begun (loaded b)
 
 pub called-has-life : (s : State) → Called s → (first : State) × Begun first × (cs : List Call) × (es : List Event) × Life first cs es s
 called-has-life s (makes memory) = (made memory, was_made memory, [], [], begins)
@@ -178,8 +178,8 @@ happens-is-after w c es w' (spends n e u) =
     of-run (λ (r : Ran). r.world ≡ (run_for n w).state) w n (λ l. absurd (let z : ◌≡◌ {A = ℕ} 0 1 = cc in omega arith)) (λ l. refl)
 happens-is-after w c es w' (settles-answered good n j table h e f u) = ap (λ (r : Ran). r.world) (taken-and-run w good n e (ap waits_on f))
 
-pub history-is-after-all : (w : World) (cs : List Call) (es : List Event) (w' : World) → History w cs es w' → after-all cs w ≡ w'
-unfolding after-all
+pub history-is-after-all : (w : World) (cs : List Call) (es : List Event) (w' : World) → History w cs es w' → after_all cs w ≡ w'
+unfolding after_all
 history-is-after-all w cs es w' no_call = refl
 history-is-after-all w cs es w' (next_call {w' = v} {c = c} {cs = ks} {es = here} {fs = later} d q) =
-    ap (after-all ks) (happens-is-after w c here v d) ∙ history-is-after-all v ks later w' q
+    ap (after_all ks) (happens-is-after w c here v d) ∙ history-is-after-all v ks later w' q

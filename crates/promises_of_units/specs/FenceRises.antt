@@ -13,7 +13,7 @@ use Rattle.promises_of_units.specs.Events.Event.{settling, ring_refusal, resetti
 use Rattle.promises_of_units.specs.Events.Units.{stop, one}
 use Rattle.promises_of_units.specs.Events.Happens.{refused-write, refused-run, refused-answer, asks-register, asks-record, changes-registers, resets-all, spends, settles-answered}
 use Rattle.promises_of_units.specs.Changes.{completed_by, through, call-says}
-use Rattle.promises_of_units.specs.Asked.{Asked, left, left-all, resets_or_loads, NoResetOrLoad, bad-file-leaves}
+use Rattle.promises_of_units.specs.Asked.{Asked, left, left_all, resets_or_loads, NoResetOrLoad, bad-file-leaves}
 use Rattle.promises_of_units.specs.Asked.Asked.{calls, saves, loads, moves}
 
 -- an event that is no reset
@@ -73,10 +73,10 @@ one-rises (loads b) s n = subst (λ (t : State). s.regs.completed ≤ t.regs.com
 one-rises (moves b buffer) s n = omega arith
 
 -- whatever is asked of a device, but a reset and a load of a good file, its completed fence is not lower after it
-pub only-a-reset-or-a-load-lowers-the-fence : (qs : List Asked) (s : State) → NoResetOrLoad qs → s.regs.completed ≤ (left-all qs s).regs.completed
-unfolding left-all Every
+pub only-a-reset-or-a-load-lowers-the-fence : (qs : List Asked) (s : State) → NoResetOrLoad qs → s.regs.completed ≤ (left_all qs s).regs.completed
+unfolding left_all Every
 only-a-reset-or-a-load-lowers-the-fence [] s n = omega arith
 only-a-reset-or-a-load-lowers-the-fence (a ∷ qs) s n =
     let here : s.regs.completed ≤ (left a s).regs.completed = one-rises a s n.0 in
-    let later : (left a s).regs.completed ≤ (left-all qs (left a s)).regs.completed = only-a-reset-or-a-load-lowers-the-fence qs (left a s) n.1 in
+    let later : (left a s).regs.completed ≤ (left_all qs (left a s)).regs.completed = only-a-reset-or-a-load-lowers-the-fence qs (left a s) n.1 in
     omega arith

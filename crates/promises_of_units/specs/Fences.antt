@@ -16,7 +16,7 @@ use Rattle.rules.specs.State.Work.{waiting}
 use Rattle.rules.specs.Settle.{ended_by, settled, settled_keeping}
 use Rattle.rules.specs.Steps.{answered}
 use Rattle.rules.specs.Unsliced.{Submission, submission, concluding, submitted_on, submitted}
-use Rattle.rules.specs.Calls.{call-record, no_range}
+use Rattle.rules.specs.Calls.{call_record, no_range}
 use Rattle.rules.specs.declared.Entry.{Entry}
 use Rattle.rules.specs.declared.Job.{Job}
 use Rattle.rules.specs.declared.Opened.{Opened}
@@ -63,9 +63,9 @@ module _ (w : World) (o : Opened) (opened : opening_of w.mem w.state.regs.ring w
     refused-keeps-belongings = ap (λ (x : World). x.state.belongings) refused-settles
 
     -- and nothing is handed out: every record call answers 4
-    pub refused-hands-out-nothing : (i : ℕ) → call-record (submitted w).state.state i ≡ record { answer = no_record; range = no_range }
-    unfolding settled call-record nth
-    refused-hands-out-nothing i = ap (λ (x : World). call-record x.state i) refused-settles
+    pub refused-hands-out-nothing : (i : ℕ) → call_record (submitted w).state.state i ≡ record { answer = no_record; range = no_range }
+    unfolding settled call_record nth
+    refused-hands-out-nothing i = ap (λ (x : World). call_record x.state i) refused-settles
 
 -- ---- a submission that its opening refuses
 
@@ -79,9 +79,9 @@ module _ (w : World) (j : Job) (r : Refusal) (opened : opening_of w.mem w.state.
   unfolding settled
   opening-refusal-keeps-belongings = ap (λ (x : Out World). x.state.state.belongings) refused-at-opening
 
-  pub opening-refusal-hands-out-nothing : (i : ℕ) → call-record (submitted w).state.state i ≡ record { answer = no_record; range = no_range }
-  unfolding settled call-record nth
-  opening-refusal-hands-out-nothing i = ap (λ (x : Out World). call-record x.state.state i) refused-at-opening
+  pub opening-refusal-hands-out-nothing : (i : ℕ) → call_record (submitted w).state.state i ≡ record { answer = no_record; range = no_range }
+  unfolding settled call_record nth
+  opening-refusal-hands-out-nothing i = ap (λ (x : Out World). call_record x.state.state i) refused-at-opening
 
 -- ---- the host's answers, of a device that waits
 

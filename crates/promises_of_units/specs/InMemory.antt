@@ -14,16 +14,16 @@ use Rattle.rules.specs.Lists.Found.{found}
 use Rattle.rules.specs.Judging.{refusal, rule, Finding, at_place}
 use Rattle.rules.specs.Judging.Finding.{fine, broken}
 use Rattle.rules.specs.Layouts.{entry}
-use Rattle.rules.specs.Table.{matching, entry_place, entry-rules, keep, in_reach, take-entry}
+use Rattle.rules.specs.Table.{matching, entry_place, entry_rules, keep, in_reach, take_entry}
 use Rattle.rules.specs.Ring.{opening_of}
-use Rattle.rules.specs.Packets.{Progress, at_first, take-packet, Belongings}
+use Rattle.rules.specs.Packets.{Progress, at_first, take_packet, Belongings}
 use Rattle.rules.specs.Stream.{left}
 use Rattle.rules.specs.State.{Work, State, World, made}
 use Rattle.rules.specs.State.Work.{resting, entries, packets, waiting}
 use Rattle.rules.specs.Registers.{reset}
 use Rattle.rules.specs.Settle.{settled}
-use Rattle.rules.specs.Steps.{packets_at, entries_at, after_opening, open_step, after_entry, entry-step, after_packet, next_place, packet_step, step_on, step, go, run_for, answer_on, answered}
-use Rattle.rules.specs.Calls.{lent_another, Ran, call-run, call-answer, call-write}
+use Rattle.rules.specs.Steps.{packets_at, entries_at, after_opening, open_step, after_entry, entry_step, after_packet, next_place, packet_step, step_on, step, go, run_for, answer_on, answered}
+use Rattle.rules.specs.Calls.{lent_another, Ran, call_run, call_answer, call_write}
 use Rattle.rules.specs.declared.Entry.{Entry}
 use Rattle.rules.specs.declared.Record.{Record}
 use Rattle.rules.specs.declared.Job.{Job}
@@ -56,23 +56,23 @@ LiesIn n (waiting j es h) = Every (EndsIn n) es
 -- ---- one entry
 
 module _ (m : List ℕ) (t : Table) (kept : List Entry) (s : Every (EndsIn (length m)) kept) where
-  ends : (e : Entry) → entry-rules (length m) kept e ≡ Fine → EndsIn (length m) e
-  unfolding entry-rules
+  ends : (e : Entry) → entry_rules (length m) kept e ≡ Fine → EndsIn (length m) e
+  unfolding entry_rules
   ends e h =
       ltb-false (length m) (e.gpa + e.size)
       (kept_rule bad_entry _ (fine-first _ _ (fine-later (rule bad_entry (eqb e.size 0)) _ (fine-later (rule bad_entry (eqb e.id 0)) _ h))))
 
-  kept-lies : (v : Verdict) (e : Entry) → entry-rules (length m) kept e ≡ v → Every (EndsIn (length m)) (keep v kept e).kept
+  kept-lies : (v : Verdict) (e : Entry) → entry_rules (length m) kept e ≡ v → Every (EndsIn (length m)) (keep v kept e).kept
   kept-lies Fine e h = every-pushed (EndsIn (length m)) kept e s (ends e h)
   kept-lies (Broken r) e h = s
 
-  take-lies : Every (EndsIn (length m)) (take-entry m t kept).kept
-  unfolding take-entry
+  take-lies : Every (EndsIn (length m)) (take_entry m t kept).kept
+  unfolding take_entry
   take-lies = by_test (in_reach m t (length kept))
     where
       by_test : (b : Bool)
-          → Every (EndsIn (length m)) (pick b (keep (entry-rules (length m) kept (entry m (entry_place t (length kept)))) kept (entry m (entry_place t (length kept)))) (record { verdict = Broken (refusal bad_entry); kept = kept })).kept
-      by_test true = kept-lies (entry-rules (length m) kept (entry m (entry_place t (length kept)))) (entry m (entry_place t (length kept))) refl
+          → Every (EndsIn (length m)) (pick b (keep (entry_rules (length m) kept (entry m (entry_place t (length kept)))) kept (entry m (entry_place t (length kept)))) (record { verdict = Broken (refusal bad_entry); kept = kept })).kept
+      by_test true = kept-lies (entry_rules (length m) kept (entry m (entry_place t (length kept)))) (entry m (entry_place t (length kept))) refl
       by_test false = s
 
 -- ---- one unit
@@ -113,13 +113,13 @@ module _ (w : World) where
   packet-lies-in j t next es h (broken f) e = omega arith
 
   step-on-lies : (k : Work) → w.state.work ≡ k → LiesIn bytes k → LiesIn bytes (step_on w k).state.work
-  unfolding open_step entry-step packet_step
+  unfolding open_step entry_step packet_step
   step-on-lies resting e h =
       opening-lies-in (opening_of w.mem w.state.regs.ring w.state.regs.ringsize) (subst (LiesIn bytes) (sym e) h)
   step-on-lies (entries o kept) e h =
-      entry-lies-in o (take-entry w.mem o.table kept).kept (at_place (length kept) (take-entry w.mem o.table kept).verdict) (take-lies w.mem o.table kept h)
+      entry-lies-in o (take_entry w.mem o.table kept).kept (at_place (length kept) (take_entry w.mem o.table kept).verdict) (take-lies w.mem o.table kept h)
   step-on-lies (packets j t at es held) e h =
-      packet-lies-in j t (next_place at (left w.mem t at)) es (take-packet es held (left w.mem t at)).held (at_place at (take-packet es held (left w.mem t at)).verdict) h
+      packet-lies-in j t (next_place at (left w.mem t at)) es (take_packet es held (left w.mem t at)).held (at_place at (take_packet es held (left w.mem t at)).verdict) h
   step-on-lies (waiting j es held) e h = subst (LiesIn bytes) (sym e) h
 
   answer-on-lies : (good : Bool) (n : ℕ) (k : Work) → w.state.work ≡ k → LiesIn n k → LiesIn n (answer_on good w k).state.work
@@ -172,10 +172,10 @@ module _ (w : World) where
   packet-made j t next es h (broken f) = refl
 
   on-made : (k : Work) → (step_on w k).state.memory ≡ w.state.memory
-  unfolding open_step entry-step packet_step
+  unfolding open_step entry_step packet_step
   on-made resting = opening-made (opening_of w.mem w.state.regs.ring w.state.regs.ringsize)
-  on-made (entries o kept) = entry-made o (take-entry w.mem o.table kept).kept (at_place (length kept) (take-entry w.mem o.table kept).verdict)
-  on-made (packets j t at es held) = packet-made j t (next_place at (left w.mem t at)) es (take-packet es held (left w.mem t at)).held (at_place at (take-packet es held (left w.mem t at)).verdict)
+  on-made (entries o kept) = entry-made o (take_entry w.mem o.table kept).kept (at_place (length kept) (take_entry w.mem o.table kept).verdict)
+  on-made (packets j t at es held) = packet-made j t (next_place at (left w.mem t at)) es (take_packet es held (left w.mem t at)).held (at_place at (take_packet es held (left w.mem t at)).verdict)
   on-made (waiting j es held) = refl
 
 step-made : (w : World) → (step w).state.memory ≡ w.state.memory
@@ -200,10 +200,10 @@ unfolding answered
 answered-lies good w h =
     subst (λ i. LiesIn i (answered good w).state.work) (sym (answered-keeps-memory good w)) (answer-on-lies w good w.state.memory w.state.work refl h)
 
-pub run-call-lies : (w : World) (k : ℕ) → Lies w.state → Lies (call-run w k).world.state
+pub run-call-lies : (w : World) (k : ℕ) → Lies w.state → Lies (call_run w k).world.state
 run-call-lies w k h = of-run (λ (r : Ran). Lies r.world.state) w k (λ e. h) (λ e. ran-lies w k e h)
 
-pub answer-call-lies : (w : World) (good : Bool) (k : ℕ) → Lies w.state → Lies (call-answer w good k).world.state
+pub answer-call-lies : (w : World) (good : Bool) (k : ℕ) → Lies w.state → Lies (call_answer w good k).world.state
 answer-call-lies w good k h =
     of-answer (λ (r : Ran). Lies r.world.state) w good k (λ e. h) (λ e f. h)
     (λ e f. ran-lies (answered good w) k (answered-is-lent-alike good w ∙ e) (answered-lies good w h))
@@ -213,8 +213,8 @@ unfolding reset
 written-lies s s' offset v h (keeps r n c e) = h
 written-lies s s' offset v h (drops e) = omega arith
 
-pub write-call-lies : (s : State) (offset v : ℕ) → Lies s → Lies (call-write s offset v).state
-write-call-lies s offset v h = written-lies s (call-write s offset v).state offset v h (write-keeps-or-drops s offset v)
+pub write-call-lies : (s : State) (offset v : ℕ) → Lies s → Lies (call_write s offset v).state
+write-call-lies s offset v h = written-lies s (call_write s offset v).state offset v h (write-keeps-or-drops s offset v)
 
 -- ---- so what is handed out lies in memory
 

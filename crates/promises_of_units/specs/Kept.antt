@@ -16,7 +16,7 @@ use Rattle.rules.specs.Calls.{lent_another}
 use Rattle.rules.specs.declared.Entry.{Entry}
 use Rattle.rules.specs.declared.Job.{Job}
 use Rattle.rules.specs.declared.Registers.{Registers}
-use Rattle.rules.specs.Loaded.{loaded-sections, loaded}
+use Rattle.rules.specs.Loaded.{loaded_sections, loaded}
 use Rattle.settle.specs.Only.{answered-is-lent-alike, marked-length}
 use Rattle.promises_of_units.specs.Fences.{good-settles, failed-settles}
 use Rattle.promises_of_units.specs.Called.{Call, after, Called}
@@ -113,7 +113,7 @@ module _ {Kind : List ℕ → Type 0} {Fact : ℕ → Work → Type 0} (c : Kept
 
   -- of any device that was made and called
   pub called-keeps : (s : State) (k : Called s) → EachLent Kind s k → Fact s.memory s.work
-  unfolding EachLent loaded loaded-sections
+  unfolding EachLent loaded loaded_sections
   called-keeps s (makes memory) l = c.rests memory
   called-keeps s (loads b good) l = c.rests (loaded b).memory
   called-keeps s (calls {s = t} k m d) l =

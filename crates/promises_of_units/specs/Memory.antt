@@ -7,13 +7,13 @@ use Rattle.machine.specs.Machine.{Out, run_none, run-stop, run-go}
 use Rattle.rules.specs.Judging.{Finding, at_place, without_place}
 use Rattle.rules.specs.Judging.Finding.{fine, broken}
 use Rattle.rules.specs.Ring.{opening_of}
-use Rattle.rules.specs.Table.{take-entry}
+use Rattle.rules.specs.Table.{take_entry}
 use Rattle.rules.specs.Stream.{left}
-use Rattle.rules.specs.Packets.{Progress, take-packet, Belongings, left_by}
+use Rattle.rules.specs.Packets.{Progress, take_packet, Belongings, left_by}
 use Rattle.rules.specs.State.{Work, World}
 use Rattle.rules.specs.State.Work.{resting, entries, packets, waiting}
 use Rattle.rules.specs.Settle.{ended_by, marked, settled}
-use Rattle.rules.specs.Steps.{after_opening, open_step, after_entry, entry-step, after_packet, next_place, packet_step, step_on, step, go, run_for, answer_on, answered}
+use Rattle.rules.specs.Steps.{after_opening, open_step, after_entry, entry_step, after_packet, next_place, packet_step, step_on, step, go, run_for, answer_on, answered}
 use Rattle.rules.specs.declared.Refusal.{Refusal}
 use Rattle.rules.specs.declared.Entry.{Entry}
 use Rattle.rules.specs.declared.Job.{Job}
@@ -61,11 +61,11 @@ module _ (w : World) where
   packet-touches j s at next es h h' (broken f) = settled-touches (packets j s at es h) j (broken f) w.state.belongings refl
 
   on-touches : (k : Work) → Touched w k (step_on w k).mem
-  unfolding open_step entry-step packet_step
+  unfolding open_step entry_step packet_step
   on-touches resting = opening-touches (opening_of w.mem w.state.regs.ring w.state.regs.ringsize) refl
-  on-touches (entries o kept) = entry-touches o kept (take-entry w.mem o.table kept).kept (at_place (length kept) (take-entry w.mem o.table kept).verdict)
+  on-touches (entries o kept) = entry-touches o kept (take_entry w.mem o.table kept).kept (at_place (length kept) (take_entry w.mem o.table kept).verdict)
   on-touches (packets j s at es h) =
-      packet-touches j s at (next_place at (left w.mem s at)) es h (take-packet es h (left w.mem s at)).held (at_place at (take-packet es h (left w.mem s at)).verdict)
+      packet-touches j s at (next_place at (left w.mem s at)) es h (take_packet es h (left w.mem s at)).held (at_place at (take_packet es h (left w.mem s at)).verdict)
   on-touches (waiting j es h) = untouched
 
   answer-touches : (good : Bool) (k : Work) → Touched w k (answer_on good w k).mem

@@ -20,11 +20,11 @@ use Rattle.rules.specs.Table.{entry_id, matching}
 use Rattle.rules.specs.Packets.{Progress}
 use Rattle.rules.specs.State.{Work, State, World}
 use Rattle.rules.specs.State.Work.{resting, entries, packets, waiting}
-use Rattle.rules.specs.Calls.{handed_out, record_read, call-record}
+use Rattle.rules.specs.Calls.{handed_out, record_read, call_record}
 use Rattle.rules.specs.declared.Entry.{Entry}
 use Rattle.rules.specs.declared.Record.{Record}
 use Rattle.rules.specs.declared.Job.{Job}
-use Rattle.rules.specs.Loaded.{loaded-sections, loaded}
+use Rattle.rules.specs.Loaded.{loaded_sections, loaded}
 use Rattle.rows.specs.Keys.{Once}
 use Rattle.promises_of_packets.specs.Held.{Every, Within, Inside, OfAKind}
 use Rattle.promises_of_units.specs.Sound.{SoundState, made-sound, waiting-ranges-inside, waiting-kinds}
@@ -60,7 +60,7 @@ called-sound s (loads b good) = loaded-sound b good
 called-sound s (calls {s = t} c m k) = call-keeps-sound c (record { state = t; mem = m }) (called-sound t k)
 
 pub called-lies : (s : State) → Called s → Lies s
-unfolding loaded loaded-sections
+unfolding loaded loaded_sections
 called-lies s (makes memory) = made-lies memory
 called-lies s (loads b good) = omega arith
 called-lies s (calls {s = t} c m k) = call_lies c (record { state = t; mem = m }) (called-lies t k)
@@ -148,8 +148,8 @@ module _ (s : State) (i : ℕ) (P : Record → Type 0)
   by-work (packets j t at es h) e d = absurd (omega arith)
   by-work (waiting j es h) e d = by_found j es h e (nth h.holdings.records i) refl d
 
-  at-the-record-call : (call-record s i).answer ≡ done → P (call-record s i).range
-  unfolding call-record
+  at-the-record-call : (call_record s i).answer ≡ done → P (call_record s i).range
+  unfolding call_record
   at-the-record-call d = by-work s.work refl d
 
 module _ (s : State) (k : Called s) (i : ℕ) where
@@ -180,11 +180,11 @@ module _ (s : State) (k : Called s) (i : ℕ) where
           }
 
   -- a record call that hands out a range: of any device, after any calls, over any memories
-  pub ranges-at-the-record-call : (call-record s i).answer ≡ done → ((call-record s i).range.kind ≡ clips → ⊥) → InOneEntry s i (call-record s i).range
+  pub ranges-at-the-record-call : (call_record s i).answer ≡ done → ((call_record s i).range.kind ≡ clips → ⊥) → InOneEntry s i (call_record s i).range
   ranges-at-the-record-call = at-the-record-call s i IfARange record-lies
 
   -- and whatever it hands out is of one of the four kinds
-  pub kinds-at-the-record-call : (call-record s i).answer ≡ done → OfAKind (call-record s i).range
+  pub kinds-at-the-record-call : (call_record s i).answer ≡ done → OfAKind (call_record s i).range
   kinds-at-the-record-call =
       at-the-record-call s i OfAKind
       (λ j es h c w e. every-nth OfAKind h.holdings.records i c (waiting-kinds s j es h (called-sound s k) w) e)

@@ -5,9 +5,9 @@ use Rattle.rules.specs.Numbers.{done}
 use Rattle.rules.specs.Lists.{Found}
 use Rattle.rules.specs.Lists.Found.{none, found}
 use Rattle.rules.specs.State.{State, World}
-use Rattle.rules.specs.Registers.{Write, reset-registers, reset, write-of}
+use Rattle.rules.specs.Registers.{Write, reset_registers, reset, write_of}
 use Rattle.rules.specs.Steps.{answered}
-use Rattle.rules.specs.Calls.{wrote, call-write, Ran, call-run, call-answer}
+use Rattle.rules.specs.Calls.{wrote, call_write, Ran, call_run, call_answer}
 use Rattle.rule_laws.specs.Created.{SoundError}
 use Rattle.promises_of_units.specs.Writes.{Written, write-keeps-or-drops}
 use Rattle.promises_of_units.specs.Writes.Written.{keeps, drops}
@@ -16,16 +16,16 @@ use Rattle.promises_of_units.specs.Sound.{SoundState, run-keeps-sound, answer-ke
 
 -- ---- refused calls
 
-pub refused-run-changes-nothing : (w : World) (n : ℕ) → ((call-run w n).answer ≡ done → ⊥) → (call-run w n).world ≡ w
+pub refused-run-changes-nothing : (w : World) (n : ℕ) → ((call_run w n).answer ≡ done → ⊥) → (call_run w n).world ≡ w
 refused-run-changes-nothing w n = of-run (λ (r : Ran). (r.answer ≡ done → ⊥) → r.world ≡ w) w n (λ e h. refl) (λ e h. absurd (h refl))
 
-pub refused-answer-changes-nothing : (w : World) (good : Bool) (n : ℕ) → ((call-answer w good n).answer ≡ done → ⊥) → (call-answer w good n).world ≡ w
+pub refused-answer-changes-nothing : (w : World) (good : Bool) (n : ℕ) → ((call_answer w good n).answer ≡ done → ⊥) → (call_answer w good n).world ≡ w
 refused-answer-changes-nothing w good n =
     of-answer (λ (r : Ran). (r.answer ≡ done → ⊥) → r.world ≡ w) w good n (λ e h. refl) (λ e f h. refl) (λ e f h. absurd (h refl))
 
-pub refused-write-changes-nothing : (s : State) (offset v : ℕ) → ((call-write s offset v).answer ≡ done → ⊥) → (call-write s offset v).state ≡ s
-unfolding call-write
-refused-write-changes-nothing s offset v = by_found (write-of s offset v)
+pub refused-write-changes-nothing : (s : State) (offset v : ℕ) → ((call_write s offset v).answer ≡ done → ⊥) → (call_write s offset v).state ≡ s
+unfolding call_write
+refused-write-changes-nothing s offset v = by_found (write_of s offset v)
   where
     by_found : (f : Found Write) → ((wrote s f).answer ≡ done → ⊥) → (wrote s f).state ≡ s
     by_found none h = refl
@@ -33,19 +33,19 @@ refused-write-changes-nothing s offset v = by_found (write-of s offset v)
 
 -- ---- soundness, kept by every call
 
-pub run-call-keeps-sound : (w : World) (n : ℕ) → SoundState w.state → SoundState (call-run w n).world.state
+pub run-call-keeps-sound : (w : World) (n : ℕ) → SoundState w.state → SoundState (call_run w n).world.state
 run-call-keeps-sound w n s = of-run (λ (r : Ran). SoundState r.world.state) w n (λ e. s) (λ e. run-keeps-sound n w s)
 
-pub answer-call-keeps-sound : (w : World) (good : Bool) (n : ℕ) → SoundState w.state → SoundState (call-answer w good n).world.state
+pub answer-call-keeps-sound : (w : World) (good : Bool) (n : ℕ) → SoundState w.state → SoundState (call_answer w good n).world.state
 answer-call-keeps-sound w good n s =
     of-answer (λ (r : Ran). SoundState r.world.state) w good n (λ e. s) (λ e f. s)
     (λ e f. run-keeps-sound n (answered good w) (answer-keeps-sound good w s))
 
 -- a write keeps it: it changes registers alone and not the last error, or drops everything but that
 written-sound : (s s' : State) (offset v : ℕ) → SoundState s → Written s offset v s' → SoundState s'
-unfolding reset reset-registers
+unfolding reset reset_registers
 written-sound s s' offset v k (keeps r n c e) = record { belongings = k.belongings; work = k.work; error = subst SoundError (sym e) k.error }
 written-sound s s' offset v k (drops h) = record { belongings = (made-sound 0).belongings; work = (made-sound 0).work; error = k.error }
 
-pub write-call-keeps-sound : (s : State) (offset v : ℕ) → SoundState s → SoundState (call-write s offset v).state
-write-call-keeps-sound s offset v k = written-sound s (call-write s offset v).state offset v k (write-keeps-or-drops s offset v)
+pub write-call-keeps-sound : (s : State) (offset v : ℕ) → SoundState s → SoundState (call_write s offset v).state
+write-call-keeps-sound s offset v k = written-sound s (call_write s offset v).state offset v k (write-keeps-or-drops s offset v)

@@ -1,7 +1,7 @@
 -- What a host is told by each call: its answer, and the values that stand beside it.
 use Rattle.std.specs.Prelude.{ℕ}
 use Rattle.rules.specs.State.{World}
-use Rattle.rules.specs.Calls.{no_range, call-write, call-read, call-run, call-record, call-answer}
+use Rattle.rules.specs.Calls.{no_range, call_write, call_read, call_run, call_record, call_answer}
 use Rattle.rules.specs.declared.Record.{Record}
 use Rattle.rules.specs.declared.Ended.{Ended}
 use Rattle.rules.specs.declared.Ended.TheVariants.{Idle}
@@ -35,9 +35,9 @@ abbrev pub handing : ℕ → Record → Reply
 handing a range = record { answer = a; value = 0; units = 0; ended = Idle; range = range }
 
 -- the rules' reply to each call
-unfoldable pub reply-to : Call → World → Reply
-reply-to (writes offset v) w = answering (call-write w.state offset v).answer
-reply-to (reads offset) w = showing (call-read w.state offset).answer (call-read w.state offset).value
-reply-to (runs n) w = spending (call-run w n).answer (call-run w n).units (call-run w n).ended
-reply-to (records i) w = handing (call-record w.state i).answer (call-record w.state i).range
-reply-to (answers good n) w = spending (call-answer w good n).answer (call-answer w good n).units (call-answer w good n).ended
+unfoldable pub reply_to : Call → World → Reply
+reply_to (writes offset v) w = answering (call_write w.state offset v).answer
+reply_to (reads offset) w = showing (call_read w.state offset).answer (call_read w.state offset).value
+reply_to (runs n) w = spending (call_run w n).answer (call_run w n).units (call_run w n).ended
+reply_to (records i) w = handing (call_record w.state i).answer (call_record w.state i).range
+reply_to (answers good n) w = spending (call_answer w good n).answer (call_answer w good n).units (call_answer w good n).ended

@@ -10,7 +10,7 @@ use Rattle.rules.specs.Numbers.{done, other_memory, nothing_waits}
 use Rattle.rules.specs.State.{Work, World}
 use Rattle.rules.specs.State.Work.{resting, entries, packets, waiting}
 use Rattle.rules.specs.Steps.{busy, step, go, run_for, waits_on, waits, answered}
-use Rattle.rules.specs.Calls.{not_run, lent_another, at_rest, ending, Ran, ran, call-run, Answered, answer-alone, and_run, call-answer}
+use Rattle.rules.specs.Calls.{not_run, lent_another, at_rest, ending, Ran, ran, call_run, Answered, answer_alone, and_run, call_answer}
 use Rattle.rules.specs.declared.Ended.TheVariants.{Idle, Waiting, Paused}
 use Rattle.settle.specs.Only.{answered-is-lent-alike}
 
@@ -21,16 +21,16 @@ module _ (P : Ran → Type 0) (w : World) (n : ℕ) where
   by-lent true e p q = p e
   by-lent false e p q = q e
 
-  pub of-run : (lent_another w ≡ true → P (not_run other_memory w)) → (lent_another w ≡ false → P (ran (run_for n w))) → P (call-run w n)
-  unfolding call-run
+  pub of-run : (lent_another w ≡ true → P (not_run other_memory w)) → (lent_another w ≡ false → P (ran (run_for n w))) → P (call_run w n)
+  unfolding call_run
   of-run p q = by-lent (lent_another w) refl p q
 
 -- what is true of an answer that is refused with 1, of one refused with 3, and of one that is taken and then run, is true of the call
 module _ (P : Ran → Type 0) (w : World) (good : Bool) (n : ℕ) where
   pub of-answer : (lent_another w ≡ true → P (not_run other_memory w))
       → (lent_another w ≡ false → waits w.state ≡ false → P (not_run nothing_waits w))
-      → (lent_another w ≡ false → waits w.state ≡ true → P (ran (run_for n (answered good w)))) → P (call-answer w good n)
-  unfolding call-answer answer-alone
+      → (lent_another w ≡ false → waits w.state ≡ true → P (ran (run_for n (answered good w)))) → P (call_answer w good n)
+  unfolding call_answer answer_alone
   of-answer p q r = by_tests (lent_another w) (waits w.state) refl refl
     where
       reply : Bool → Bool → Answered
@@ -47,7 +47,7 @@ module _ (P : Ran → Type 0) (w : World) (good : Bool) (n : ℕ) where
 
 -- an answer that is lent the device's memory while a submission waits is taken
 pub taken-and-run : (w : World) (good : Bool) (n : ℕ) → lent_another w ≡ false → waits w.state ≡ true
-    → call-answer w good n ≡ ran (run_for n (answered good w))
+    → call_answer w good n ≡ ran (run_for n (answered good w))
 taken-and-run w good n e f =
     of-answer (λ (r : Ran). r ≡ ran (run_for n (answered good w))) w good n (λ l. absurd (let z : ◌≡◌ {A = ℕ} 0 1 = cc in omega arith))
     (λ l k. absurd (let z : ◌≡◌ {A = ℕ} 0 1 = cc in omega arith)) (λ l k. refl)
@@ -73,15 +73,15 @@ all-or-is-done w n = by_test (go (run_for n w).state) refl
     by_test false g = inr g
 
 -- a run never spends more than it was allowed
-pub never-more-than-allowed : (w : World) (n : ℕ) → (call-run w n).units ≤ n
+pub never-more-than-allowed : (w : World) (n : ℕ) → (call_run w n).units ≤ n
 never-more-than-allowed w n = of-run (λ (r : Ran). r.units ≤ n) w n (λ e. omega arith) (λ e. units-room go step n w)
 
 -- and a refused one spends nothing
-pub refused-run-spends-nothing : (w : World) (n : ℕ) → lent_another w ≡ true → (call-run w n).units ≡ 0
+pub refused-run-spends-nothing : (w : World) (n : ℕ) → lent_another w ≡ true → (call_run w n).units ≡ 0
 refused-run-spends-nothing w n h = of-run (λ (r : Ran). r.units ≡ 0) w n (λ e. refl) (λ e. absurd (let z : ◌≡◌ {A = ℕ} 0 1 = cc in omega arith))
 
 -- over a memory of the device's own length a run has spent all of its allowance, or nothing is due where it stopped
-pub run-spends-all-or-is-done : (w : World) (n : ℕ) → lent_another w ≡ false → ((call-run w n).units ≡ n) ⊎ (go (call-run w n).world ≡ false)
+pub run-spends-all-or-is-done : (w : World) (n : ℕ) → lent_another w ≡ false → ((call_run w n).units ≡ n) ⊎ (go (call_run w n).world ≡ false)
 run-spends-all-or-is-done w n h =
     of-run (λ (r : Ran). (r.units ≡ n) ⊎ (go r.world ≡ false)) w n (λ e. absurd (let z : ◌≡◌ {A = ℕ} 0 1 = cc in omega arith))
     (λ e. all-or-is-done w n)
@@ -103,23 +103,23 @@ paused-all w n h =
     spends-all n w (paused-on (run_for n w).state.state.regs.enabled (run_for n w).state.state.regs.doorbell (run_for n w).state.state.work h)
 
 -- a run that ended paused has spent all of its allowance
-pub paused-spent-all : (w : World) (n : ℕ) → (call-run w n).ended ≡ Paused → (call-run w n).units ≡ n
+pub paused-spent-all : (w : World) (n : ℕ) → (call_run w n).ended ≡ Paused → (call_run w n).units ≡ n
 paused-spent-all w n =
     of-run (λ (r : Ran). r.ended ≡ Paused → r.units ≡ n) w n (λ e h. absurd (let z : ◌≡◌ {A = ℕ} 0 1 = cc in omega arith)) (λ e h. paused-all w n h)
 
 -- ---- the same of an answer and the run after it
 
-pub answer-never-more-than-allowed : (w : World) (good : Bool) (n : ℕ) → (call-answer w good n).units ≤ n
+pub answer-never-more-than-allowed : (w : World) (good : Bool) (n : ℕ) → (call_answer w good n).units ≤ n
 answer-never-more-than-allowed w good n =
     of-answer (λ (r : Ran). r.units ≤ n) w good n (λ e. omega arith) (λ e f. omega arith) (λ e f. units-room go step n (answered good w))
 
-pub answer-spends-all-or-is-done : (w : World) (good : Bool) (n : ℕ) → (call-answer w good n).answer ≡ done
-    → ((call-answer w good n).units ≡ n) ⊎ (go (call-answer w good n).world ≡ false)
+pub answer-spends-all-or-is-done : (w : World) (good : Bool) (n : ℕ) → (call_answer w good n).answer ≡ done
+    → ((call_answer w good n).units ≡ n) ⊎ (go (call_answer w good n).world ≡ false)
 answer-spends-all-or-is-done w good n =
     of-answer (λ (r : Ran). r.answer ≡ done → (r.units ≡ n) ⊎ (go r.world ≡ false)) w good n
     (λ e h. absurd (omega arith)) (λ e f h. absurd (omega arith)) (λ e f h. all-or-is-done (answered good w) n)
 
-pub answer-paused-spent-all : (w : World) (good : Bool) (n : ℕ) → (call-answer w good n).ended ≡ Paused → (call-answer w good n).units ≡ n
+pub answer-paused-spent-all : (w : World) (good : Bool) (n : ℕ) → (call_answer w good n).ended ≡ Paused → (call_answer w good n).units ≡ n
 answer-paused-spent-all w good n =
     of-answer (λ (r : Ran). r.ended ≡ Paused → r.units ≡ n) w good n (λ e h. absurd (let z : ◌≡◌ {A = ℕ} 0 1 = cc in omega arith))
     (λ e f h. absurd (let z : ◌≡◌ {A = ℕ} 0 1 = cc in omega arith)) (λ e f h. paused-all (answered good w) n h)

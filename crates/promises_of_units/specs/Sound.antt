@@ -11,14 +11,14 @@ use Rattle.rules.specs.Lists.Found.{none, found}
 use Rattle.rules.specs.Judging.{refusal, rule, Finding, at_place, without_place}
 use Rattle.rules.specs.Judging.Finding.{fine, broken}
 use Rattle.rules.specs.Layouts.{entry}
-use Rattle.rules.specs.Table.{entry_id, matching, is_found, entry_place, entry-rules, keep, in_reach, take-entry}
+use Rattle.rules.specs.Table.{entry_id, matching, is_found, entry_place, entry_rules, keep, in_reach, take_entry}
 use Rattle.rules.specs.Ring.{opening_of}
 use Rattle.rules.specs.Stream.{left}
-use Rattle.rules.specs.Packets.{Progress, at_first, take-packet, Belongings}
+use Rattle.rules.specs.Packets.{Progress, at_first, take_packet, Belongings}
 use Rattle.rules.specs.State.{Work, State, World, made}
 use Rattle.rules.specs.State.Work.{resting, entries, packets, waiting}
-use Rattle.rules.specs.Settle.{doorbell-cleared, settled}
-use Rattle.rules.specs.Steps.{packets_at, entries_at, after_opening, open_step, after_entry, entry-step, after_packet, next_place, packet_step, step_on, step, go, run_for, answer_on, answered}
+use Rattle.rules.specs.Settle.{doorbell_cleared, settled}
+use Rattle.rules.specs.Steps.{packets_at, entries_at, after_opening, open_step, after_entry, entry_step, after_packet, next_place, packet_step, step_on, step, go, run_for, answer_on, answered}
 use Rattle.rules.specs.declared.Entry.{Entry}
 use Rattle.rules.specs.declared.Job.{Job}
 use Rattle.rules.specs.declared.Table.{Table}
@@ -33,7 +33,7 @@ use Rattle.rows.specs.Keys.{Once, once-nil, once-pushed}
 use Rattle.rule_laws.specs.Created.{BytesOf, AsCreated, SoundError}
 use Rattle.promises_of_packets.specs.Held.{Every, Inside, OfAKind, SoundBelongings, nothing-sound, SoundProgress, first-sound, left-sound, take-sound}
 use Rattle.rule_laws.specs.Fine.{fine-later, kept_rule, both_left}
-use Rattle.rule_laws.specs.Listed.{take_entry_listed, take_packet_listed, ListedOpening, opening-listed}
+use Rattle.rule_laws.specs.Listed.{take_entry_listed, take_packet_listed, ListedOpening, opening_listed}
 use Rattle.promises_of_units.specs.SoundErrors.{ListedFinding, found-listed, fault-sound, ended-sound}
 
 -- ---- the entries of a table: at most 64, each id once
@@ -51,8 +51,8 @@ unfound (found x) e = absurd (let z : ◌≡◌ {A = ℕ} 0 1 = cc in omega arit
 
 module _ (m : List ℕ) (t : Table) (kept : List Entry) (s : SoundEntries kept) where
   -- an entry that is fine has an id that no earlier one has
-  new-id : (e : Entry) → entry-rules (length m) kept e ≡ Fine → matching e.id kept ≡ none
-  unfolding entry-rules
+  new-id : (e : Entry) → entry_rules (length m) kept e ≡ Fine → matching e.id kept ≡ none
+  unfolding entry_rules
   new-id e h =
       unfound (matching e.id kept)
       (kept_rule twice_in_table _
@@ -60,19 +60,19 @@ module _ (m : List ℕ) (t : Table) (kept : List Entry) (s : SoundEntries kept) 
       (fine-later (rule bad_entry (eqb e.size 0)) _
       (fine-later (rule bad_entry (eqb e.id 0)) _ h))))
 
-  keep-sound : (v : Verdict) (e : Entry) → length kept < most → entry-rules (length m) kept e ≡ v → SoundEntries (keep v kept e).kept
+  keep-sound : (v : Verdict) (e : Entry) → length kept < most → entry_rules (length m) kept e ≡ v → SoundEntries (keep v kept e).kept
   keep-sound Fine e room h =
       record { few = simp length-append (omega arith); once = once-pushed entry_id kept e s.once (new-id e h) }
   keep-sound (Broken r) e room h = s
 
-  taken-by : (b : Bool) → in_reach m t (length kept) ≡ b
-      → SoundEntries (pick b (keep (entry-rules (length m) kept (entry m (entry_place t (length kept)))) kept (entry m (entry_place t (length kept)))) (record { verdict = Broken (refusal bad_entry); kept = kept })).kept
-  taken-by true e = keep-sound (entry-rules (length m) kept (entry m (entry_place t (length kept)))) (entry m (entry_place t (length kept))) (ltb-true (length kept) most (both_left (ltb (length kept) most) _ e)) refl
-  taken-by false e = s
+  taken_by : (b : Bool) → in_reach m t (length kept) ≡ b
+      → SoundEntries (pick b (keep (entry_rules (length m) kept (entry m (entry_place t (length kept)))) kept (entry m (entry_place t (length kept)))) (record { verdict = Broken (refusal bad_entry); kept = kept })).kept
+  taken_by true e = keep-sound (entry_rules (length m) kept (entry m (entry_place t (length kept)))) (entry m (entry_place t (length kept))) (ltb-true (length kept) most (both_left (ltb (length kept) most) _ e)) refl
+  taken_by false e = s
 
-  pub take-entry-sound : SoundEntries (take-entry m t kept).kept
-  unfolding take-entry
-  take-entry-sound = taken-by (in_reach m t (length kept)) refl
+  pub take-entry-sound : SoundEntries (take_entry m t kept).kept
+  unfolding take_entry
+  take-entry-sound = taken_by (in_reach m t (length kept)) refl
 
 -- ---- the state
 
@@ -115,7 +115,7 @@ settled-sound j v owned w l r g = record { belongings = r; work = omega arith; e
 
 module _ (w : World) (s : SoundBelongings w.state.belongings) (g : SoundError w.state.regs.error) where
   opening-sound : (v : Opening) → ListedOpening v → SoundWork w.state.work → SoundState (after_opening w v).state
-  unfolding doorbell-cleared
+  unfolding doorbell_cleared
   opening-sound BadRing l k = record { belongings = s; work = k; error = fault-sound (without_place (refusal bad_ring)) 0 w.state.regs refl }
   opening-sound NoWork l k = record { belongings = s; work = k; error = g }
   opening-sound (Refused j r) l k = settled-sound j (broken (without_place r)) _ w l s g
@@ -131,15 +131,15 @@ module _ (w : World) (s : SoundBelongings w.state.belongings) (g : SoundError w.
   after-packet-sound j t next es h (broken f) l e k = settled-sound j (broken f) _ w l s g
 
   step-on-sound : (k : Work) → w.state.work ≡ k → SoundWork k → SoundState (step_on w k).state
-  unfolding open_step entry-step packet_step
+  unfolding open_step entry_step packet_step
   step-on-sound resting e h =
-      opening-sound (opening_of w.mem w.state.regs.ring w.state.regs.ringsize) (opening-listed w.mem w.state.regs.ring w.state.regs.ringsize) (subst SoundWork (sym e) h)
+      opening-sound (opening_of w.mem w.state.regs.ring w.state.regs.ringsize) (opening_listed w.mem w.state.regs.ring w.state.regs.ringsize) (subst SoundWork (sym e) h)
   step-on-sound (entries o kept) e h =
-      after-entry-sound o (take-entry w.mem o.table kept).kept (at_place (length kept) (take-entry w.mem o.table kept).verdict)
-      (found-listed (length kept) (take-entry w.mem o.table kept).verdict (take_entry_listed w.mem o.table kept)) (take-entry-sound w.mem o.table kept h)
+      after-entry-sound o (take_entry w.mem o.table kept).kept (at_place (length kept) (take_entry w.mem o.table kept).verdict)
+      (found-listed (length kept) (take_entry w.mem o.table kept).verdict (take_entry_listed w.mem o.table kept)) (take-entry-sound w.mem o.table kept h)
   step-on-sound (packets j t at es held) e h =
-      after-packet-sound j t (next_place at (left w.mem t at)) es (take-packet es held (left w.mem t at)).held (at_place at (take-packet es held (left w.mem t at)).verdict)
-      (found-listed at (take-packet es held (left w.mem t at)).verdict (take_packet_listed es held (left w.mem t at))) h.0
+      after-packet-sound j t (next_place at (left w.mem t at)) es (take_packet es held (left w.mem t at)).held (at_place at (take_packet es held (left w.mem t at)).verdict)
+      (found-listed at (take_packet es held (left w.mem t at)).verdict (take_packet_listed es held (left w.mem t at))) h.0
       (take-sound es held h.1 (left w.mem t at))
   step-on-sound (waiting j es held) e h = record { belongings = s; work = subst SoundWork (sym e) h; error = g }
 

@@ -10,7 +10,7 @@ use Rattle.rules.specs.Numbers.{bad_entry}
 use Rattle.rules.specs.Lists.{pushed}
 use Rattle.rules.specs.Judging.{refusal}
 use Rattle.rules.specs.Layouts.{entry, stream_header_size}
-use Rattle.rules.specs.Table.{Taken, entry_place, entry-rules, keep, in_reach, take-entry}
+use Rattle.rules.specs.Table.{Taken, entry_place, entry_rules, keep, in_reach, take_entry}
 use Rattle.rules.specs.Ring.{opening_of}
 use Rattle.rules.specs.Packets.{Progress, at_first, Belongings}
 use Rattle.rules.specs.State.{Work, State, World}
@@ -36,18 +36,18 @@ next_entry m t kept = entry m (entry_place t (length kept))
 module _ (m : List ℕ) (t : Table) (kept : List Entry) where
   -- what is kept is right, where the verdict is good
   abbrev Right : Taken → Type 0
-  Right x = x.verdict ≡ Fine → (x.kept ≡ pushed kept (next_entry m t kept)) × (entry-rules (length m) kept (next_entry m t kept) ≡ Fine)
+  Right x = x.verdict ≡ Fine → (x.kept ≡ pushed kept (next_entry m t kept)) × (entry_rules (length m) kept (next_entry m t kept) ≡ Fine)
 
-  by-verdict : (v : Verdict) → entry-rules (length m) kept (next_entry m t kept) ≡ v → Right (keep v kept (next_entry m t kept))
+  by-verdict : (v : Verdict) → entry_rules (length m) kept (next_entry m t kept) ≡ v → Right (keep v kept (next_entry m t kept))
   by-verdict Fine e d = (refl, e)
   by-verdict (Broken r) e d = absurd (let z : ◌≡◌ {A = ℕ} 0 1 = cc in omega arith)
 
-  good-entry-is-kept : Right (take-entry m t kept)
-  unfolding take-entry
+  good-entry-is-kept : Right (take_entry m t kept)
+  unfolding take_entry
   good-entry-is-kept = by_test (in_reach m t (length kept))
     where
-      by_test : (b : Bool) → Right (pick b (keep (entry-rules (length m) kept (next_entry m t kept)) kept (next_entry m t kept)) (record { verdict = Broken (refusal bad_entry); kept = kept }))
-      by_test true d = by-verdict (entry-rules (length m) kept (next_entry m t kept)) refl d
+      by_test : (b : Bool) → Right (pick b (keep (entry_rules (length m) kept (next_entry m t kept)) kept (next_entry m t kept)) (record { verdict = Broken (refusal bad_entry); kept = kept }))
+      by_test true d = by-verdict (entry_rules (length m) kept (next_entry m t kept)) refl d
       by_test false d = absurd (let z : ◌≡◌ {A = ℕ} 0 1 = cc in omega arith)
 
 -- ---- whose table it is, over memories of n bytes
@@ -56,7 +56,7 @@ module _ (m : List ℕ) (t : Table) (kept : List Entry) where
 pub data TakenFrom (n : ℕ) (t : Table) : List Entry → Type 0 where
   none_kept : TakenFrom n t []
   kept-one : {kept : List Entry} → TakenFrom n t kept → (m : List ℕ) → length m ≡ n
-      → entry-rules n kept (next_entry m t kept) ≡ Fine → TakenFrom n t (pushed kept (next_entry m t kept))
+      → entry_rules n kept (next_entry m t kept) ≡ Fine → TakenFrom n t (pushed kept (next_entry m t kept))
 
 -- an opening over some memory, with some ring, started this
 pub record StartedOnce (n : ℕ) (o : Opened) : Type 0 where
@@ -114,8 +114,8 @@ module _ (w : World) (n : ℕ) (lent : length w.mem ≡ n) where
       (entries-own n h.what [] w.state.belongings (record { mem = w.mem; long = lent; ring = w.state.regs.ring; size = w.state.regs.ringsize; started = h.here }) none_kept (omega arith))
   next-own (entries o kept) next h own =
       let x : Entry = next_entry w.mem o.table kept in
-      let good : ((take-entry w.mem o.table kept).kept ≡ pushed kept x) × (entry-rules (length w.mem) kept x ≡ Fine) = good-entry-is-kept w.mem o.table kept h.0 in
-      let more : TakenFrom n o.table (pushed kept x) = kept-one own.1 w.mem lent (subst (λ i. entry-rules i kept x ≡ Fine) lent good.1) in
+      let good : ((take_entry w.mem o.table kept).kept ≡ pushed kept x) × (entry_rules (length w.mem) kept x ≡ Fine) = good-entry-is-kept w.mem o.table kept h.0 in
+      let more : TakenFrom n o.table (pushed kept x) = kept-one own.1 w.mem lent (subst (λ i. entry_rules i kept x ≡ Fine) lent good.1) in
       subst (OwnTable n) (sym h.1)
       (subst (λ es. OwnTable n (entries_at o es w.state.belongings)) (sym good.0)
       (entries-own n o (pushed kept x) w.state.belongings own.0 more (simp length-append (omega (arith, own.2)))))

@@ -9,14 +9,14 @@ use Rattle.rules.specs.Lists.{nth}
 use Rattle.rules.specs.Judging.{fault_at, at_place, without_place}
 use Rattle.rules.specs.Judging.Finding.{broken}
 use Rattle.rules.specs.Ring.{opening_of}
-use Rattle.rules.specs.Table.{take-entry}
+use Rattle.rules.specs.Table.{take_entry}
 use Rattle.rules.specs.Stream.{left}
-use Rattle.rules.specs.Packets.{Progress, take-packet}
+use Rattle.rules.specs.Packets.{Progress, take_packet}
 use Rattle.rules.specs.State.{Work, State, World, working}
 use Rattle.rules.specs.State.Work.{resting, entries, packets, waiting}
 use Rattle.rules.specs.Settle.{settled, settled_keeping, ring_refused, found_no_work}
-use Rattle.rules.specs.Steps.{packets_at, entries_at, after_opening, open_step, after_entry, entry-step, after_packet, next_place, packet_step, step_on, step, go, run_for, waits_on, waits}
-use Rattle.rules.specs.Calls.{handed_out, record_read, call-record, no_range}
+use Rattle.rules.specs.Steps.{packets_at, entries_at, after_opening, open_step, after_entry, entry_step, after_packet, next_place, packet_step, step_on, step, go, run_for, waits_on, waits}
+use Rattle.rules.specs.Calls.{handed_out, record_read, call_record, no_range}
 use Rattle.rules.specs.declared.Fault.{Fault}
 use Rattle.rules.specs.declared.Refusal.{Refusal}
 use Rattle.rules.specs.declared.Entry.{Entry}
@@ -44,10 +44,10 @@ pub record Opens (w : World) (next : Work) : Type 0 where
 abbrev pub Next : World → Work → Work → Type 0
 Next w resting next = Opens w next
 Next w (entries o kept) next =
-    ((take-entry w.mem o.table kept).verdict ≡ Fine) × (next ≡ entries_at o (take-entry w.mem o.table kept).kept w.state.belongings)
+    ((take_entry w.mem o.table kept).verdict ≡ Fine) × (next ≡ entries_at o (take_entry w.mem o.table kept).kept w.state.belongings)
 Next w (packets j s at es h) next =
-    ((take-packet es h (left w.mem s at)).verdict ≡ Fine)
-    × (next ≡ packets_at j s (next_place at (left w.mem s at)) es (take-packet es h (left w.mem s at)).held)
+    ((take_packet es h (left w.mem s at)).verdict ≡ Fine)
+    × (next ≡ packets_at j s (next_place at (left w.mem s at)) es (take_packet es h (left w.mem s at)).held)
 Next w (waiting j es h) next = next ≡ waiting j es h
 
 -- a submission is refused by its opening, which has no place
@@ -60,8 +60,8 @@ pub record RefusedHere (w : World) (j : Job) (f : Fault) : Type 0 where
 -- a packet's its offset in the stream.
 abbrev pub Breaks : World → Work → Job → Fault → Type 0
 Breaks w resting j f = RefusedHere w j f
-Breaks w (entries o kept) j f = (j ≡ o.job) × (at_place (length kept) (take-entry w.mem o.table kept).verdict ≡ broken f)
-Breaks w (packets k s at es h) j f = (j ≡ k) × (at_place at (take-packet es h (left w.mem s at)).verdict ≡ broken f)
+Breaks w (entries o kept) j f = (j ≡ o.job) × (at_place (length kept) (take_entry w.mem o.table kept).verdict ≡ broken f)
+Breaks w (packets k s at es h) j f = (j ≡ k) × (at_place at (take_packet es h (left w.mem s at)).verdict ≡ broken f)
 Breaks w (waiting k es h) j f = ⊥
 
 -- what one unit makes of a world
@@ -82,26 +82,26 @@ module _ (w : World) where
   by-opening e (Refused j r) h = settles j (without_place r) (subst (λ k. Breaks w k j (without_place r)) (sym e) (record { why = r; here = h; nowhere = refl }))
   by-opening e (Started o) h = works-on _ (subst (λ k. Next w k (entries_at o [] w.state.belongings)) (sym e) (record { what = o; here = h; first = refl }))
 
-  by-entry : (o : Opened) (kept : List Entry) → w.state.work ≡ entries o kept → (v : Verdict) → (take-entry w.mem o.table kept).verdict ≡ v
-      → Unit w (after_entry w o (take-entry w.mem o.table kept).kept (at_place (length kept) v))
+  by-entry : (o : Opened) (kept : List Entry) → w.state.work ≡ entries o kept → (v : Verdict) → (take_entry w.mem o.table kept).verdict ≡ v
+      → Unit w (after_entry w o (take_entry w.mem o.table kept).kept (at_place (length kept) v))
   by-entry o kept e Fine h =
-      let next : Work = entries_at o (take-entry w.mem o.table kept).kept w.state.belongings in
+      let next : Work = entries_at o (take_entry w.mem o.table kept).kept w.state.belongings in
       works-on next (subst (λ k. Next w k next) (sym e) (h, refl))
   by-entry o kept e (Broken r) h =
       settles o.job (fault_at (length kept) r) (subst (λ k. Breaks w k o.job (fault_at (length kept) r)) (sym e) (refl, ap (at_place (length kept)) h))
 
-  by-packet : (j : Job) (s : Stream) (at : ℕ) (es : List Entry) (h : Progress) → w.state.work ≡ packets j s at es h → (v : Verdict) → (take-packet es h (left w.mem s at)).verdict ≡ v
-      → Unit w (after_packet w j s (next_place at (left w.mem s at)) es (take-packet es h (left w.mem s at)).held (at_place at v))
+  by-packet : (j : Job) (s : Stream) (at : ℕ) (es : List Entry) (h : Progress) → w.state.work ≡ packets j s at es h → (v : Verdict) → (take_packet es h (left w.mem s at)).verdict ≡ v
+      → Unit w (after_packet w j s (next_place at (left w.mem s at)) es (take_packet es h (left w.mem s at)).held (at_place at v))
   by-packet j s at es h e Fine q =
-      let next : Work = packets_at j s (next_place at (left w.mem s at)) es (take-packet es h (left w.mem s at)).held in
+      let next : Work = packets_at j s (next_place at (left w.mem s at)) es (take_packet es h (left w.mem s at)).held in
       works-on next (subst (λ k. Next w k next) (sym e) (q, refl))
   by-packet j s at es h e (Broken r) q = settles j (fault_at at r) (subst (λ k. Breaks w k j (fault_at at r)) (sym e) (refl, ap (at_place at) q))
 
   by-work : (k : Work) → w.state.work ≡ k → Unit w (step_on w k)
-  unfolding open_step entry-step packet_step
+  unfolding open_step entry_step packet_step
   by-work resting e = by-opening e (opening_here w) refl
-  by-work (entries o kept) e = by-entry o kept e (take-entry w.mem o.table kept).verdict refl
-  by-work (packets j s at es h) e = by-packet j s at es h e (take-packet es h (left w.mem s at)).verdict refl
+  by-work (entries o kept) e = by-entry o kept e (take_entry w.mem o.table kept).verdict refl
+  by-work (packets j s at es h) e = by-packet j s at es h e (take_packet es h (left w.mem s at)).verdict refl
   by-work (waiting j es h) e = works-on w.state.work (subst (λ k. Next w k k) (sym e) refl)
 
 -- each unit is one of the four
@@ -112,21 +112,21 @@ unit w = by-work w w.state.work refl
 -- and what a case asks for decides it: a world that one of them gives is the unit's
 module _ (w : World) where
   next-is-step : (k next : Work) → w.state.work ≡ k → Next w k next → step_on w k ≡ working next w
-  unfolding open_step entry-step packet_step
+  unfolding open_step entry_step packet_step
   next-is-step resting next e h = ap (after_opening w) h.here ∙ ap (λ k. working k w) (sym h.first)
   next-is-step (entries o kept) next e h =
-      ap (λ v. after_entry w o (take-entry w.mem o.table kept).kept (at_place (length kept) v)) h.0 ∙ ap (λ k. working k w) (sym h.1)
+      ap (λ v. after_entry w o (take_entry w.mem o.table kept).kept (at_place (length kept) v)) h.0 ∙ ap (λ k. working k w) (sym h.1)
   next-is-step (packets j s at es held) next e h =
-      ap (λ v. after_packet w j s (next_place at (left w.mem s at)) es (take-packet es held (left w.mem s at)).held (at_place at v)) h.0 ∙ ap (λ k. working k w) (sym h.1)
+      ap (λ v. after_packet w j s (next_place at (left w.mem s at)) es (take_packet es held (left w.mem s at)).held (at_place at v)) h.0 ∙ ap (λ k. working k w) (sym h.1)
   next-is-step (waiting j es held) next e h = ap (λ k. working k w) (e ∙ sym h)
 
   broken-is-step : (k : Work) (j : Job) (f : Fault) → Breaks w k j f → step_on w k ≡ settled_keeping j (broken f) w
-  unfolding open_step entry-step packet_step
+  unfolding open_step entry_step packet_step
   broken-is-step resting j f h = ap (after_opening w) h.here ∙ ap (λ x. settled_keeping j (broken x) w) (sym h.nowhere)
   broken-is-step (entries o kept) j f h =
-      ap (after_entry w o (take-entry w.mem o.table kept).kept) h.1 ∙ ap (λ x. settled_keeping x (broken f) w) (sym h.0)
+      ap (after_entry w o (take_entry w.mem o.table kept).kept) h.1 ∙ ap (λ x. settled_keeping x (broken f) w) (sym h.0)
   broken-is-step (packets k s at es held) j f h =
-      ap (after_packet w k s (next_place at (left w.mem s at)) es (take-packet es held (left w.mem s at)).held) h.1 ∙ ap (λ x. settled_keeping x (broken f) w) (sym h.0)
+      ap (after_packet w k s (next_place at (left w.mem s at)) es (take_packet es held (left w.mem s at)).held) h.1 ∙ ap (λ x. settled_keeping x (broken f) w) (sym h.0)
   broken-is-step (waiting k es held) j f h = absurd h
 
 pub unit-is-step : (w w' : World) → Unit w w' → step w ≡ w'
@@ -165,8 +165,8 @@ run-keeps-belongings (suc n) w = by_test (go w) refl (run-keeps-belongings n (st
 
 -- ---- what does not wait hands out nothing: every record call answers 4, with zeros beside it
 
-pub not-waiting-hands-out-nothing : (s : State) → waits s ≡ false → (i : ℕ) → call-record s i ≡ record { answer = no_record; range = no_range }
-unfolding call-record nth
+pub not-waiting-hands-out-nothing : (s : State) → waits s ≡ false → (i : ℕ) → call_record s i ≡ record { answer = no_record; range = no_range }
+unfolding call_record nth
 not-waiting-hands-out-nothing s h i = by-phase s.work h
   where
     by-phase : (k : Work) → waits_on k ≡ false → record_read (nth (handed_out k) i) ≡ record { answer = no_record; range = no_range }

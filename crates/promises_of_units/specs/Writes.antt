@@ -9,8 +9,8 @@ use Rattle.machine.specs.Machine.{pick}
 use Rattle.rules.specs.Lists.{Found, lookup}
 use Rattle.rules.specs.Lists.Found.{none, found}
 use Rattle.rules.specs.State.{State, made, with_regs}
-use Rattle.rules.specs.Registers.{Write, with_enabled, bit_of, reset-registers, reset, controlled, writable, write_offset, write-of}
-use Rattle.rules.specs.Calls.{wrote, call-write}
+use Rattle.rules.specs.Registers.{Write, with_enabled, bit_of, reset_registers, reset, controlled, writable, write_offset, write_of}
+use Rattle.rules.specs.Calls.{wrote, call_write}
 use Rattle.rules.specs.declared.Registers.{Registers}
 use Rattle.promises_of_packets.specs.Held.{Every}
 
@@ -53,17 +53,17 @@ unfolding Every
 all-written s v = (keeps _ refl refl refl, (keeps _ refl refl refl, (keeps _ refl refl refl, (control-written s v, (keeps _ refl refl refl, (keeps _ refl refl refl, (keeps _ refl refl refl, (keeps _ refl refl refl, (keeps _ refl refl refl, omega arith)))))))))
 
 -- every write, of any number to any offset, is the one or the other
-pub write-keeps-or-drops : (s : State) (offset v : ℕ) → Written s offset v (call-write s offset v).state
-unfolding call-write write-of lookup
+pub write-keeps-or-drops : (s : State) (offset v : ℕ) → Written s offset v (call_write s offset v).state
+unfolding call_write write_of lookup
 write-keeps-or-drops s offset v = by-control (eqb offset 0x10c) refl
   where
     by_found : (f : Found Write) → resets offset v ≡ false → FoundWritten s offset v f → Written s offset v (wrote s f).state
     by_found none n k = keeps s.regs n refl refl
     by_found (found x) n k = k
 
-    by-control : (b : Bool) → eqb offset 0x10c ≡ b → Written s offset v (call-write s offset v).state
-    by-control true e = subst (λ o. Written s o v (call-write s o v).state) (sym (eqb-true offset 0x10c e)) (control-written s v)
-    by-control false e = by_found (write-of s offset v) (rw e) (lookup-written s offset v (writable s v) (all-written s v))
+    by-control : (b : Bool) → eqb offset 0x10c ≡ b → Written s offset v (call_write s offset v).state
+    by-control true e = subst (λ o. Written s o v (call_write s o v).state) (sym (eqb-true offset 0x10c e)) (control-written s v)
+    by-control false e = by_found (write_of s offset v) (rw e) (lookup-written s offset v (writable s v) (all-written s v))
 
 -- a write that is no reset leaves what is in work, and every resource
 pub write-keeps-work : (s s' : State) (offset v : ℕ) → resets offset v ≡ false → Written s offset v s' → (s'.work ≡ s.work) × (s'.belongings ≡ s.belongings)
@@ -83,21 +83,21 @@ module _ (s : State) (offset v : ℕ) where
   drops-by y s' (drops h) = refl
 
   -- a write that is no reset leaves all but the registers
-  pub write-changes-registers-alone : resets offset v ≡ false → (call-write s offset v).state ≡ with_regs (call-write s offset v).state.regs s
+  pub write-changes-registers-alone : resets offset v ≡ false → (call_write s offset v).state ≡ with_regs (call_write s offset v).state.regs s
   write-changes-registers-alone n = (keeps-by n _ (write-keeps-or-drops s offset v)).0
 
   -- and, of the registers, the completed fence and the error's code, fence, count and detail
   pub write-keeps-completed-and-error : resets offset v ≡ false
-      → ((call-write s offset v).state.regs.completed ≡ s.regs.completed) × ((call-write s offset v).state.regs.error ≡ s.regs.error)
+      → ((call_write s offset v).state.regs.completed ≡ s.regs.completed) × ((call_write s offset v).state.regs.error ≡ s.regs.error)
   write-keeps-completed-and-error n = (keeps-by n _ (write-keeps-or-drops s offset v)).1
 
   -- a reset is the rules' `reset`, with the bit that enables taken from the same write
-  pub reset-drops : resets offset v ≡ true → (call-write s offset v).state ≡ reset (bit_of 0 v) s
+  pub reset-drops : resets offset v ≡ true → (call_write s offset v).state ≡ reset (bit_of 0 v) s
   reset-drops y = drops-by y _ (write-keeps-or-drops s offset v)
 
   -- whatever is written, to reset or to acknowledge, the last error stays
-  pub any-write-keeps-error : (call-write s offset v).state.regs.error ≡ s.regs.error
-  unfolding reset reset-registers
+  pub any-write-keeps-error : (call_write s offset v).state.regs.error ≡ s.regs.error
+  unfolding reset reset_registers
   any-write-keeps-error = by_written _ (write-keeps-or-drops s offset v)
     where
       by_written : (s' : State) → Written s offset v s' → s'.regs.error ≡ s.regs.error
@@ -108,7 +108,7 @@ module _ (s : State) (offset v : ℕ) where
 
 -- the same on every device: what else is in the state plays no part
 abbrev pub registers_written : ℕ → ℕ → Registers → Registers
-registers_written offset v r = (call-write (with_regs r (made 0)) offset v).state.regs
+registers_written offset v r = (call_write (with_regs r (made 0)) offset v).state.regs
 
 -- two lists of writes that give the same registers at the same offsets
 unfoldable Alike : List Write → List Write → Type 0
@@ -142,13 +142,13 @@ control-alike s v = by_bit (bit_of 1 v)
     by_bit true = refl
     by_bit false = refl
 
-same-written : (s : State) (offset v : ℕ) → (call-write s offset v).state.regs ≡ registers_written offset v s.regs
-unfolding call-write write-of Alike
+same-written : (s : State) (offset v : ℕ) → (call_write s offset v).state.regs ≡ registers_written offset v s.regs
+unfolding call_write write_of Alike
 same-written s offset v =
     lookup-alike s (with_regs s.regs (made 0)) refl offset (writable s v) (writable (with_regs s.regs (made 0)) v)
     (refl, (refl, (refl, (refl, (refl, (refl, (refl, (control-alike s v, (refl, (refl, (refl, (refl, (refl, (refl, (refl, (refl, (refl, (refl, omega arith))))))))))))))))))
 
 -- a write that is no reset is its registers, in whatever state
 pub write-is-by-registers : (s : State) (offset v : ℕ) → resets offset v ≡ false
-    → (call-write s offset v).state ≡ with_regs (registers_written offset v s.regs) s
+    → (call_write s offset v).state ≡ with_regs (registers_written offset v s.regs) s
 write-is-by-registers s offset v n = write-changes-registers-alone s offset v n ∙ ap (λ (r : Registers). with_regs r s) (same-written s offset v)

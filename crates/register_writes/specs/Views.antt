@@ -2,11 +2,11 @@
 use Rattle.std.specs.Prelude.{◌≡◌, true, List, ℕ}
 use Rattle.rules.specs.State.{with_regs}
 use Rattle.rules.specs.Registers.{bit_of, acknowledged, controlled}
-use Rattle.rules.specs.Calls.{Wrote, call-write}
+use Rattle.rules.specs.Calls.{Wrote, call_write}
 use Rattle.run_state.specs.Views.{Rests, Refused, state_in}
 
 pub record Writes (s : List ℕ) (offset v a : ℕ) (s' : List ℕ) : Type 0 where
-  pub wrote : (e x y ft st c : List ℕ) → ◌≡◌ {A = Wrote} (record { answer = a; state = state_in s' e x y ft st c }) (call-write (state_in s e x y ft st c) offset v)
+  pub wrote : (e x y ft st c : List ℕ) → ◌≡◌ {A = Wrote} (record { answer = a; state = state_in s' e x y ft st c }) (call_write (state_in s e x y ft st c) offset v)
   pub still : Refused a → s' ≡ s
 
 -- after a reset no word is left of what was in work

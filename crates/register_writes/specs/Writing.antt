@@ -6,10 +6,10 @@ use Rattle.machine.specs.Machine.{pick}
 use Rattle.rules.specs.Numbers.{done, no_register}
 use Rattle.rules.specs.Lists.{lookup}
 use Rattle.rules.specs.State.{State, with_regs}
-use Rattle.rules.specs.Registers.{with_low, with_high, bit_of, with_ring, with_ringsize, with_page, with_irqenable, with_doorbell, acknowledged, reset-registers, reset, controlled, write_offset, writable, write-of}
-use Rattle.rules.specs.Calls.{call-write}
+use Rattle.rules.specs.Registers.{with_low, with_high, bit_of, with_ring, with_ringsize, with_page, with_irqenable, with_doorbell, acknowledged, reset_registers, reset, controlled, write_offset, writable, write_of}
+use Rattle.rules.specs.Calls.{call_write}
 use Rattle.registers.specs.Laws.{Misses, keys, missed}
-use Rattle.run_state.specs.Views.{set_in, flag_of, worldIn, rested, state_in}
+use Rattle.run_state.specs.Views.{set_in, flag_of, world_in, rested, state_in}
 use Rattle.run_state.specs.Reading.{flag-as, small-as, none-live, none-used}
 use Rattle.run_state.specs.Spelled.{spell}
 use Rattle.register_writes.specs.Views.{Controls, Acks, Writes}
@@ -24,14 +24,14 @@ module _ (x : ℕ) (b : Bool) where
       by true = refl
       by false = refl
 
-  pub left-all : b ≡ false → set_in x ≡ (set_in x && not b)
-  left-all e = rw e (by (set_in x))
+  pub left_all : b ≡ false → set_in x ≡ (set_in x && not b)
+  left_all e = rw e (by (set_in x))
     where
       by : (y : Bool) → y ≡ (y && true)
       by true = refl
       by false = refl
 
-pub ruleset leaving = (left-none, left-all, rules)
+pub ruleset leaving = (left-none, left_all, rules)
 
 -- ---- bit_0
 
@@ -44,7 +44,7 @@ pub ruleset bits = (lowest-bit, rules)
 
 module _ (s : List ℕ) (v : ℕ) (long : length s ≡ 36) (a b : Bool) (is-a : a ≡ bit_of 0 v) (is_b : b ≡ bit_of 1 v) where
   pub control-keeps : (on : ℕ) → on ≡ flag_of a → b ≡ false → Controls s v (set s 3 on)
-  unfolding worldIn controlled
+  unfolding world_in controlled
   control-keeps on o n =
       record {
         state = λ e r h ft st c. spell (λ w. state_in (set w 3 on) e r h ft st c) s long ∙ rw (flag-as on a o, ← is_b, n, is-a);
@@ -56,7 +56,7 @@ module _ (s : List ℕ) (v : ℕ) (long : length s ≡ 36) (a b : Bool) (is-a : 
   reset_words on w = set (set (set (set (set (set (set w 3 on) 5 0) 6 0) 7 0) 12 0) 25 0) 32 0
 
   pub control-resets : (on : ℕ) (s' : List ℕ) → on ≡ flag_of a → b ≡ true → s' ≡ rested (set (set (set (set (set (set (set s 3 on) 5 0) 6 0) 7 0) 12 0) 25 0) 32 0) → Controls s v s'
-  unfolding worldIn rested controlled reset reset-registers
+  unfolding world_in rested controlled reset reset_registers
   control-resets on s' o n is =
       record {
         state = λ e r h ft st c.
@@ -66,7 +66,7 @@ module _ (s : List ℕ) (v : ℕ) (long : length s ≡ 36) (a b : Bool) (is-a : 
       }
 
   pub acks : (x y : ℕ) → set_in x ≡ (set_in (get_or s 6 0) && not a) → set_in y ≡ (set_in (get_or s 7 0) && not b) → Acks s v (set (set s 6 x) 7 y)
-  unfolding worldIn
+  unfolding world_in
   acks x y p q = record { state = λ e r h ft st c. spell (λ w. state_in (set (set w 6 x) 7 y) e r h ft st c) s long ∙ rw (p, q, is-a, is_b) }
 
 pub ruleset controlling = (control-keeps, control-resets, acks, rules)
@@ -75,7 +75,7 @@ pub ruleset controlling = (control-keeps, control-resets, acks, rules)
 
 module _ (s : List ℕ) (offset v : ℕ) where
   -- what is found at k
-  found_at : (k : ℕ) (f : State → State) (s' : List ℕ) → offset ≡ k → ((x : State) → call-write x k v ≡ record { answer = done; state = f x })
+  found_at : (k : ℕ) (f : State → State) (s' : List ℕ) → offset ≡ k → ((x : State) → call_write x k v ≡ record { answer = done; state = f x })
       → ((e r h ft st c : List ℕ) → state_in s' e r h ft st c ≡ f (state_in s e r h ft st c)) → Writes s offset v done s'
   found_at k f s' o w p =
       record {
@@ -84,15 +84,15 @@ module _ (s : List ℕ) (offset v : ℕ) where
       }
 
   pub writes-control : (s' : List ℕ) → offset ≡ 0x10c → Controls s v s' → Writes s offset v done s'
-  unfolding call-write write-of lookup
+  unfolding call_write write_of lookup
   writes-control s' o k = found_at 0x10c (controlled v) s' o (λ x. refl) k.state
 
   pub writes-ack : (s' : List ℕ) → offset ≡ 0x308 → Acks s v s' → Writes s offset v done s'
-  unfolding call-write write-of lookup
+  unfolding call_write write_of lookup
   writes-ack s' o k = found_at 0x308 (λ x. with_regs (acknowledged v x.regs) x) s' o (λ x. refl) k.state
 
   pub writes_nothing : ((x : State) → Misses (Unit {0}) (keys write_offset offset (writable x v)) offset) → Writes s offset v no_register s
-  unfolding call-write write-of
+  unfolding call_write write_of
   writes_nothing p =
       record {
         wrote = λ e r h ft st c. rw (missed write_offset offset (Unit {0}) (writable (state_in s e r h ft st c) v) (p (state_in s e r h ft st c))).1;
@@ -101,32 +101,32 @@ module _ (s : List ℕ) (offset v : ℕ) where
 
   module _ (long : length s ≡ 36) where
     pub writes-doorbell : offset ≡ 0x200 → Writes s offset v done (set s 12 1)
-    unfolding call-write write-of lookup worldIn
+    unfolding call_write write_of lookup world_in
     writes-doorbell o = found_at 0x200 (λ x. with_regs (with_doorbell x.regs) x) (set s 12 1) o (λ x. refl) (λ e r h ft st c. spell (λ w. state_in (set w 12 1) e r h ft st c) s long)
 
     module _ (x : ℕ) where
       pub writes-ring-low : offset ≡ 0x100 → x ≡ with_low v (get_or s 1 0) → Writes s offset v done (set s 1 x)
-      unfolding call-write write-of lookup worldIn
+      unfolding call_write write_of lookup world_in
       writes-ring-low o p = found_at 0x100 (λ y. with_regs (with_ring (with_low v y.regs.ring) y.regs) y) (set s 1 x) o (λ y. refl) (λ e r h ft st c. spell (λ w. state_in (set w 1 x) e r h ft st c) s long ∙ rw p)
 
       pub writes-ring-high : offset ≡ 0x104 → x ≡ with_high v (get_or s 1 0) → Writes s offset v done (set s 1 x)
-      unfolding call-write write-of lookup worldIn
+      unfolding call_write write_of lookup world_in
       writes-ring-high o p = found_at 0x104 (λ y. with_regs (with_ring (with_high v y.regs.ring) y.regs) y) (set s 1 x) o (λ y. refl) (λ e r h ft st c. spell (λ w. state_in (set w 1 x) e r h ft st c) s long ∙ rw p)
 
       pub writes-page-low : offset ≡ 0x120 → x ≡ with_low v (get_or s 4 0) → Writes s offset v done (set s 4 x)
-      unfolding call-write write-of lookup worldIn
+      unfolding call_write write_of lookup world_in
       writes-page-low o p = found_at 0x120 (λ y. with_regs (with_page (with_low v y.regs.fencepage) y.regs) y) (set s 4 x) o (λ y. refl) (λ e r h ft st c. spell (λ w. state_in (set w 4 x) e r h ft st c) s long ∙ rw p)
 
       pub writes-page-high : offset ≡ 0x124 → x ≡ with_high v (get_or s 4 0) → Writes s offset v done (set s 4 x)
-      unfolding call-write write-of lookup worldIn
+      unfolding call_write write_of lookup world_in
       writes-page-high o p = found_at 0x124 (λ y. with_regs (with_page (with_high v y.regs.fencepage) y.regs) y) (set s 4 x) o (λ y. refl) (λ e r h ft st c. spell (λ w. state_in (set w 4 x) e r h ft st c) s long ∙ rw p)
 
       pub writes-ringsize : offset ≡ 0x108 → (x ≡ v) × (x < 4294967296) → Writes s offset v done (set s 2 x)
-      unfolding call-write write-of lookup worldIn
+      unfolding call_write write_of lookup world_in
       writes-ringsize o p = found_at 0x108 (λ y. with_regs (with_ringsize v y.regs) y) (set s 2 x) o (λ y. refl) (λ e r h ft st c. spell (λ w. state_in (set w 2 x) e r h ft st c) s long ∙ rw (small-as x v p))
 
       pub writes-irqenable : offset ≡ 0x304 → (x ≡ v) × (x < 4294967296) → Writes s offset v done (set s 8 x)
-      unfolding call-write write-of lookup worldIn
+      unfolding call_write write_of lookup world_in
       writes-irqenable o p = found_at 0x304 (λ y. with_regs (with_irqenable v y.regs) y) (set s 8 x) o (λ y. refl) (λ e r h ft st c. spell (λ w. state_in (set w 8 x) e r h ft st c) s long ∙ rw (small-as x v p))
 
 pub ruleset rewriting = (

@@ -9,7 +9,7 @@ use Rattle.machine.specs.Machine.{pick}
 use Rattle.rules.specs.Numbers.{bad_descriptor, outside_memory}
 use Rattle.rules.specs.Judging.{refusal, rule, only, ◌▹◌}
 use Rattle.rules.specs.Layouts.{word, long, descriptor, descriptor_size}
-use Rattle.rules.specs.Ring.{half_there, present, descriptor-rules, range-rules}
+use Rattle.rules.specs.Ring.{half_there, present, descriptor_rules, range_rules}
 use Rattle.rules.specs.declared.Descriptor.{Descriptor}
 use Rattle.rules.specs.declared.Verdict.{Verdict}
 use Rattle.rules.specs.declared.Verdict.TheVariants.{Fine, Broken}
@@ -25,24 +25,24 @@ pub ruleset reading_descriptor = (descriptor-read, rules)
 -- ---- 11
 
 -- a range that breaks 11
-unfoldable pub bad-range : ℕ → ℕ → Bool
-bad-range gpa size = half_there gpa size || ltb (2 ^ 64 - 1) (gpa + size)
+unfoldable pub bad_range : ℕ → ℕ → Bool
+bad_range gpa size = half_there gpa size || ltb (2 ^ 64 - 1) (gpa + size)
 
 module _ (gpa size : ℕ) where
-  pub neither-there : gpa ≡ 0 → size ≡ 0 → false ≡ bad-range gpa size
-  unfolding bad-range
+  pub neither-there : gpa ≡ 0 → size ≡ 0 → false ≡ bad_range gpa size
+  unfolding bad_range
   neither-there g e = rw (g, e)
 
-  pub size-alone : gpa ≡ 0 → (size ≡ 0 → ⊥) → true ≡ bad-range gpa size
-  unfolding bad-range
+  pub size-alone : gpa ≡ 0 → (size ≡ 0 → ⊥) → true ≡ bad_range gpa size
+  unfolding bad_range
   size-alone g e = rw (eq-eqb _ _ g, ne_eqb _ _ e)
 
-  pub gpa-alone : (gpa ≡ 0 → ⊥) → size ≡ 0 → true ≡ bad-range gpa size
-  unfolding bad-range
+  pub gpa-alone : (gpa ≡ 0 → ⊥) → size ≡ 0 → true ≡ bad_range gpa size
+  unfolding bad_range
   gpa-alone g e = rw (ne_eqb _ _ g, eq-eqb _ _ e)
 
-  pub both-there : (s : ℕ) (b : Bool) → (gpa ≡ 0 → ⊥) → (size ≡ 0 → ⊥) → (s ≡ size) × (s < 4294967296) → b ≡ ltb 18446744073709551615 (gpa + s) → b ≡ bad-range gpa size
-  unfolding bad-range
+  pub both-there : (s : ℕ) (b : Bool) → (gpa ≡ 0 → ⊥) → (size ≡ 0 → ⊥) → (s ≡ size) × (s < 4294967296) → b ≡ ltb 18446744073709551615 (gpa + s) → b ≡ bad_range gpa size
+  unfolding bad_range
   both-there s b g e same is = is ∙ rw (ne_eqb _ _ g, ne_eqb _ _ e, same.0)
 
 pub ruleset ranging = (neither-there, size-alone, gpa-alone, both-there, rules)
@@ -53,9 +53,9 @@ joined n true b later = refl
 joined n false b later = refl
 
 module _ (stride : ℕ) (d : Descriptor) where
-  both-ranges : descriptor-rules stride d ≡ rule bad_descriptor (ltb d.size descriptor_size) ▹ rule bad_descriptor (ltb stride d.size)
-      ▹ rule bad_descriptor (bad-range d.cmd d.cmdsize) ▹ rule bad_descriptor (bad-range d.table d.tablesize)
-  unfolding descriptor-rules bad-range
+  both-ranges : descriptor_rules stride d ≡ rule bad_descriptor (ltb d.size descriptor_size) ▹ rule bad_descriptor (ltb stride d.size)
+      ▹ rule bad_descriptor (bad_range d.cmd d.cmdsize) ▹ rule bad_descriptor (bad_range d.table d.tablesize)
+  unfolding descriptor_rules bad_range
   both-ranges = ap (λ v. rule bad_descriptor (ltb d.size descriptor_size) ▹ rule bad_descriptor (ltb stride d.size) ▹ v)
       (joined bad_descriptor (half_there d.cmd d.cmdsize) (ltb (2 ^ 64 - 1) (d.cmd + d.cmdsize)) _
       ∙ ap (λ v. rule bad_descriptor (half_there d.cmd d.cmdsize || ltb (2 ^ 64 - 1) (d.cmd + d.cmdsize)) ▹ v) (alone (half_there d.table d.tablesize) (ltb (2 ^ 64 - 1) (d.table + d.tablesize))))
@@ -64,22 +64,22 @@ module _ (stride : ℕ) (d : Descriptor) where
       alone true b = refl
       alone false b = refl
 
-  pub short-descriptor : d.size < descriptor_size → Broken (refusal bad_descriptor) ≡ descriptor-rules stride d
+  pub short-descriptor : d.size < descriptor_size → Broken (refusal bad_descriptor) ≡ descriptor_rules stride d
   short-descriptor p = sym (both-ranges ∙ rw (lt-ltb _ _ p))
 
   module _ (p : descriptor_size ≤ d.size) where
-    pub long-descriptor : stride < d.size → Broken (refusal bad_descriptor) ≡ descriptor-rules stride d
+    pub long-descriptor : stride < d.size → Broken (refusal bad_descriptor) ≡ descriptor_rules stride d
     long-descriptor q = sym (both-ranges ∙ rw (le-ltb _ _ p, lt-ltb _ _ q))
 
-    module _ (q : d.size ≤ stride) (a : Bool) (ea : a ≡ bad-range d.cmd d.cmdsize) where
-      pub bad-cmd : a ≡ true → Broken (refusal bad_descriptor) ≡ descriptor-rules stride d
+    module _ (q : d.size ≤ stride) (a : Bool) (ea : a ≡ bad_range d.cmd d.cmdsize) where
+      pub bad-cmd : a ≡ true → Broken (refusal bad_descriptor) ≡ descriptor_rules stride d
       bad-cmd t = sym (both-ranges ∙ rw (le-ltb _ _ p, le-ltb _ _ q, ← ea, t))
 
-      module _ (u : a ≡ false) (b : Bool) (eb : b ≡ bad-range d.table d.tablesize) where
-        pub bad-table-range : b ≡ true → Broken (refusal bad_descriptor) ≡ descriptor-rules stride d
+      module _ (u : a ≡ false) (b : Bool) (eb : b ≡ bad_range d.table d.tablesize) where
+        pub bad-table-range : b ≡ true → Broken (refusal bad_descriptor) ≡ descriptor_rules stride d
         bad-table-range t = sym (both-ranges ∙ rw (le-ltb _ _ p, le-ltb _ _ q, ← ea, u, ← eb, t))
 
-        pub good-descriptor : b ≡ false → Fine ≡ descriptor-rules stride d
+        pub good-descriptor : b ≡ false → Fine ≡ descriptor_rules stride d
         good-descriptor t = sym (both-ranges ∙ rw (le-ltb _ _ p, le-ltb _ _ q, ← ea, u, ← eb, t))
 
 pub ruleset describing = (short-descriptor, long-descriptor, bad-cmd, bad-table-range, good-descriptor, rules)
@@ -106,19 +106,19 @@ only-rule n true b = refl
 only-rule n false b = refl
 
 module _ (memory : ℕ) (d : Descriptor) (a : Bool) (ea : a ≡ past memory d.cmd d.cmdsize) where
-  two-ranges : range-rules memory d ≡ rule outside_memory (past memory d.cmd d.cmdsize) ▹ rule outside_memory (past memory d.table d.tablesize)
-  unfolding range-rules past
+  two-ranges : range_rules memory d ≡ rule outside_memory (past memory d.cmd d.cmdsize) ▹ rule outside_memory (past memory d.table d.tablesize)
+  unfolding range_rules past
   two-ranges =
       rw (only-rule outside_memory (present d.cmdsize) (ltb memory (d.cmd + d.cmdsize)), only-rule outside_memory (present d.tablesize) (ltb memory (d.table + d.tablesize)))
 
-  pub cmd-outside : a ≡ true → Broken (refusal outside_memory) ≡ range-rules memory d
+  pub cmd-outside : a ≡ true → Broken (refusal outside_memory) ≡ range_rules memory d
   cmd-outside t = sym (two-ranges ∙ rw (← ea, t))
 
   module _ (u : a ≡ false) (b : Bool) (eb : b ≡ past memory d.table d.tablesize) where
-    pub table-outside : b ≡ true → Broken (refusal outside_memory) ≡ range-rules memory d
+    pub table-outside : b ≡ true → Broken (refusal outside_memory) ≡ range_rules memory d
     table-outside t = sym (two-ranges ∙ rw (← ea, u, ← eb, t))
 
-    pub ranges-inside : b ≡ false → Fine ≡ range-rules memory d
+    pub ranges-inside : b ≡ false → Fine ≡ range_rules memory d
     ranges-inside t = sym (two-ranges ∙ rw (← ea, u, ← eb, t))
 
 pub ruleset bounding = (cmd-outside, table-outside, ranges-inside, rules)

@@ -2,8 +2,8 @@
 // A range is present when its size is not 0.
 ghost use Rattle.std.specs.Prelude.{◌≡◌, ◌+◌, ◌≤◌, ◌<◌, length};
 ghost use Rattle.rules.specs.Layouts.{descriptor, descriptor_size};
-ghost use Rattle.rules.specs.Ring.{descriptor-rules, range-rules};
-ghost use Rattle.ring_descriptor.specs.Descriptor.{bad-range, past};
+ghost use Rattle.rules.specs.Ring.{descriptor_rules, range_rules};
+ghost use Rattle.ring_descriptor.specs.Descriptor.{bad_range, past};
 
 use rules::numbers::{BAD_DESCRIPTOR, DESCRIPTOR_SIZE, OUTSIDE_MEMORY};
 use rules::{Descriptor, Refusal, Verdict};
@@ -27,7 +27,7 @@ pub fn descriptor_at(mem: &[u8], at: usize) -> Descriptor
 
 // Whether a range is only half there, or ends above 2^64 - 1.
 fn bad(gpa: u64, size: u32) -> bool
-    ensures { result ≡ bad-range gpa size }
+    ensures { result ≡ bad_range gpa size }
 {
     if size == 0 {
         if gpa == 0 {
@@ -43,7 +43,7 @@ fn bad(gpa: u64, size: u32) -> bool
 
 // 11.
 pub fn descriptor_verdict(stride: u32, d: Descriptor) -> Verdict
-    ensures { result ≡ descriptor-rules stride d }
+    ensures { result ≡ descriptor_rules stride d }
 {
     if d.size < DESCRIPTOR_SIZE {
         return Verdict::Broken(Refusal {
@@ -81,7 +81,7 @@ fn outside(memory: u64, gpa: u64, size: u32) -> bool
 
 // 12.
 pub fn range_verdict(memory: u64, d: Descriptor) -> Verdict
-    ensures { result ≡ range-rules memory d }
+    ensures { result ≡ range_rules memory d }
 {
     if outside(memory, d.cmd, d.cmdsize) {
         return Verdict::Broken(Refusal {

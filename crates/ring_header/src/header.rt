@@ -2,8 +2,8 @@
 // Head and tail count submissions and wrap; the slot is the head's place among the slots.
 ghost use Rattle.std.specs.Prelude.{◌≡◌, ◌+◌, ◌*◌, ◌%◌, ◌<◌, ◌≤◌, true, length};
 ghost use Rattle.rules.specs.Numbers.{slot_doublings};
-ghost use Rattle.rules.specs.Layouts.{ring-header, ring_header_size};
-ghost use Rattle.rules.specs.Ring.{power-of-two, pending, good-header, slot};
+ghost use Rattle.rules.specs.Layouts.{ring_header, ring_header_size};
+ghost use Rattle.rules.specs.Ring.{power_of_two, pending, good_header, slot};
 
 use rules::RingHeader;
 use rules::numbers::{DESCRIPTOR_SIZE, GOOD_MAJOR, MINORS, RING_HEADER_SIZE, RING_MAGIC};
@@ -15,7 +15,7 @@ const MOST_SLOTS: u32 = 1024;
 // Reads each field of a ring's header once.
 pub fn header_at(mem: &[u8], at: usize) -> RingHeader
     requires { at + ring_header_size ≤ length mem.now }
-    ensures { result ≡ ring-header mem.now at }
+    ensures { result ≡ ring_header mem.now at }
 {
     RingHeader {
         magic: words::u32_at(mem, at),
@@ -30,7 +30,7 @@ pub fn header_at(mem: &[u8], at: usize) -> RingHeader
 
 // Whether a ring may have so many slots: a power of two has no bit in common with the number below it.
 fn good_count(n: u32) -> bool
-    ensures { result ≡ power-of-two slot_doublings n }
+    ensures { result ≡ power_of_two slot_doublings n }
 {
     if n == 0 {
         return false;
@@ -57,7 +57,7 @@ fn slot_at(h: RingHeader, i: u32) -> u64
 
 // Judges a header in a ring of so many bytes.
 pub fn good(size: u32, h: RingHeader) -> bool
-    ensures { result ≡ good-header size h }
+    ensures { result ≡ good_header size h }
 {
     if h.magic != RING_MAGIC {
         return false;
@@ -82,7 +82,7 @@ pub fn good(size: u32, h: RingHeader) -> bool
 
 // Where the head's slot stands from the ring's start. By a power of two a remainder is a mask.
 pub fn slot_offset(h: RingHeader) -> u64
-    requires { power-of-two slot_doublings h.count ≡ true }
+    requires { power_of_two slot_doublings h.count ≡ true }
     ensures { (result ≡ ring_header_size + slot h * h.stride) × (result + 4294967296 ≤ 18446744073709551616) }
 {
     slot_at(h, h.head & (h.count - 1))

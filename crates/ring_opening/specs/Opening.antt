@@ -8,11 +8,11 @@ use Rattle.machine.specs.Machine.{pick}
 use Rattle.widths.specs.Beyond.{leb-ltb}
 use Rattle.rules.specs.Numbers.{outside_memory, slot_doublings, ring_magic}
 use Rattle.rules.specs.Judging.{rule, only, ◌▹◌}
-use Rattle.rules.specs.Layouts.{good_version, ring-header, ring_header_size, descriptor, descriptor_size, table-header, stream-header}
-use Rattle.rules.specs.Table.{header-rules, checked_table, no_table}
-use Rattle.rules.specs.Stream.{stream-rules, stream_of, no_stream}
+use Rattle.rules.specs.Layouts.{good_version, ring_header, ring_header_size, descriptor, descriptor_size, table_header, stream_header}
+use Rattle.rules.specs.Table.{header_rules, checked_table, no_table}
+use Rattle.rules.specs.Stream.{stream_rules, stream_of, no_stream}
 use Rattle.ring_header.specs.Header.{counted}
-use Rattle.rules.specs.Ring.{power-of-two, good-header, good-ring, slot, slot_place, present, descriptor-rules, range-rules, submission-rules, opened_of, concluded, submission-opening, ring-opening, opening_of}
+use Rattle.rules.specs.Ring.{power_of_two, good_header, good_ring, slot, slot_place, present, descriptor_rules, range_rules, submission_rules, opened_of, concluded, submission_opening, ring_opening, opening_of}
 use Rattle.rules.specs.declared.RingHeader.{RingHeader}
 use Rattle.rules.specs.declared.Descriptor.{Descriptor}
 use Rattle.rules.specs.declared.Job.{Job}
@@ -39,31 +39,31 @@ pub record Inside (memory gpa size : ℕ) : Type 0 where
 
 unfoldable pub table_of : List ℕ → ℕ → ℕ → CheckedTable
 table_of m gpa size =
-    headed (only (present size) (header-rules size (table-header m gpa))) (pick (present size) (checked_table gpa (table-header m gpa)) no_table)
+    headed (only (present size) (header_rules size (table_header m gpa))) (pick (present size) (checked_table gpa (table_header m gpa)) no_table)
 
-unfoldable pub streamOf : List ℕ → ℕ → ℕ → CheckedStream
-streamOf m gpa size =
-    begun (only (present size) (stream-rules size (stream-header m gpa))) (pick (present size) (stream_of gpa (stream-header m gpa)) no_stream)
+unfoldable pub judged_stream : List ℕ → ℕ → ℕ → CheckedStream
+judged_stream m gpa size =
+    begun (only (present size) (stream_rules size (stream_header m gpa))) (pick (present size) (stream_of gpa (stream_header m gpa)) no_stream)
 
 module _ (m : List ℕ) (gpa size : ℕ) where
   pub no-table-there : size ≡ 0 → GoodTable no_table ≡ table_of m gpa size
   unfolding table_of
   no-table-there e = rw (eq-eqb _ _ e)
 
-  pub no-stream-there : size ≡ 0 → GoodStream no_stream ≡ streamOf m gpa size
-  unfolding streamOf
+  pub no-stream-there : size ≡ 0 → GoodStream no_stream ≡ judged_stream m gpa size
+  unfolding judged_stream
   no-stream-there e = rw (eq-eqb _ _ e)
 
   module _ (n : size ≡ 0 → ⊥) (p s : ℕ) (at : p ≡ gpa) (long : (s ≡ size) × (s < 4294967296)) where
     pub range-lies : Inside (length m) gpa size → p + s ≤ length m
     range-lies i = omega (arith, i.ends n)
 
-    pub table-there : (h : CheckedTable) → h ≡ headed (header-rules s (table-header m p)) (checked_table p (table-header m p)) → h ≡ table_of m gpa size
+    pub table-there : (h : CheckedTable) → h ≡ headed (header_rules s (table_header m p)) (checked_table p (table_header m p)) → h ≡ table_of m gpa size
     unfolding table_of
     table-there h e = rw (e, at, long.0, ne_eqb _ _ n)
 
-    pub stream-there : (h : CheckedStream) → h ≡ begun (stream-rules s (stream-header m p)) (stream_of p (stream-header m p)) → h ≡ streamOf m gpa size
-    unfolding streamOf
+    pub stream-there : (h : CheckedStream) → h ≡ begun (stream_rules s (stream_header m p)) (stream_of p (stream_header m p)) → h ≡ judged_stream m gpa size
+    unfolding judged_stream
     stream-there h e = rw (e, at, long.0, ne_eqb _ _ n)
 
 pub ruleset opening_range = (no-table-there, no-stream-there, range-lies, table-there, stream-there, rules)
@@ -75,10 +75,10 @@ pub record RangesInside (memory : ℕ) (d : Descriptor) : Type 0 where
   pub table : Inside memory d.table d.tablesize
 
 -- 13, 19 and 16, and what is then started
-unfoldable pub rangesOf : List ℕ → Job → Descriptor → Opening
-rangesOf m j d =
+unfoldable pub ranges_of : List ℕ → Job → Descriptor → Opening
+ranges_of m j d =
     concluded
-    (only (present d.tablesize) (header-rules d.tablesize (table-header m d.table)) ▹ only (present d.cmdsize) (stream-rules d.cmdsize (stream-header m d.cmd)))
+    (only (present d.tablesize) (header_rules d.tablesize (table_header m d.table)) ▹ only (present d.cmdsize) (stream_rules d.cmdsize (stream_header m d.cmd)))
     j (opened_of m j d)
 
 bad-table-says : (v : Verdict) (t : Table) (r : Refusal) → headed v t ≡ BadTable r → v ≡ Broken r
@@ -98,27 +98,27 @@ good-stream-says Fine t u e = let same : u ≡ t = cc in (refl, same)
 good-stream-says (Broken x) t u e = absurd (let z : ◌≡◌ {A = ℕ} 0 1 = cc in omega arith)
 
 module _ (m : List ℕ) (j : Job) (d : Descriptor) (t : CheckedTable) (et : t ≡ table_of m d.table d.tablesize) where
-  pub table-refused : (r : Refusal) → t ≡ BadTable r → Refused j r ≡ rangesOf m j d
-  unfolding rangesOf table_of
+  pub table-refused : (r : Refusal) → t ≡ BadTable r → Refused j r ≡ ranges_of m j d
+  unfolding ranges_of table_of
   table-refused r e =
-      let broken : only (present d.tablesize) (header-rules d.tablesize (table-header m d.table)) ≡ Broken r = bad-table-says _ _ r (sym et ∙ e) in
+      let broken : only (present d.tablesize) (header_rules d.tablesize (table_header m d.table)) ≡ Broken r = bad-table-says _ _ r (sym et ∙ e) in
       rw broken
 
-  module _ (u : Table) (eu : t ≡ GoodTable u) (s : CheckedStream) (es : s ≡ streamOf m d.cmd d.cmdsize) where
-    table_fine : (only (present d.tablesize) (header-rules d.tablesize (table-header m d.table)) ≡ Fine) × (u ≡ pick (present d.tablesize) (checked_table d.table (table-header m d.table)) no_table)
+  module _ (u : Table) (eu : t ≡ GoodTable u) (s : CheckedStream) (es : s ≡ judged_stream m d.cmd d.cmdsize) where
+    table_fine : (only (present d.tablesize) (header_rules d.tablesize (table_header m d.table)) ≡ Fine) × (u ≡ pick (present d.tablesize) (checked_table d.table (table_header m d.table)) no_table)
     unfolding table_of
     table_fine = good-table-says _ _ u (sym et ∙ eu)
 
-    pub stream-refused : (r : Refusal) → s ≡ BadStream r → Refused j r ≡ rangesOf m j d
-    unfolding rangesOf streamOf
+    pub stream-refused : (r : Refusal) → s ≡ BadStream r → Refused j r ≡ ranges_of m j d
+    unfolding ranges_of judged_stream
     stream-refused r e =
-        let broken : only (present d.cmdsize) (stream-rules d.cmdsize (stream-header m d.cmd)) ≡ Broken r = bad-stream-says _ _ r (sym es ∙ e) in
+        let broken : only (present d.cmdsize) (stream_rules d.cmdsize (stream_header m d.cmd)) ≡ Broken r = bad-stream-says _ _ r (sym es ∙ e) in
         rw (table_fine.0, broken)
 
-    pub both-started : (x : Stream) → s ≡ GoodStream x → Started (record { job = j; table = u; stream = x }) ≡ rangesOf m j d
-    unfolding rangesOf streamOf
+    pub both-started : (x : Stream) → s ≡ GoodStream x → Started (record { job = j; table = u; stream = x }) ≡ ranges_of m j d
+    unfolding ranges_of judged_stream
     both-started x e =
-        let two : (only (present d.cmdsize) (stream-rules d.cmdsize (stream-header m d.cmd)) ≡ Fine) × (x ≡ pick (present d.cmdsize) (stream_of d.cmd (stream-header m d.cmd)) no_stream) =
+        let two : (only (present d.cmdsize) (stream_rules d.cmdsize (stream_header m d.cmd)) ≡ Fine) × (x ≡ pick (present d.cmdsize) (stream_of d.cmd (stream_header m d.cmd)) no_stream) =
         good-stream-says _ _ x (sym es ∙ e) in
         rw (table_fine.0, two.0, table_fine.1, two.1)
 
@@ -130,8 +130,8 @@ pub ruleset opening_ranges = (table-refused, stream-refused, both-started, rules
 present-size : (size : ℕ) → (size ≡ 0 → ⊥) → present size ≡ true
 present-size size n = rw (ne_eqb _ _ n)
 
-pub ranges-lie : (memory : ℕ) (d : Descriptor) → range-rules memory d ≡ Fine → RangesInside memory d
-unfolding range-rules
+pub ranges-lie : (memory : ℕ) (d : Descriptor) → range_rules memory d ≡ Fine → RangesInside memory d
+unfolding range_rules
 ranges-lie memory d fine =
     record {
       cmd = record {
@@ -144,22 +144,22 @@ ranges-lie memory d fine =
       };
     }
 
-module _ (m : List ℕ) (stride : ℕ) (j : Job) (d : Descriptor) (v : Verdict) (ev : v ≡ descriptor-rules stride d) where
-  pub descriptor-refused : (r : Refusal) → v ≡ Broken r → Refused j r ≡ submission-opening m stride j d
-  unfolding submission-opening submission-rules
+module _ (m : List ℕ) (stride : ℕ) (j : Job) (d : Descriptor) (v : Verdict) (ev : v ≡ descriptor_rules stride d) where
+  pub descriptor-refused : (r : Refusal) → v ≡ Broken r → Refused j r ≡ submission_opening m stride j d
+  unfolding submission_opening submission_rules
   descriptor-refused r e = rw (← ev, e)
 
-  module _ (n : ℕ) (same : (n ≡ length m) × (n < 18446744073709551616)) (f : v ≡ Fine) (u : Verdict) (eu : u ≡ range-rules n d) where
-    pub ranges-refused : (r : Refusal) → u ≡ Broken r → Refused j r ≡ submission-opening m stride j d
-    unfolding submission-opening submission-rules
+  module _ (n : ℕ) (same : (n ≡ length m) × (n < 18446744073709551616)) (f : v ≡ Fine) (u : Verdict) (eu : u ≡ range_rules n d) where
+    pub ranges-refused : (r : Refusal) → u ≡ Broken r → Refused j r ≡ submission_opening m stride j d
+    unfolding submission_opening submission_rules
     ranges-refused r e = rw (← ev, f, ← same.0, ← eu, e)
 
     module _ (g : u ≡ Fine) where
       pub ranges-given : RangesInside (length m) d
       ranges-given = ranges-lie (length m) d (rw (← same.0) (sym eu ∙ g))
 
-      pub submission-is : (o : Opening) → o ≡ rangesOf m j d → o ≡ submission-opening m stride j d
-      unfolding submission-opening submission-rules rangesOf
+      pub submission-is : (o : Opening) → o ≡ ranges_of m j d → o ≡ submission_opening m stride j d
+      unfolding submission_opening submission_rules ranges_of
       submission-is o e = e ∙ rw (← ev, f, ← same.0, ← eu, g)
 
 pub ruleset opening_submission = (descriptor-refused, ranges-refused, ranges-given, submission-is, rules)
@@ -167,27 +167,27 @@ pub ruleset opening_submission = (descriptor-refused, ranges-refused, ranges-giv
 -- ---- the head's slot
 
 pub record SlotInside (memory ring : ℕ) (h : RingHeader) : Type 0 where
-  pub power : power-of-two slot_doublings h.count ≡ true
+  pub power : power_of_two slot_doublings h.count ≡ true
   pub fits : ring + (ring_header_size + slot h * h.stride) + descriptor_size ≤ memory
 
 -- what a good header says of its slots
 pub record GoodSlots (size : ℕ) (h : RingHeader) : Type 0 where
-  pub power : power-of-two slot_doublings h.count ≡ true
+  pub power : power_of_two slot_doublings h.count ≡ true
   pub stride : descriptor_size ≤ h.stride
   pub inside : ring_header_size + h.count * h.stride ≤ size
 
-good-header-says : (size : ℕ) (h : RingHeader) → good-header size h ≡ true → GoodSlots size h
-unfolding good-header
+good-header-says : (size : ℕ) (h : RingHeader) → good_header size h ≡ true → GoodSlots size h
+unfolding good_header
 good-header-says size h e =
     let r₁ = both_right (eqb h.magic ring_magic) _ e in
     let r₂ = both_right (good_version h.version) _ r₁ in
-    let r₃ = both_right (power-of-two slot_doublings h.count) _ r₂ in
+    let r₃ = both_right (power_of_two slot_doublings h.count) _ r₂ in
     let r₄ = both_right (leb descriptor_size h.stride) _ r₃ in
     let r₅ = both_right (leb (ring_header_size + h.count * h.stride) h.size) _ r₄ in
     let rows : ring_header_size + h.count * h.stride ≤ h.size = leb-true _ _ (both_left (leb (ring_header_size + h.count * h.stride) h.size) _ r₄) in
     let whole : h.size ≤ size = leb-true _ _ (both_left (leb h.size size) _ r₅) in
     record {
-      power = both_left (power-of-two slot_doublings h.count) _ r₂;
+      power = both_left (power_of_two slot_doublings h.count) _ r₂;
       stride = leb-true _ _ (both_left (leb descriptor_size h.stride) _ r₃);
       inside = omega arith;
     }
@@ -196,8 +196,8 @@ slot-below : (h : RingHeader) → 0 < h.count → slot h < h.count
 slot-below h p = mod-lt h.head p
 
 module _ (m : List ℕ) (ring : ℕ) (h : RingHeader) where
-  pub no-work : h.head ≡ h.tail → NoWork ≡ ring-opening m ring h
-  unfolding ring-opening
+  pub no-work : h.head ≡ h.tail → NoWork ≡ ring_opening m ring h
+  unfolding ring_opening
   no-work e = rw (eq-eqb _ _ e)
 
   module _ (n : h.head ≡ h.tail → ⊥) (lies : SlotInside (length m) ring h) (o : ℕ) (at : (o ≡ ring_header_size + slot h * h.stride) × (o + 4294967296 ≤ 18446744073709551616)) where
@@ -209,8 +209,8 @@ module _ (m : List ℕ) (ring : ℕ) (h : RingHeader) where
       slot-lies = omega (arith, lies.fits)
 
       pub head_opened : (d : Descriptor) (x : Opening) → d ≡ descriptor m p
-          → x ≡ submission-opening m h.stride (record { ring = ring; head = h.head; signal = d.signal; silent = eqb (d.flags % 2) 1 }) d → x ≡ ring-opening m ring h
-      unfolding ring-opening
+          → x ≡ submission_opening m h.stride (record { ring = ring; head = h.head; signal = d.signal; silent = eqb (d.flags % 2) 1 }) d → x ≡ ring_opening m ring h
+      unfolding ring_opening
       head_opened d x e q =
           let there : d ≡ descriptor m (slot_place ring h) = e ∙ ap (descriptor m) (same ∙ ap (λ k. ring + k) at.0) in
           q ∙ rw (ne_eqb _ _ n, there)
@@ -221,7 +221,7 @@ pub ruleset opening_head = (no-work, slot-fits, slot-lies, head_opened, rules)
 
 module _ (m : List ℕ) (ring size : ℕ) where
   pub ring-short : size < ring_header_size → BadRing ≡ opening_of m ring size
-  unfolding opening_of good-ring
+  unfolding opening_of good_ring
   ring-short p = rw (lt-leb _ _ p)
 
   module _ (p : ring_header_size ≤ size) (n b : ℕ) (long : (n ≡ length m) × (n < 18446744073709551616)) (wide : (b ≡ size) × (b < 4294967296))
@@ -230,7 +230,7 @@ module _ (m : List ℕ) (ring size : ℕ) where
     ends = leb-ltb (ring + size) (length m) ∙ rw (is, long.0, wide.0)
 
     pub ring-past : t ≡ true → BadRing ≡ opening_of m ring size
-    unfolding opening_of good-ring
+    unfolding opening_of good_ring
     ring-past q = rw (le-leb _ _ p, ends, q)
 
     module _ (q : t ≡ false) (k : ℕ) (at : k ≡ ring) where
@@ -240,9 +240,9 @@ module _ (m : List ℕ) (ring size : ℕ) where
       pub header-lies : k + ring_header_size ≤ length m
       header-lies = omega (arith, within)
 
-      module _ (h : RingHeader) (read : h ≡ ring-header m k) (g : Bool) (judged : g ≡ good-header size h) where
-        there : good-ring m ring size ≡ g
-        unfolding good-ring
+      module _ (h : RingHeader) (read : h ≡ ring_header m k) (g : Bool) (judged : g ≡ good_header size h) where
+        there : good_ring m ring size ≡ g
+        unfolding good_ring
         there = rw (le-leb _ _ p, le-leb _ _ within, ← at, ← read, ← judged)
 
         pub header-bad : not g ≡ true → BadRing ≡ opening_of m ring size
@@ -256,7 +256,7 @@ module _ (m : List ℕ) (ring size : ℕ) where
               let row : slot h * h.stride + h.stride ≤ h.count * h.stride = omega (arith, mul-le-mul_right h.stride (slot-below h (counted h.count s.power))) in
               record { power = s.power; fits = omega (arith, within, s.inside, s.stride, row) }
 
-          pub ring-opened : (x : Opening) → x ≡ ring-opening m ring h → x ≡ opening_of m ring size
+          pub ring-opened : (x : Opening) → x ≡ ring_opening m ring h → x ≡ opening_of m ring size
           unfolding opening_of
           ring-opened x y = y ∙ rw (there, not-false g e, ← at, ← read, at)
 

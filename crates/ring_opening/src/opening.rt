@@ -1,8 +1,8 @@
 // How an opening ends: a bad ring, no work, a submission that is refused, or one that was started.
 // Ranges are looked into only where they are present, and only once they are known to lie within memory.
 ghost use Rattle.std.specs.Prelude.{◌≡◌, ◌+◌, ◌≤◌, ◌<◌, length};
-ghost use Rattle.rules.specs.Ring.{submission-opening, ring-opening, opening_of};
-ghost use Rattle.ring_opening.specs.Opening.{Inside, table_of, streamOf, RangesInside, rangesOf, SlotInside};
+ghost use Rattle.rules.specs.Ring.{submission_opening, ring_opening, opening_of};
+ghost use Rattle.ring_opening.specs.Opening.{Inside, table_of, judged_stream, RangesInside, ranges_of, SlotInside};
 
 use ring_descriptor::descriptor::{descriptor_at, descriptor_verdict, range_verdict};
 use ring_header::header::{good, header_at, slot_offset};
@@ -30,7 +30,7 @@ fn open_table(mem: &[u8], gpa: u64, size: u32) -> CheckedTable
 // 16, where a stream is present.
 fn open_stream(mem: &[u8], gpa: u64, size: u32) -> CheckedStream
     requires { Inside (length mem.now) gpa size }
-    ensures { result ≡ streamOf mem.now gpa size }
+    ensures { result ≡ judged_stream mem.now gpa size }
 {
     if size == 0 {
         return CheckedStream::Good(Stream { gpa: 0, size: 0 });
@@ -41,7 +41,7 @@ fn open_stream(mem: &[u8], gpa: u64, size: u32) -> CheckedStream
 // The submission that a descriptor describes, once 11 and 12 have passed.
 fn open_ranges(mem: &[u8], job: Job, d: Descriptor) -> Opening
     requires { RangesInside (length mem.now) d }
-    ensures { result ≡ rangesOf mem.now job d }
+    ensures { result ≡ ranges_of mem.now job d }
 {
     match open_table(mem, d.table, d.tablesize) {
         CheckedTable::Bad(why) => Opening::Refused(job, why),
@@ -54,7 +54,7 @@ fn open_ranges(mem: &[u8], job: Job, d: Descriptor) -> Opening
 
 // The submission that a descriptor describes: 11 to 16, in order.
 pub fn open_submission(mem: &[u8], stride: u32, job: Job, d: Descriptor) -> Opening
-    ensures { result ≡ submission-opening mem.now stride job d }
+    ensures { result ≡ submission_opening mem.now stride job d }
 {
     let memory = usize_to_word(mem.len());
     match descriptor_verdict(stride, d) {
@@ -69,7 +69,7 @@ pub fn open_submission(mem: &[u8], stride: u32, job: Job, d: Descriptor) -> Open
 // What stands at the head of a good ring.
 fn open_head(mem: &[u8], ring: u64, h: RingHeader) -> Opening
     requires { SlotInside (length mem.now) ring h }
-    ensures { result ≡ ring-opening mem.now ring h }
+    ensures { result ≡ ring_opening mem.now ring h }
 {
     if h.head == h.tail {
         return Opening::NoWork;

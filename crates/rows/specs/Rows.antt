@@ -113,19 +113,19 @@ module _ {E : Type 0} (f : List ℕ → E) (w : ℕ) where
   table n l = tab (λ i. f (row_at w l i)) 0 n
 
   -- those from row i on, up to row n
-  unfoldable pub tableFrom : ℕ → ℕ → List ℕ → List E
-  tableFrom i n l = tab (λ i. f (row_at w l i)) i (n - i)
+  unfoldable pub table_from : ℕ → ℕ → List ℕ → List E
+  table_from i n l = tab (λ i. f (row_at w l i)) i (n - i)
 
-  pub from_first : (i n : ℕ) (l : List ℕ) → i < n → tableFrom i n l ≡ f (row_at w l i) ∷ tableFrom (i + 1) n l
-  unfolding tableFrom
+  pub from_first : (i n : ℕ) (l : List ℕ) → i < n → table_from i n l ≡ f (row_at w l i) ∷ table_from (i + 1) n l
+  unfolding table_from
   from_first i n l h = tab-first (λ i. f (row_at w l i)) i n h
 
-  pub from-none : (i n : ℕ) (l : List ℕ) → n ≤ i → tableFrom i n l ≡ []
-  unfolding tableFrom
+  pub from-none : (i n : ℕ) (l : List ℕ) → n ≤ i → table_from i n l ≡ []
+  unfolding table_from
   from-none i n l h = tab-none (λ i. f (row_at w l i)) i n h
 
-  pub from_zero : (n : ℕ) (l : List ℕ) → tableFrom 0 n l ≡ table n l
-  unfolding tableFrom table
+  pub from_zero : (n : ℕ) (l : List ℕ) → table_from 0 n l ≡ table n l
+  unfolding table_from table
   from_zero n l = rw sub-zero
 
   pub length-table : (n : ℕ) (l : List ℕ) → length (table n l) ≡ n

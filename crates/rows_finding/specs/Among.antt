@@ -3,7 +3,7 @@ use Rattle.std.specs.Prelude.{◌≡◌, List, ℕ, ◌+◌, ◌-◌, ◌≤◌,
 use Rattle.std.proofs.Common.{ap, ◌∙◌, ⊎_elim, arith, rules}
 use Rattle.words.specs.Over.{below_or_not}
 use Rattle.rules.specs.Lists.{index_of}
-use Rattle.rows.specs.Rows.{row_at, table, tableFrom, from_first, from-none, from_zero}
+use Rattle.rows.specs.Rows.{row_at, table, table_from, from_first, from-none, from_zero}
 use Rattle.rows.specs.Keys.{index-here, index-later, index-nil}
 
 -- where the rows left are eights, and some are left, eight are
@@ -13,13 +13,13 @@ eight-left i n eights h = ⊎_elim (λ r. omega arith) (λ r. absurd (h (omega a
 module _ {A : Type 0} (f : List ℕ → A) (key : A → ℕ) (k w : ℕ) (l : List ℕ) where
   -- the place of the key among the rows from row i on, up to row n
   abbrev place_from : ℕ → ℕ → ℕ
-  place_from n i = index_of key k (tableFrom f w i n l)
+  place_from n i = index_of key k (table_from f w i n l)
 
   -- which of m rows from row i on has the key first, or m: then its place, in any table that has them, is that many further on
   pub record Among (i m r : ℕ) : Type 0 where
     pub within : r ≤ m
-    pub here : (n : ℕ) → i + m ≤ n → r < m → index_of key k (tableFrom f w i n l) ≡ r
-    pub later : (n : ℕ) → i + m ≤ n → m ≤ r → index_of key k (tableFrom f w i n l) ≡ m + index_of key k (tableFrom f w (i + m) n l)
+    pub here : (n : ℕ) → i + m ≤ n → r < m → index_of key k (table_from f w i n l) ≡ r
+    pub later : (n : ℕ) → i + m ≤ n → m ≤ r → index_of key k (table_from f w i n l) ≡ m + index_of key k (table_from f w (i + m) n l)
 
   -- ---- one row
 
@@ -83,7 +83,7 @@ module _ {A : Type 0} (f : List ℕ → A) (key : A → ℕ) (k w : ℕ) (l : Li
 
   -- ---- the scan: t is what the whole of it gives
 
-  module _ (n i t : ℕ) (so_far : t ≡ i + index_of key k (tableFrom f w i n l)) where
+  module _ (n i t : ℕ) (so_far : t ≡ i + index_of key k (table_from f w i n l)) where
     pub scan-end : i ≡ n → n ≡ t
     scan-end h = let e : place_from n i ≡ 0 = rw (from-none f w i n l (omega arith)) (index-nil key k) in omega arith
 
@@ -98,22 +98,22 @@ module _ {A : Type 0} (f : List ℕ → A) (key : A → ℕ) (k w : ℕ) (l : Li
       pub eight-here : r < 8 → i + r ≡ t
       eight-here g = found 8 r a (eight-left i n eights h) g
 
-      pub eight-later : 8 ≤ r → t ≡ i + 8 + index_of key k (tableFrom f w (i + 8) n l)
+      pub eight-later : 8 ≤ r → t ≡ i + 8 + index_of key k (table_from f w (i + 8) n l)
       eight-later g = past 8 r a (eight-left i n eights h) g
 
     module _ (h : i < n % 8) (r : ℕ) (a : Among i 1 r) where
       pub few-here : r < 1 → i + r ≡ t
       few-here g = found 1 r a (omega arith) g
 
-      pub few-later : 1 ≤ r → t ≡ i + 1 + index_of key k (tableFrom f w (i + 1) n l)
+      pub few-later : 1 ≤ r → t ≡ i + 1 + index_of key k (table_from f w (i + 1) n l)
       few-later g = past 1 r a (omega arith) g
 
-  pub scan-start : (n : ℕ) → index_of key k (table f w n l) ≡ 0 + index_of key k (tableFrom f w 0 n l)
+  pub scan-start : (n : ℕ) → index_of key k (table f w n l) ≡ 0 + index_of key k (table_from f w 0 n l)
   scan-start n = rw (from_zero f) (omega arith)
 
   -- what is left after the few in front
-  pub scan-rest : (n i few : ℕ) → index_of key k (table f w n l) ≡ i + index_of key k (tableFrom f w i n l) → i ≤ few → few ≤ i
-      → (r : ℕ) → r ≡ few + index_of key k (tableFrom f w few n l) → r ≡ index_of key k (table f w n l)
+  pub scan-rest : (n i few : ℕ) → index_of key k (table f w n l) ≡ i + index_of key k (table_from f w i n l) → i ≤ few → few ≤ i
+      → (r : ℕ) → r ≡ few + index_of key k (table_from f w few n l) → r ≡ index_of key k (table f w n l)
   scan-rest n i few so_far g h r e =
       let s : few ≡ i = omega arith in
       let same : place_from n few ≡ place_from n i = ap (place_from n) s in

@@ -1,7 +1,7 @@
 // Rows of words found by their first word.
 ghost use Rattle.std.specs.Prelude.{◌≡◌, ◌+◌, ◌-◌, ◌*◌, ◌%◌, ◌≤◌, ◌<◌, length};
 ghost use Rattle.rules.specs.Lists.{index_of};
-ghost use Rattle.rows.specs.Rows.{table, tableFrom, first_word};
+ghost use Rattle.rows.specs.Rows.{table, table_from, first_word};
 ghost use Rattle.rows_finding.specs.Among.{Among};
 
 use words::low32;
@@ -56,7 +56,7 @@ fn of_eight(rows: &[u64], width: usize, i: usize, key: u32) -> usize
 // The end of a scan: the key's place, or `count`. Eight rows a turn, and as many turns as are left.
 fn by_eight(rows: &[u64], width: usize, from: usize, count: usize, key: u32) -> usize
     requires { ((0 < width) × (width * count ≤ length rows.now)) × ((from ≤ count) × ((count - from) % 8 ≡ 0)) }
-    ensures* { λ r. ⌜ r ≡ from + index_of first_word key (tableFrom (λ r. r) width from count rows.now) ⌝ }
+    ensures* { λ r. ⌜ r ≡ from + index_of first_word key (table_from (λ r. r) width from count rows.now) ⌝ }
 {
     let mut i = from;
     let place = loop {

@@ -14,31 +14,31 @@ use Rattle.words.specs.Over.{below_or_not, sets_over, part-before, drop-after}
 use Rattle.rows.specs.Rows.{row_at, table, tab-ext, row_field}
 
 -- the word at a place is `new`, if its lower half was `old`
-unfoldable pub wordRenamed : ℕ → ℕ → ℕ → List ℕ → List ℕ
-wordRenamed place old new l = pick (eqb (get_or l place 0 % 2 ^ 32) old) (set l place new) l
+unfoldable pub word_renamed : ℕ → ℕ → ℕ → List ℕ → List ℕ
+word_renamed place old new l = pick (eqb (get_or l place 0 % 2 ^ 32) old) (set l place new) l
 
 -- the same of word `at` of each of the first rows, one after the other
-unfoldable pub rowsRenamed : ℕ → ℕ → ℕ → ℕ → ℕ → List ℕ → List ℕ
-rowsRenamed w at old new zero l = l
-rowsRenamed w at old new (suc i) l = wordRenamed (w * i + at) old new (rowsRenamed w at old new i l)
+unfoldable pub rows_renamed : ℕ → ℕ → ℕ → ℕ → ℕ → List ℕ → List ℕ
+rows_renamed w at old new zero l = l
+rows_renamed w at old new (suc i) l = word_renamed (w * i + at) old new (rows_renamed w at old new i l)
 
 -- ---- rename_word
 
 module _ (place old new v : ℕ) (l : List ℕ) (is : v ≡ get_or l place 0 % 4294967296) where
-  pub word-changed : v ≡ old → set l place new ≡ wordRenamed place old new l
-  unfolding wordRenamed
+  pub word-changed : v ≡ old → set l place new ≡ word_renamed place old new l
+  unfolding word_renamed
   word-changed h = rw (eq-eqb _ _ (sym is ∙ h))
 
-  pub word-stays : (v ≡ old → ⊥) → l ≡ wordRenamed place old new l
-  unfolding wordRenamed
+  pub word-stays : (v ≡ old → ⊥) → l ≡ word_renamed place old new l
+  unfolding word_renamed
   word-stays h = rw (ne_eqb _ _ (λ p. h (is ∙ p)))
 
 pub ruleset renaming_word = (word-changed, word-stays, rules)
 
 -- ---- what becomes of a row
 
-pub length-word : (place old new : ℕ) (l : List ℕ) → length (wordRenamed place old new l) ≡ length l
-unfolding wordRenamed
+pub length-word : (place old new : ℕ) (l : List ℕ) → length (word_renamed place old new l) ≡ length l
+unfolding word_renamed
 length-word place old new l = by_test (eqb (get_or l place 0 % 2 ^ 32) old)
   where
     by_test : (t : Bool) → length (pick t (set l place new) l) ≡ length l
@@ -75,8 +75,8 @@ module _ (w at old new : ℕ) (inside : at < w) where
       (part-before (w * i + at) (new ∷ []) l (omega arith) w (w * j) (omega (arith, row_ends w j i h)))
 
   -- a word of row i changes, and so does the row
-  word-of-row : (i : ℕ) (l : List ℕ) → row_at w (wordRenamed (w * i + at) old new l) i ≡ wordRenamed at old new (row_at w l i)
-  unfolding wordRenamed
+  word-of-row : (i : ℕ) (l : List ℕ) → row_at w (word_renamed (w * i + at) old new l) i ≡ word_renamed at old new (row_at w l i)
+  unfolding word_renamed
   word-of-row i l = rw (row_field w l i at inside) (by_test (eqb (get_or l (w * i + at) 0 % 2 ^ 32) old))
     where
       by_test : (t : Bool) → row_at w (pick t (set l (w * i + at) new) l) i ≡ pick t (set (row_at w l i) at new) (row_at w l i)
@@ -84,55 +84,55 @@ module _ (w at old new : ℕ) (inside : at < w) where
       by_test false = refl
 
   -- and no other row does
-  word-of-other : (i j : ℕ) (l : List ℕ) → w * i + at < length l → (i < j) ⊎ (j < i) → row_at w (wordRenamed (w * i + at) old new l) j ≡ row_at w l j
-  unfolding wordRenamed
+  word-of-other : (i j : ℕ) (l : List ℕ) → w * i + at < length l → (i < j) ⊎ (j < i) → row_at w (word_renamed (w * i + at) old new l) j ≡ row_at w l j
+  unfolding word_renamed
   word-of-other i j l room apart = by_test (eqb (get_or l (w * i + at) 0 % 2 ^ 32) old)
     where
       by_test : (t : Bool) → row_at w (pick t (set l (w * i + at) new) l) j ≡ row_at w l j
       by_test true = set_other i j l room apart
       by_test false = refl
 
-  pub length-rows : (n : ℕ) (l : List ℕ) → length (rowsRenamed w at old new n l) ≡ length l
-  unfolding rowsRenamed
+  pub length-rows : (n : ℕ) (l : List ℕ) → length (rows_renamed w at old new n l) ≡ length l
+  unfolding rows_renamed
   length-rows zero l = refl
   length-rows (suc n) l = length-word (w * n + at) old new _ ∙ length-rows n l
 
   -- the rows behind the first n stay
-  row-behind : (n k : ℕ) (l : List ℕ) → w * n ≤ length l → n ≤ k → row_at w (rowsRenamed w at old new n l) k ≡ row_at w l k
-  unfolding rowsRenamed
+  row-behind : (n k : ℕ) (l : List ℕ) → w * n ≤ length l → n ≤ k → row_at w (rows_renamed w at old new n l) k ≡ row_at w l k
+  unfolding rows_renamed
   row-behind zero k l room h = refl
   row-behind (suc n) k l room h =
-      let e : length (rowsRenamed w at old new n l) ≡ length l = length-rows n l in
+      let e : length (rows_renamed w at old new n l) ≡ length l = length-rows n l in
       let f : w * n + w ≤ w * suc n = row_ends w n (suc n) (omega arith) in
-      word-of-other n k (rowsRenamed w at old new n l) (omega arith) (inl (omega arith)) ∙ row-behind n k l (omega arith) (omega arith)
+      word-of-other n k (rows_renamed w at old new n l) (omega arith) (inl (omega arith)) ∙ row-behind n k l (omega arith) (omega arith)
 
   -- each of the first n rows has its word changed
-  row-renamed : (n k : ℕ) (l : List ℕ) → w * n ≤ length l → k < n → row_at w (rowsRenamed w at old new n l) k ≡ wordRenamed at old new (row_at w l k)
-  unfolding rowsRenamed
+  row-renamed : (n k : ℕ) (l : List ℕ) → w * n ≤ length l → k < n → row_at w (rows_renamed w at old new n l) k ≡ word_renamed at old new (row_at w l k)
+  unfolding rows_renamed
   row-renamed zero k l room h = absurd (omega arith)
   row-renamed (suc n) k l room h =
-      let e : length (rowsRenamed w at old new n l) ≡ length l = length-rows n l in
+      let e : length (rows_renamed w at old new n l) ≡ length l = length-rows n l in
       let f : w * n + w ≤ w * suc n = row_ends w n (suc n) (omega arith) in
       ⊎_elim
-      (λ q. word-of-other n k (rowsRenamed w at old new n l) (omega arith) (inr q) ∙ row-renamed n k l (omega arith) q)
+      (λ q. word-of-other n k (rows_renamed w at old new n l) (omega arith) (inr q) ∙ row-renamed n k l (omega arith) q)
       (λ q.
       let s : k ≡ n = omega arith in
-      rw s (word-of-row n (rowsRenamed w at old new n l) ∙ ap (λ r. wordRenamed at old new r) (row-behind n n l (omega arith) (omega arith))))
+      rw s (word-of-row n (rows_renamed w at old new n l) ∙ ap (λ r. word_renamed at old new r) (row-behind n n l (omega arith) (omega arith))))
       (below_or_not k n)
 
   -- so the table is that of the rows, each with its word changed
   pub table-renamed : {E : Type 0} (f : List ℕ → E) (n : ℕ) (l : List ℕ) → w * n ≤ length l
-      → table f w n (rowsRenamed w at old new n l) ≡ table (λ r. f (wordRenamed at old new r)) w n l
+      → table f w n (rows_renamed w at old new n l) ≡ table (λ r. f (word_renamed at old new r)) w n l
   unfolding table
   table-renamed f n l room = tab-ext _ _ 0 n (λ k p q. ap f (row-renamed n k l room (omega arith)))
 
   -- ---- rename_rows
 
-  pub rename-start : (l : List ℕ) → l ≡ rowsRenamed w at old new 0 l
-  unfolding rowsRenamed
+  pub rename-start : (l : List ℕ) → l ≡ rows_renamed w at old new 0 l
+  unfolding rows_renamed
   rename-start l = refl
 
-  module _ (n i : ℕ) (l m : List ℕ) (part : m ≡ rowsRenamed w at old new i l) where
+  module _ (n i : ℕ) (l m : List ℕ) (part : m ≡ rows_renamed w at old new i l) where
     pub rename-length : length m ≡ length l
     rename-length = rw (part, length-rows i l)
 
@@ -145,11 +145,11 @@ module _ (w at old new : ℕ) (inside : at < w) where
     pub rename-place-fits : w * n ≤ length l → i < n → length l * 8 < 2 ^ 63 → Fits w64 (w * i + at)
     rename-place-fits room h small = record { fits = omega (arith, rename-length, rename-place room h) }
 
-    pub rename-next : (word : ℕ) (k : List ℕ) → (word ≡ new) × (word < 4294967296) → k ≡ wordRenamed (w * i + at) old word m → k ≡ rowsRenamed w at old new (i + 1) l
-    unfolding rowsRenamed
+    pub rename-next : (word : ℕ) (k : List ℕ) → (word ≡ new) × (word < 4294967296) → k ≡ word_renamed (w * i + at) old word m → k ≡ rows_renamed w at old new (i + 1) l
+    unfolding rows_renamed
     rename-next word k same e = rw (e, part, add-one, same.0)
 
-    pub rename-end : i ≤ n → n ≤ i → m ≡ rowsRenamed w at old new n l
-    rename-end h q = let e : i ≡ n = omega arith in part ∙ ap (λ j. rowsRenamed w at old new j l) e
+    pub rename-end : i ≤ n → n ≤ i → m ≡ rows_renamed w at old new n l
+    rename-end h q = let e : i ≡ n = omega arith in part ∙ ap (λ j. rows_renamed w at old new j l) e
 
 pub ruleset renaming_rows = (rename-start, rename-length, rename-place, rename-row-fits, rename-place-fits, rename-next, rename-end, rules)

@@ -6,10 +6,10 @@ use Rattle.machine.specs.Machine.{pick}
 use Rattle.rules.specs.Numbers.{bad_ring, bad_state, bad_entry, bad_packet, host_failed, bad_descriptor, outside_memory, bad_table, bad_stream, too_many}
 use Rattle.rules.specs.Judging.{refusal, rule, ◌▹◌}
 use Rattle.rules.specs.Layouts.{entry}
-use Rattle.rules.specs.Table.{entry-rules, entry_place, keep, in_reach, take-entry}
-use Rattle.rules.specs.Stream.{frame-of}
+use Rattle.rules.specs.Table.{entry_rules, entry_place, keep, in_reach, take_entry}
+use Rattle.rules.specs.Stream.{frame_of}
 use Rattle.rules.specs.Ring.{opening_of}
-use Rattle.rules.specs.Packets.{Progress, pass, take-packet}
+use Rattle.rules.specs.Packets.{Progress, pass, take_packet}
 use Rattle.rules.specs.declared.Entry.{Entry}
 use Rattle.rules.specs.declared.Packet.{Packet}
 use Rattle.rules.specs.declared.Table.{Table}
@@ -35,8 +35,8 @@ listed-between : (n : ℕ) → 10 ≤ n → n ≤ 30 → listed n ≡ true
 listed-between n low high = rw (le-leb bad_ring n low, le-leb n bad_state high)
 
 -- a packet's numbers and an opening's are of the list
-packet-listed : (n : ℕ) → packet_number n ≡ true → listed n ≡ true
-packet-listed n h =
+packet_listed : (n : ℕ) → packet_number n ≡ true → listed n ≡ true
+packet_listed n h =
     let low : bad_packet ≤ n = leb-true bad_packet n (both_left (leb bad_packet n) (leb n bad_state && not (eqb n host_failed)) h) in
     let high : n ≤ bad_state = leb-true n bad_state (both_left (leb n bad_state) (not (eqb n host_failed)) (both_right (leb bad_packet n) (leb n bad_state && not (eqb n host_failed)) h)) in
     listed-between n (omega arith) (omega arith)
@@ -65,8 +65,8 @@ then_listed : (a b : Verdict) → Listed a → Listed b → Listed (a ▹ b)
 then_listed Fine b k l = l
 then_listed (Broken r) b k l = k
 
-entry_listed : (memory : ℕ) (earlier : List Entry) (e : Entry) → Listed (entry-rules memory earlier e)
-unfolding entry-rules
+entry_listed : (memory : ℕ) (earlier : List Entry) (e : Entry) → Listed (entry_rules memory earlier e)
+unfolding entry_rules
 entry_listed memory earlier e = search (rule_listed, then_listed) depth 12
 
 keep_listed : (v : Verdict) (kept : List Entry) (e : Entry) → Listed v → Listed (keep v kept e).verdict
@@ -74,15 +74,15 @@ keep_listed Fine kept e l = l
 keep_listed (Broken r) kept e l = l
 
 -- an entry's step
-pub take_entry_listed : (m : List ℕ) (t : Table) (kept : List Entry) → Listed (take-entry m t kept).verdict
-unfolding take-entry
+pub take_entry_listed : (m : List ℕ) (t : Table) (kept : List Entry) → Listed (take_entry m t kept).verdict
+unfolding take_entry
 take_entry_listed m t kept = by_test (in_reach m t (length kept))
   where
     here : Entry
     here = entry m (entry_place t (length kept))
 
-    by_test : (b : Bool) → Listed (pick b (keep (entry-rules (length m) kept here) kept here) (record { verdict = Broken (refusal bad_entry); kept = kept })).verdict
-    by_test true = keep_listed (entry-rules (length m) kept here) kept here (entry_listed (length m) kept here)
+    by_test : (b : Bool) → Listed (pick b (keep (entry_rules (length m) kept here) kept here) (record { verdict = Broken (refusal bad_entry); kept = kept })).verdict
+    by_test true = keep_listed (entry_rules (length m) kept here) kept here (entry_listed (length m) kept here)
     by_test false = refl
 
 -- ---- a frame, an opening, a packet
@@ -92,12 +92,12 @@ abbrev pub ListedFrame : Frame → Type 0
 ListedFrame (Whole op size) = 0 ≤ 0
 ListedFrame (Misframed r) = listed r.code ≡ true
 
-pub frame-of-listed : (b : List ℕ) → ListedFrame (frame-of b)
-frame-of-listed b = by_frame (frame-of b) (frame-of-numbered b)
+pub frame-of-listed : (b : List ℕ) → ListedFrame (frame_of b)
+frame-of-listed b = by_frame (frame_of b) (frame-of-numbered b)
   where
     by_frame : (f : Frame) → NumberedFrame f → ListedFrame f
     by_frame (Whole op size) l = l
-    by_frame (Misframed r) l = packet-listed r.code l
+    by_frame (Misframed r) l = packet_listed r.code l
 
 -- what an opening refuses a submission with
 abbrev pub ListedOpening : Opening → Type 0
@@ -106,8 +106,8 @@ ListedOpening NoWork = 0 ≤ 0
 ListedOpening (Refused j r) = listed r.code ≡ true
 ListedOpening (Started o) = 0 ≤ 0
 
-pub opening-listed : (m : List ℕ) (ring size : ℕ) → ListedOpening (opening_of m ring size)
-opening-listed m ring size = by-opening (opening_of m ring size) (opening-numbered m ring size)
+pub opening_listed : (m : List ℕ) (ring size : ℕ) → ListedOpening (opening_of m ring size)
+opening_listed m ring size = by-opening (opening_of m ring size) (opening-numbered m ring size)
   where
     by-opening : (v : Opening) → NumberedOpening v → ListedOpening v
     by-opening BadRing l = l
@@ -117,12 +117,12 @@ opening-listed m ring size = by-opening (opening_of m ring size) (opening-number
 
 numbered_listed : (v : Verdict) → Numbered v → Listed v
 numbered_listed Fine l = l
-numbered_listed (Broken r) l = packet-listed r.code l
+numbered_listed (Broken r) l = packet_listed r.code l
 
 -- a packet, whatever is held
 pub pass_listed : (es : List Entry) (h : Progress) (p : Packet) → Listed (pass es h p).verdict
 pass_listed es h p = numbered_listed (pass es h p).verdict (pass-numbered es h p)
 
 -- a packet's step
-pub take_packet_listed : (es : List Entry) (h : Progress) (b : List ℕ) → Listed (take-packet es h b).verdict
-take_packet_listed es h b = numbered_listed (take-packet es h b).verdict (take-packet-numbered es h b)
+pub take_packet_listed : (es : List Entry) (h : Progress) (b : List ℕ) → Listed (take_packet es h b).verdict
+take_packet_listed es h b = numbered_listed (take_packet es h b).verdict (take-packet-numbered es h b)

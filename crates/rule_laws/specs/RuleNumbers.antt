@@ -6,13 +6,13 @@ use native.Mathlib.Omega.{arith}
 use Rattle.machine.specs.Machine.{pick}
 use Rattle.rules.specs.Numbers.{bad_descriptor, outside_memory, bad_table, bad_entry, twice_in_table, bad_stream, bad_packet, bad_handle, too_many, bad_state, not_in_table, host_failed, unbound_token}
 use Rattle.rules.specs.Judging.{refusal, rule, only, ◌▹◌}
-use Rattle.rules.specs.Layouts.{ring-header, descriptor}
-use Rattle.rules.specs.Table.{header-rules}
-use Rattle.rules.specs.Stream.{stream-rules, frame-rules, framed, frame-of, packet-of}
-use Rattle.rules.specs.Ring.{good-ring, slot_place, descriptor-rules, range-rules, submission-rules, job_of, opened_of, concluded, submission-opening, ring-opening, opening_of}
+use Rattle.rules.specs.Layouts.{ring_header, descriptor}
+use Rattle.rules.specs.Table.{header_rules}
+use Rattle.rules.specs.Stream.{stream_rules, frame_rules, framed, frame_of, packet_of}
+use Rattle.rules.specs.Ring.{good_ring, slot_place, descriptor_rules, range_rules, submission_rules, job_of, opened_of, concluded, submission_opening, ring_opening, opening_of}
 use Rattle.rules.specs.Lists.{Found}
 use Rattle.rules.specs.Lists.Found.{none, found}
-use Rattle.rules.specs.Packets.{Holdings, Outcome, accepted, refused, on_live, on_kind, on_entry, on_texture, on_bound, hand-out, create-hosted, create-backed, create, on-buffer-packet, on-texture-packet, on-destroy-packet, on-dirty-packet, write-back, on-copy-packet, on-target-packet, on-viewport-packet, on-clear-packet, on-scissor-packet, on-export-packet, on-import-packet, on-release-packet, apply, Progress, pass, pass_frame, take-packet}
+use Rattle.rules.specs.Packets.{Holdings, Outcome, accepted, refused, on_live, on_kind, on_entry, on_texture, on_bound, hand_out, create_hosted, create_backed, create, on_buffer_packet, on_texture_packet, on_destroy_packet, on_dirty_packet, write_back, on_copy_packet, on_target_packet, on_viewport_packet, on_clear_packet, on_scissor_packet, on_export_packet, on_import_packet, on_release_packet, apply, Progress, pass, pass_frame, take_packet}
 use Rattle.rules.specs.declared.Entry.{Entry}
 use Rattle.rules.specs.declared.Resource.{Resource}
 use Rattle.rules.specs.declared.Shape.{Shape}
@@ -77,24 +77,24 @@ only-numbered false v l = omega arith
 
 ruleset numbering = (rule-numbered, then-numbered, only-numbered)
 
-table-numbered : (tablesize : ℕ) (h : TableHeader) → OfOpening (header-rules tablesize h)
-unfolding header-rules
+table-numbered : (tablesize : ℕ) (h : TableHeader) → OfOpening (header_rules tablesize h)
+unfolding header_rules
 table-numbered tablesize h = search numbering depth 12
 
-stream-numbered : (cmdsize : ℕ) (h : StreamHeader) → OfOpening (stream-rules cmdsize h)
-unfolding stream-rules
+stream-numbered : (cmdsize : ℕ) (h : StreamHeader) → OfOpening (stream_rules cmdsize h)
+unfolding stream_rules
 stream-numbered cmdsize h = search numbering
 
-descriptor-numbered : (stride : ℕ) (d : Descriptor) → OfOpening (descriptor-rules stride d)
-unfolding descriptor-rules
+descriptor-numbered : (stride : ℕ) (d : Descriptor) → OfOpening (descriptor_rules stride d)
+unfolding descriptor_rules
 descriptor-numbered stride d = search numbering depth 12
 
-range-numbered : (memory : ℕ) (d : Descriptor) → OfOpening (range-rules memory d)
-unfolding range-rules
+range-numbered : (memory : ℕ) (d : Descriptor) → OfOpening (range_rules memory d)
+unfolding range_rules
 range-numbered memory d = search numbering depth 12
 
-submission-numbered : (m : List ℕ) (stride : ℕ) (d : Descriptor) → OfOpening (submission-rules m stride d)
-unfolding submission-rules
+submission-numbered : (m : List ℕ) (stride : ℕ) (d : Descriptor) → OfOpening (submission_rules m stride d)
+unfolding submission_rules
 submission-numbered m stride d = search (numbering, descriptor-numbered, range-numbered, table-numbered, stream-numbered) depth 12
 
 -- what an opening refuses a submission with
@@ -108,27 +108,27 @@ concluded-numbered : (v : Verdict) (j : Job) (o : Opened) → OfOpening v → Nu
 concluded-numbered Fine j o l = l
 concluded-numbered (Broken r) j o l = l
 
-submission-opening-numbered : (m : List ℕ) (stride : ℕ) (j : Job) (d : Descriptor) → NumberedOpening (submission-opening m stride j d)
-unfolding submission-opening
-submission-opening-numbered m stride j d = concluded-numbered (submission-rules m stride d) j (opened_of m j d) (submission-numbered m stride d)
+submission-opening-numbered : (m : List ℕ) (stride : ℕ) (j : Job) (d : Descriptor) → NumberedOpening (submission_opening m stride j d)
+unfolding submission_opening
+submission-opening-numbered m stride j d = concluded-numbered (submission_rules m stride d) j (opened_of m j d) (submission-numbered m stride d)
 
-ring-opening-numbered : (m : List ℕ) (ring : ℕ) (h : RingHeader) → NumberedOpening (ring-opening m ring h)
-unfolding ring-opening
+ring-opening-numbered : (m : List ℕ) (ring : ℕ) (h : RingHeader) → NumberedOpening (ring_opening m ring h)
+unfolding ring_opening
 ring-opening-numbered m ring h = by_test (eqb h.head h.tail)
   where
     here : Descriptor
     here = descriptor m (slot_place ring h)
 
-    by_test : (b : Bool) → NumberedOpening (pick b NoWork (submission-opening m h.stride (job_of ring h here) here))
+    by_test : (b : Bool) → NumberedOpening (pick b NoWork (submission_opening m h.stride (job_of ring h here) here))
     by_test true = omega arith
     by_test false = submission-opening-numbered m h.stride (job_of ring h here) here
 
 pub opening-numbered : (m : List ℕ) (ring size : ℕ) → NumberedOpening (opening_of m ring size)
 unfolding opening_of
-opening-numbered m ring size = by_test (good-ring m ring size)
+opening-numbered m ring size = by_test (good_ring m ring size)
   where
-    by_test : (b : Bool) → NumberedOpening (pick b (ring-opening m ring (ring-header m ring)) BadRing)
-    by_test true = ring-opening-numbered m ring (ring-header m ring)
+    by_test : (b : Bool) → NumberedOpening (pick b (ring_opening m ring (ring_header m ring)) BadRing)
+    by_test true = ring-opening-numbered m ring (ring_header m ring)
     by_test false = omega arith
 
 -- ---- a packet's frame
@@ -145,17 +145,17 @@ further-numbered : (a b : Verdict) → Numbered a → Numbered b → Numbered (a
 further-numbered Fine b k l = l
 further-numbered (Broken r) b k l = k
 
-frame-numbered : (b : List ℕ) → Numbered (frame-rules b)
-unfolding frame-rules
+frame-numbered : (b : List ℕ) → Numbered (frame_rules b)
+unfolding frame_rules
 frame-numbered b = search (framing-numbered, further-numbered) depth 12
 
 abbrev pub NumberedFrame : Frame → Type 0
 NumberedFrame (Whole op size) = 0 ≤ 0
 NumberedFrame (Misframed r) = packet_number r.code ≡ true
 
-pub frame-of-numbered : (b : List ℕ) → NumberedFrame (frame-of b)
-unfolding frame-of
-frame-of-numbered b = by-verdict (frame-rules b) (frame-numbered b) _ _
+pub frame-of-numbered : (b : List ℕ) → NumberedFrame (frame_of b)
+unfolding frame_of
+frame-of-numbered b = by-verdict (frame_rules b) (frame-numbered b) _ _
   where
     by-verdict : (v : Verdict) → Numbered v → (op size : ℕ) → NumberedFrame (framed v op size)
     by-verdict Fine l op size = omega arith
@@ -202,24 +202,24 @@ module _ (h : Holdings) where
 
 ruleset outcomes = (accepted-numbered, refused-numbered, pick-numbered, live-numbered, kind-numbered, entry-or-numbered, texture-numbered, bound-numbered)
 
-hand-out-numbered : (c : Record) (h : Holdings) → NumberedOutcome (hand-out c h)
-unfolding hand-out
+hand-out-numbered : (c : Record) (h : Holdings) → NumberedOutcome (hand_out c h)
+unfolding hand_out
 hand-out-numbered c h = search outcomes depth 12
 
 create-numbered : (es : List Entry) (h : Holdings) (good : Bool) (r : Resource) → NumberedOutcome (create es h good r)
-unfolding create create-backed create-hosted
+unfolding create create_backed create_hosted
 create-numbered es h good r = search outcomes depth 20
 
-write-back-numbered : (es : List Entry) (h : Holdings) (c : CopyBuffer) (r : Resource) → NumberedOutcome (write-back es h c r)
-unfolding write-back
+write-back-numbered : (es : List Entry) (h : Holdings) (c : CopyBuffer) (r : Resource) → NumberedOutcome (write_back es h c r)
+unfolding write_back
 write-back-numbered es h c r = search (outcomes, hand-out-numbered) depth 20
 
-copy-numbered : (es : List Entry) (h : Holdings) (c : CopyBuffer) → NumberedOutcome (on-copy-packet es h c)
-unfolding on-copy-packet
+copy-numbered : (es : List Entry) (h : Holdings) (c : CopyBuffer) → NumberedOutcome (on_copy_packet es h c)
+unfolding on_copy_packet
 copy-numbered es h c = search (outcomes, write-back-numbered) depth 20
 
 apply-numbered : (es : List Entry) (target : ℕ) (ts : List Token) (h : Holdings) (p : Packet) → NumberedOutcome (apply es target ts h p)
-unfolding apply on-buffer-packet on-texture-packet on-destroy-packet on-dirty-packet on-target-packet on-viewport-packet on-clear-packet on-scissor-packet on-export-packet on-import-packet on-release-packet
+unfolding apply on_buffer_packet on_texture_packet on_destroy_packet on_dirty_packet on_target_packet on_viewport_packet on_clear_packet on_scissor_packet on_export_packet on_import_packet on_release_packet
 apply-numbered es target ts h (Buffer c) = search create-numbered
 apply-numbered es target ts h (Texture c) = search create-numbered
 apply-numbered es target ts h (Destroy c) = search outcomes depth 20
@@ -241,10 +241,10 @@ unfolding pass NumberedOutcome
 pass-numbered es h p = apply-numbered es h.target h.tokens h.holdings p
 
 -- a packet's step
-pub take-packet-numbered : (es : List Entry) (h : Progress) (b : List ℕ) → Numbered (take-packet es h b).verdict
-unfolding take-packet
-take-packet-numbered es h b = by_frame (frame-of b) (frame-of-numbered b)
+pub take-packet-numbered : (es : List Entry) (h : Progress) (b : List ℕ) → Numbered (take_packet es h b).verdict
+unfolding take_packet
+take-packet-numbered es h b = by_frame (frame_of b) (frame-of-numbered b)
   where
     by_frame : (f : Frame) → NumberedFrame f → Numbered (pass_frame es h b f).verdict
-    by_frame (Whole op size) l = pass-numbered es h (packet-of op (take size b))
+    by_frame (Whole op size) l = pass-numbered es h (packet_of op (take size b))
     by_frame (Misframed r) l = l

@@ -6,7 +6,7 @@ use Rattle.rules.specs.Lists.{Found, nth}
 use Rattle.rules.specs.Lists.Found.{none, found}
 use Rattle.rules.specs.State.{Work, State, World}
 use Rattle.rules.specs.State.Work.{resting, entries, packets, waiting}
-use Rattle.rules.specs.Registers.{Read, register, Write, write-of}
+use Rattle.rules.specs.Registers.{Read, register, Write, write_of}
 use Rattle.rules.specs.Steps.{run_for, waits, answered}
 use Rattle.rules.specs.declared.Record.{Record}
 use Rattle.rules.specs.declared.Ended.{Ended}
@@ -46,8 +46,8 @@ abbrev pub wrote : State → Found Write → Wrote
 wrote s none = record { answer = no_register; state = s }
 wrote s (found w) = record { answer = done; state = w.state }
 
-unfoldable pub call-write : State → ℕ → ℕ → Wrote
-call-write s offset v = wrote s (write-of s offset v)
+unfoldable pub call_write : State → ℕ → ℕ → Wrote
+call_write s offset v = wrote s (write_of s offset v)
 
 pub record Value : Type 0 where
   pub answer : ℕ
@@ -57,8 +57,8 @@ abbrev pub valued : Found Read → Value
 valued none = record { answer = no_register; value = 0 }
 valued (found r) = record { answer = done; value = r.value }
 
-unfoldable pub call-read : State → ℕ → Value
-call-read s offset = valued (register s.regs offset)
+unfoldable pub call_read : State → ℕ → Value
+call_read s offset = valued (register s.regs offset)
 
 pub record Ran : Type 0 where
   pub answer : ℕ
@@ -73,8 +73,8 @@ not_run answer w = record { answer = answer; units = 0; ended = Idle; world = w 
 abbrev pub ran : Out World → Ran
 ran o = record { answer = done; units = o.units; ended = ending o.state.state; world = o.state }
 
-unfoldable pub call-run : World → ℕ → Ran
-call-run w allowance =
+unfoldable pub call_run : World → ℕ → Ran
+call_run w allowance =
     pick (lent_another w) (not_run other_memory w) (ran (run_for allowance w))
 
 pub record RecordRead : Type 0 where
@@ -96,16 +96,16 @@ record_read none = record { answer = no_record; range = no_range }
 record_read (found c) = record { answer = done; range = c }
 
 -- "record index not below the count, or nothing waiting"
-unfoldable pub call-record : State → ℕ → RecordRead
-call-record s i = record_read (nth (handed_out s.work) i)
+unfoldable pub call_record : State → ℕ → RecordRead
+call_record s i = record_read (nth (handed_out s.work) i)
 
 pub record Answered : Type 0 where
   pub answer : ℕ
   pub world : World
 
 -- what 01 calls "give the host's answer". "1 comes before 3."
-unfoldable pub answer-alone : World → Bool → Answered
-answer-alone w good =
+unfoldable pub answer_alone : World → Bool → Answered
+answer_alone w good =
     pick (lent_another w) (record { answer = other_memory; world = w })
     (pick (waits w.state) (record { answer = done; world = answered good w }) (record { answer = nothing_waits; world = w }))
 
@@ -113,7 +113,7 @@ answer-alone w good =
 -- call; an allowance of 0 is the old call. Answers 1 and 3 refuse the whole call, nothing run; else it must equal the two old calls one after
 -- the other."
 abbrev pub and_run : Answered → ℕ → Ran
-and_run a allowance = pick (eqb a.answer done) (call-run a.world allowance) (not_run a.answer a.world)
+and_run a allowance = pick (eqb a.answer done) (call_run a.world allowance) (not_run a.answer a.world)
 
-unfoldable pub call-answer : World → Bool → ℕ → Ran
-call-answer w good allowance = and_run (answer-alone w good) allowance
+unfoldable pub call_answer : World → Bool → ℕ → Ran
+call_answer w good allowance = and_run (answer_alone w good) allowance

@@ -1,11 +1,11 @@
 -- 02, wish 8, "What differs between these two dumps?": two streams, packet by packet.
 use Rattle.std.specs.Prelude.{false, List, [], ◌∷◌, ℕ, ◌+◌, ltb, eqb, length, take, drop}
 use Rattle.machine.specs.Machine.{pick}
-use Rattle.rules.specs.Layouts.{word, stream-header, stream_header_size}
+use Rattle.rules.specs.Layouts.{word, stream_header, stream_header_size}
 use Rattle.rules.specs.Lists.{Found, nth}
 use Rattle.rules.specs.Lists.Found.{none, found}
-use Rattle.rules.specs.Stream.{stream-rules, frame-of, size_of}
-use Rattle.rules.specs.Dump.{Listed, Ending, listed_at, dump-of}
+use Rattle.rules.specs.Stream.{stream_rules, frame_of, size_of}
+use Rattle.rules.specs.Dump.{Listed, Ending, listed_at, dump_of}
 use Rattle.rules.specs.Dump.Ending.{complete, stopped, refused}
 use Rattle.rules.specs.declared.Frame.{Frame}
 use Rattle.rules.specs.declared.Frame.TheVariants.{Whole, Misframed}
@@ -34,7 +34,7 @@ use Rattle.rules.specs.declared.Pair.{Pair}
 
 -- its packets. "Trailing bytes after the stream size never count."
 abbrev pub packets : List ℕ → List Listed
-packets b = (dump-of false b).packets
+packets b = (dump_of false b).packets
 
 -- the number of the rule that it breaks, 16 or 17, or 0
 abbrev pub broken_by : Ending → ℕ
@@ -43,7 +43,7 @@ broken_by (stopped p) = 0
 broken_by (refused r) = r.code
 
 abbrev pub fault : List ℕ → ℕ
-fault b = broken_by (dump-of false b).ending
+fault b = broken_by (dump_of false b).ending
 
 -- ---- check
 
@@ -58,43 +58,43 @@ check b c = checked (fault b) (fault c)
 
 -- "these byte offsets in it differing (rising order)"; "bytes past the shorter of two count as differing". The bytes are those from an
 -- offset on.
-unfoldable pub differing-from : ℕ → List ℕ → List ℕ → List ℕ
-differing-from i [] [] = []
-differing-from i [] (n ∷ y) = i ∷ differing-from (i + 1) [] y
-differing-from i (m ∷ x) [] = i ∷ differing-from (i + 1) x []
-differing-from i (m ∷ x) (n ∷ y) = pick (eqb m n) (differing-from (i + 1) x y) (i ∷ differing-from (i + 1) x y)
+unfoldable pub differing_from : ℕ → List ℕ → List ℕ → List ℕ
+differing_from i [] [] = []
+differing_from i [] (n ∷ y) = i ∷ differing_from (i + 1) [] y
+differing_from i (m ∷ x) [] = i ∷ differing_from (i + 1) x []
+differing_from i (m ∷ x) (n ∷ y) = pick (eqb m n) (differing_from (i + 1) x y) (i ∷ differing_from (i + 1) x y)
 
 abbrev pub differing : List ℕ → List ℕ → List ℕ
-differing x y = differing-from 0 x y
+differing x y = differing_from 0 x y
 
 -- "equal, same opcode with these byte offsets in it differing .., other opcode": the opcode is a packet's first word
 abbrev pub same_opcode : List ℕ → Class
 same_opcode [] = Equal
 same_opcode (i ∷ offsets) = SameOpcode
 
-unfoldable pub class-both : List ℕ → List ℕ → Class
-class-both x y = pick (eqb (word x 0) (word y 0)) (same_opcode (differing x y)) OtherOpcode
+unfoldable pub class_both : List ℕ → List ℕ → Class
+class_both x y = pick (eqb (word x 0) (word y 0)) (same_opcode (differing x y)) OtherOpcode
 
-unfoldable pub offsets-both : List ℕ → List ℕ → List ℕ
-offsets-both x y = pick (eqb (word x 0) (word y 0)) (differing x y) []
+unfoldable pub offsets_both : List ℕ → List ℕ → List ℕ
+offsets_both x y = pick (eqb (word x 0) (word y 0)) (differing x y) []
 
 -- ".. only in one, or in neither"
 abbrev pub class_of : Found Listed → Found Listed → Class
 class_of none none = Neither
 class_of none (found q) = OnlySecond
 class_of (found p) none = OnlyFirst
-class_of (found p) (found q) = class-both p.bytes q.bytes
+class_of (found p) (found q) = class_both p.bytes q.bytes
 
 -- the differing offsets of a pair: none unless both have one opcode
 abbrev pub offsets_of : Found Listed → Found Listed → List ℕ
 offsets_of none q = []
 offsets_of (found p) none = []
-offsets_of (found p) (found q) = offsets-both p.bytes q.bytes
+offsets_of (found p) (found q) = offsets_both p.bytes q.bytes
 
 -- "the next differing offset from a given one", the given one included: the first of the list that is not below it
-unfoldable pub next-from : ℕ → List ℕ → Offset
-next-from from [] = Nowhere
-next-from from (i ∷ offsets) = pick (ltb i from) (next-from from offsets) (At i)
+unfoldable pub next_from : ℕ → List ℕ → Offset
+next_from from [] = Nowhere
+next_from from (i ∷ offsets) = pick (ltb i from) (next_from from offsets) (At i)
 
 -- ---- two streams
 
@@ -118,7 +118,7 @@ unfoldable pub parted : ℕ → List Listed → List Listed → Parting
 parted i [] [] = Never
 parted i [] (q ∷ qs) = PartsAt i
 parted i (p ∷ ps) [] = PartsAt i
-parted i (p ∷ ps) (q ∷ qs) = parted_by (class-both p.bytes q.bytes) i (parted (i + 1) ps qs)
+parted i (p ∷ ps) (q ∷ qs) = parted_by (class_both p.bytes q.bytes) i (parted (i + 1) ps qs)
 
 -- ---- the questions: "Given two valid streams"
 
@@ -143,7 +143,7 @@ offset_in (Refused code which) x = OffsetRefused code which
 
 -- ".. and for the next differing offset from a given one"
 abbrev pub next_asked : List ℕ → List ℕ → ℕ → ℕ → OffsetAnswer
-next_asked b c i from = offset_in (check b c) (next-from from (offsets_at b c i))
+next_asked b c i from = offset_in (check b c) (next_from from (offsets_at b c i))
 
 -- ---- packet by packet: a cursor, which has a place in each stream
 
@@ -153,7 +153,7 @@ own_in Fine size b = take size b
 own_in (Broken r) size b = []
 
 unfoldable pub own : List ℕ → List ℕ
-own b = own_in (stream-rules (length b) (stream-header b 0)) (stream-header b 0).size b
+own b = own_in (stream_rules (length b) (stream_header b 0)) (stream_header b 0).size b
 
 -- the packet at a place of them, its size, and the place behind it
 abbrev pub framed_at : Frame → ℕ → List ℕ → Found Listed
@@ -161,10 +161,10 @@ framed_at (Whole op size) at b = found (listed_at at op size b)
 framed_at (Misframed r) at b = none
 
 abbrev pub packet_at : List ℕ → ℕ → Found Listed
-packet_at s at = framed_at (frame-of (drop at s)) at (drop at s)
+packet_at s at = framed_at (frame_of (drop at s)) at (drop at s)
 
 abbrev pub size_at : List ℕ → ℕ → ℕ
-size_at s at = size_of (frame-of (drop at s))
+size_at s at = size_of (frame_of (drop at s))
 
 abbrev pub behind : List ℕ → ℕ → ℕ
 behind s at = at + size_at s at
@@ -183,7 +183,7 @@ abbrev pub pair_at : List ℕ → List ℕ → Cursor → Pair
 pair_at b c k = pair_in (own b) k.first (own c) k.second
 
 abbrev pub next_at : List ℕ → List ℕ → Cursor → ℕ → Offset
-next_at b c k from = next-from from (offsets_of (packet_at (own b) k.first) (packet_at (own c) k.second))
+next_at b c k from = next_from from (offsets_of (packet_at (own b) k.first) (packet_at (own c) k.second))
 
 abbrev pub onward : List ℕ → List ℕ → Cursor → Cursor
 onward b c k = record { first = behind (own b) k.first; second = behind (own c) k.second }

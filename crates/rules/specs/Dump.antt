@@ -4,10 +4,10 @@ use Prim.Native.String.{String}
 use Rattle.machine.specs.Machine.{pick}
 use Rattle.rules.specs.Fields.{Field, FieldType, number_of}
 use Rattle.rules.specs.Fields.FieldType.{U32, U64, F32, I32}
-use Rattle.rules.specs.Layouts.{signed, stream-header, stream_header_size}
+use Rattle.rules.specs.Layouts.{signed, stream_header, stream_header_size}
 use Rattle.rules.specs.Lists.{Found}
 use Rattle.rules.specs.Lists.Found.{none, found}
-use Rattle.rules.specs.Stream.{Known, known, stream-rules, frame-of, size_of, packet-of}
+use Rattle.rules.specs.Stream.{Known, known, stream_rules, frame_of, size_of, packet_of}
 use Rattle.rules.specs.declared.Refusal.{Refusal}
 use Rattle.rules.specs.declared.Verdict.{Verdict}
 use Rattle.rules.specs.declared.Verdict.TheVariants.{Fine, Broken}
@@ -70,10 +70,10 @@ pub data Ending : Type 0 where
   stopped : Listed → Ending
   refused : Refusal → Ending
 
-unfoldable pub ending-text : Ending → List ℕ
-ending-text complete = []
-ending-text (stopped p) = line p.at "STOPPED" p.size (opcode_text p.opcode)
-ending-text (refused r) = ascii "error=" ++ (decimal r.code ++ end_of_line)
+unfoldable pub ending_text : Ending → List ℕ
+ending_text complete = []
+ending_text (stopped p) = line p.at "STOPPED" p.size (opcode_text p.opcode)
+ending_text (refused r) = ascii "error=" ++ (decimal r.code ++ end_of_line)
 
 -- the packets that are listed, in order, and how the listing ends
 pub record Dump : Type 0 where
@@ -112,7 +112,7 @@ listed_at at op size b = record { at = at; opcode = op; size = size; bytes = tak
 -- a packet before those after it; nothing is after a bad one, or after the one where the listing stops
 abbrev pub listed_before : Bool → ℕ → Frame → List ℕ → Dump → Dump
 listed_before strict at (Whole op size) b later =
-    pick (stops strict (packet-of op (take size b))) (ends (stopped (listed_at at op size b))) (first_then (listed_at at op size b) later)
+    pick (stops strict (packet_of op (take size b))) (ends (stopped (listed_at at op size b))) (first_then (listed_at at op size b) later)
 listed_before strict at (Misframed r) b later = ends (refused r)
 
 -- the packets of the bytes at an offset, at most k of them (the caller gives no fewer than there are bytes)
@@ -120,15 +120,15 @@ unfoldable pub listed : Bool → ℕ → ℕ → List ℕ → Dump
 listed strict zero at b = ends complete
 listed strict (suc k) at b =
     pick (eqb (length b) 0) (ends complete)
-    (listed_before strict at (frame-of b) b (listed strict k (at + size_of (frame-of b)) (drop (size_of (frame-of b)) b)))
+    (listed_before strict at (frame_of b) b (listed strict k (at + size_of (frame_of b)) (drop (size_of (frame_of b)) b)))
 
 abbrev pub dump_in : Bool → List ℕ → Verdict → ℕ → Dump
 dump_in strict b Fine size = listed strict size stream_header_size (drop stream_header_size (take size b))
 dump_in strict b (Broken r) size = ends (refused r)
 
 -- a raw stream: its length is the cmd size of rule 16
-unfoldable pub dump-of : Bool → List ℕ → Dump
-dump-of strict b = dump_in strict b (stream-rules (length b) (stream-header b 0)) (stream-header b 0).size
+unfoldable pub dump_of : Bool → List ℕ → Dump
+dump_of strict b = dump_in strict b (stream_rules (length b) (stream_header b 0)) (stream_header b 0).size
 
 -- ---- the whole text
 
@@ -137,7 +137,7 @@ lines_of [] = []
 lines_of (p ∷ ps) = line_of p ++ lines_of ps
 
 unfoldable pub text_of : Dump → List ℕ
-text_of d = lines_of d.packets ++ ending-text d.ending
+text_of d = lines_of d.packets ++ ending_text d.ending
 
 -- "at most 64 KiB"
 abbrev pub longest_dump : ℕ
@@ -150,4 +150,4 @@ bad_input = ascii "bad input" ++ end_of_line
 -- "the strict setting, a first input byte of 1 before the dump (0 otherwise)"
 unfoldable pub listing : List ℕ → List ℕ
 listing [] = bad_input
-listing (first ∷ b) = pick (ltb 1 first || ltb longest_dump (length b)) bad_input (text_of (dump-of (eqb first 1) b))
+listing (first ∷ b) = pick (ltb 1 first || ltb longest_dump (length b)) bad_input (text_of (dump_of (eqb first 1) b))

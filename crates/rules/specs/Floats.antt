@@ -22,8 +22,8 @@ sign_bit = 2147483648
 abbrev pub infinity : ℕ
 infinity = 2139095040
 
-unfoldable pub is-nan : ℕ → Bool
-is-nan b = ltb infinity (b % sign_bit)
+unfoldable pub is_nan_bits : ℕ → Bool
+is_nan_bits b = ltb infinity (b % sign_bit)
 
 -- "any infinity or NaN"
 unfoldable pub not_finite : ℕ → Bool
@@ -31,7 +31,7 @@ not_finite b = leb infinity (b % sign_bit)
 
 abbrev pub nan_among : List ℕ → Bool
 nan_among [] = false
-nan_among (b ∷ bs) = is-nan b || nan_among bs
+nan_among (b ∷ bs) = is_nan_bits b || nan_among bs
 
 abbrev pub not_finite_among : List ℕ → Bool
 not_finite_among [] = false

@@ -4,8 +4,8 @@ use Rattle.rules.specs.Layouts.{good_version}
 
 -- "size below 24; magic; version; header size below 24 or above table size": of a range that should begin with a magic and has a header of so
 -- many bytes, and of the magic, the version and the size that stand there
-unfoldable pub wrong-header : ℕ → ℕ → ℕ → ℕ → ℕ → ℕ → Bool
-wrong-header wanted header range magic version size =
+unfoldable pub wrong_header : ℕ → ℕ → ℕ → ℕ → ℕ → ℕ → Bool
+wrong_header wanted header range magic version size =
     ltb range header
     || (not (eqb magic wanted)
     || (not (good_version version)

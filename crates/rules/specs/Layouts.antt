@@ -39,8 +39,8 @@ abbrev pub ring_header_layout : List Field
 ring_header_layout =
     u32 0 "magic" ∷ u32 4 "version" ∷ u32 8 "size" ∷ u32 12 "count" ∷ u32 16 "stride" ∷ u32 24 "head" ∷ u32 28 "tail" ∷ []
 
-unfoldable pub ring-header : List ℕ → ℕ → RingHeader
-ring-header m at =
+unfoldable pub ring_header : List ℕ → ℕ → RingHeader
+ring_header m at =
     record {
       magic = nth_of ring_header_layout m at 0;
       version = nth_of ring_header_layout m at 1;
@@ -88,8 +88,8 @@ descriptor_size = 64
 abbrev pub table_header_layout : List Field
 table_header_layout = u32 0 "magic" ∷ u32 4 "version" ∷ u32 8 "size" ∷ u32 12 "count" ∷ u32 16 "stride" ∷ []
 
-unfoldable pub table-header : List ℕ → ℕ → TableHeader
-table-header m at =
+unfoldable pub table_header : List ℕ → ℕ → TableHeader
+table_header m at =
     record {
       magic = nth_of table_header_layout m at 0;
       version = nth_of table_header_layout m at 1;
@@ -121,8 +121,8 @@ entry_size = 32
 abbrev pub stream_header_layout : List Field
 stream_header_layout = u32 0 "magic" ∷ u32 4 "version" ∷ u32 8 "size" ∷ []
 
-unfoldable pub stream-header : List ℕ → ℕ → StreamHeader
-stream-header m at =
+unfoldable pub stream_header : List ℕ → ℕ → StreamHeader
+stream_header m at =
     record {
       magic = nth_of stream_header_layout m at 0;
       version = nth_of stream_header_layout m at 1;
@@ -145,8 +145,8 @@ packet_header_size = 8
 abbrev pub buffer_layout : List Field
 buffer_layout = u32 8 "handle" ∷ u64 16 "size" ∷ u32 24 "backing_id" ∷ u32 28 "backing_offset" ∷ []
 
-unfoldable pub buffer-fields : List ℕ → CreateBuffer
-buffer-fields b =
+unfoldable pub buffer_fields : List ℕ → CreateBuffer
+buffer_fields b =
     record {
       handle = nth_of buffer_layout b 0 0;
       size = nth_of buffer_layout b 0 1;
@@ -168,8 +168,8 @@ texture_layout =
     ∷ u32 44 "backing_offset"
     ∷ []
 
-unfoldable pub texture-fields : List ℕ → CreateTexture
-texture-fields b =
+unfoldable pub texture_fields : List ℕ → CreateTexture
+texture_fields b =
     record {
       handle = nth_of texture_layout b 0 0;
       shape = record {
@@ -188,23 +188,23 @@ texture-fields b =
 abbrev pub destroy_layout : List Field
 destroy_layout = u32 8 "handle" ∷ []
 
-unfoldable pub destroy-fields : List ℕ → DestroyResource
-destroy-fields b = record { handle = nth_of destroy_layout b 0 0 }
+unfoldable pub destroy_fields : List ℕ → DestroyResource
+destroy_fields b = record { handle = nth_of destroy_layout b 0 0 }
 
 -- dirty range, 32: "8 handle, 16 offset u64, 24 size u64"
 abbrev pub dirty_layout : List Field
 dirty_layout = u32 8 "handle" ∷ u64 16 "offset" ∷ u64 24 "size" ∷ []
 
-unfoldable pub dirty-fields : List ℕ → DirtyRange
-dirty-fields b =
+unfoldable pub dirty_fields : List ℕ → DirtyRange
+dirty_fields b =
     record { handle = nth_of dirty_layout b 0 0; offset = nth_of dirty_layout b 0 1; size = nth_of dirty_layout b 0 2 }
 
 -- copy buffer, 48: "8 dst, 12 src, 16 dst offset u64, 24 src offset u64, 32 size u64, 40 flags (bit 0 writeback)"
 abbrev pub copy_layout : List Field
 copy_layout = u32 8 "dst" ∷ u32 12 "src" ∷ u64 16 "dst_offset" ∷ u64 24 "src_offset" ∷ u64 32 "size" ∷ u32 40 "flags" ∷ []
 
-unfoldable pub copy-fields : List ℕ → CopyBuffer
-copy-fields b =
+unfoldable pub copy_fields : List ℕ → CopyBuffer
+copy_fields b =
     record {
       dst = nth_of copy_layout b 0 0;
       src = nth_of copy_layout b 0 1;
@@ -220,8 +220,8 @@ copy-fields b =
 abbrev pub target_layout : List Field
 target_layout = u32 8 "handle" ∷ []
 
-unfoldable pub target-fields : List ℕ → SetTarget
-target-fields b = record { handle = nth_of target_layout b 0 0 }
+unfoldable pub target_fields : List ℕ → SetTarget
+target_fields b = record { handle = nth_of target_layout b 0 0 }
 
 -- viewport, 32: "six f32 from 8 (x, y, width, height, near, far)": their bits, and the floats
 abbrev pub viewport_layout : List Field
@@ -230,8 +230,8 @@ viewport_layout = f32 8 "x" ∷ f32 12 "y" ∷ f32 16 "width" ∷ f32 20 "height
 abbrev pub viewport_floats : List ℕ → List ℕ
 viewport_floats b = numbers_of viewport_layout b 0
 
-unfoldable pub viewport-fields : List ℕ → SetViewport
-viewport-fields b =
+unfoldable pub viewport_fields : List ℕ → SetViewport
+viewport_fields b =
     record {
       x = float_of (nth_of viewport_layout b 0 0);
       y = float_of (nth_of viewport_layout b 0 1);
@@ -249,8 +249,8 @@ signed n = pick (ltb n 2147483648) (pos n) (negsuc (4294967295 - n))
 abbrev pub scissor_layout : List Field
 scissor_layout = i32 8 "x" ∷ i32 12 "y" ∷ i32 16 "width" ∷ i32 20 "height" ∷ []
 
-unfoldable pub scissor-fields : List ℕ → SetScissor
-scissor-fields b =
+unfoldable pub scissor_fields : List ℕ → SetScissor
+scissor_fields b =
     record {
       x = signed (nth_of scissor_layout b 0 0);
       y = signed (nth_of scissor_layout b 0 1);
@@ -273,8 +273,8 @@ clear_layout =
 abbrev pub clear_floats : List ℕ → List ℕ
 clear_floats b = take 5 (drop 1 (numbers_of clear_layout b 0))
 
-unfoldable pub clear-fields : List ℕ → ClearValues
-clear-fields b =
+unfoldable pub clear_fields : List ℕ → ClearValues
+clear_fields b =
     record {
       flags = nth_of clear_layout b 0 0;
       red = float_of (nth_of clear_layout b 0 1);
@@ -291,21 +291,21 @@ clear-fields b =
 abbrev pub share_layout : List Field
 share_layout = u32 8 "handle" ∷ u64 16 "token" ∷ []
 
-unfoldable pub export-fields : List ℕ → ExportSurface
-export-fields b = record { handle = nth_of share_layout b 0 0; token = nth_of share_layout b 0 1 }
+unfoldable pub export_fields : List ℕ → ExportSurface
+export_fields b = record { handle = nth_of share_layout b 0 0; token = nth_of share_layout b 0 1 }
 
-unfoldable pub import-fields : List ℕ → ImportSurface
-import-fields b = record { handle = nth_of share_layout b 0 0; token = nth_of share_layout b 0 1 }
+unfoldable pub import_fields : List ℕ → ImportSurface
+import_fields b = record { handle = nth_of share_layout b 0 0; token = nth_of share_layout b 0 1 }
 
 -- "1810 release, 16 bytes, token at 8"
 abbrev pub release_layout : List Field
 release_layout = u64 8 "token" ∷ []
 
-unfoldable pub release-fields : List ℕ → ReleaseToken
-release-fields b = record { token = nth_of release_layout b 0 0 }
+unfoldable pub release_fields : List ℕ → ReleaseToken
+release_fields b = record { token = nth_of release_layout b 0 0 }
 
 -- ---- the fence page
 
 -- "Fence page, 16 bytes: 0 "FENC", 4 version 65539, 8 completed fence u64."
-unfoldable pub page-bytes : ℕ → List ℕ
-page-bytes completed = bytes_of 4 page_magic ++ (bytes_of 4 version ++ bytes_of 8 completed)
+unfoldable pub page_bytes : ℕ → List ℕ
+page_bytes completed = bytes_of 4 page_magic ++ (bytes_of 4 version ++ bytes_of 8 completed)

@@ -5,7 +5,7 @@ use Rattle.rules.specs.Numbers.{no_name, bad_ring, bad_state, most, most_layers,
 use Rattle.rules.specs.Lists.{Found, lookup}
 use Rattle.rules.specs.Lists.Found.{none, found}
 use Rattle.rules.specs.Layouts.{word, long}
-use Rattle.rules.specs.Shapes.{block-bytes, full-chain, tight, packed-size}
+use Rattle.rules.specs.Shapes.{block_bytes, full_chain, tight, packed_size}
 use Rattle.rules.specs.Packets.{backed, resource_of, Belongings, handle_of}
 use Rattle.rules.specs.State.{State, registers_of}
 use Rattle.rules.specs.State.Work.{resting}
@@ -18,7 +18,7 @@ use Rattle.rules.specs.Names.{shareable, under}
 use Rattle.rules.specs.declared.Token.{Token}
 use Rattle.rules.specs.declared.Form.{Form}
 use Rattle.rules.specs.declared.Form.TheVariants.{One, Two}
-use Rattle.rules.specs.Saved.{number_bytes, section_1_count, detail_place, memory_place, count_place, head_bytes, resource_bytes, name_bytes, token_bytes, Saved, not_saved, call-save}
+use Rattle.rules.specs.Saved.{number_bytes, section_1_count, detail_place, memory_place, count_place, head_bytes, resource_bytes, name_bytes, token_bytes, Saved, not_saved, call_save}
 
 -- ---- loading: the rules of a file, each once, in file order, with the place that it is reported at. Places are counted from the first byte of the
 -- sections; `behind` moves them.
@@ -53,11 +53,11 @@ abbrev pub has_number : List ℕ → Bool
 has_number b = eqb (first_field b) 1 || eqb (first_field b) 2
 
 -- the bytes before the sections, and the sections
-unfoldable pub before-sections : List ℕ → ℕ
-before-sections b = pick (has_number b) number_bytes 0
+unfoldable pub before_sections : List ℕ → ℕ
+before_sections b = pick (has_number b) number_bytes 0
 
 unfoldable pub sections : List ℕ → List ℕ
-sections b = drop (before-sections b) b
+sections b = drop (before_sections b) b
 
 -- ---- section 1
 
@@ -128,30 +128,30 @@ resource_rules b at before =
     ∷ must b (at + 4) (is_buffer b at || eqb (word b (at + 4)) texture_kind)
     ∷ must b (at + 8) (is_buffer b at || eqb (word b (at + 8)) 0)
     ∷ must b (at + 12) (pick (is_buffer b at) (not (eqb (long b (at + 8)) 0)) (eqb (word b (at + 12)) 0))
-    ∷ must b (at + 16) (pick (is_buffer b at) (eqb (word b (at + 16)) 0) (ltb 0 (block-bytes (word b (at + 16)))))
+    ∷ must b (at + 16) (pick (is_buffer b at) (eqb (word b (at + 16)) 0) (ltb 0 (block_bytes (word b (at + 16)))))
     ∷ must b (at + 20) (pick (is_buffer b at) (eqb (word b (at + 20)) 0) (between 1 longest_side (word b (at + 20))))
     ∷ must b (at + 24) (pick (is_buffer b at) (eqb (word b (at + 24)) 0) (between 1 longest_side (word b (at + 24))))
-    ∷ must b (at + 28) (pick (is_buffer b at) (eqb (word b (at + 28)) 0) (between 1 (full-chain (word b (at + 20)) (word b (at + 24))) (word b (at + 28))))
+    ∷ must b (at + 28) (pick (is_buffer b at) (eqb (word b (at + 28)) 0) (between 1 (full_chain (word b (at + 20)) (word b (at + 24))) (word b (at + 28))))
     ∷ must b (at + 32) (pick (is_buffer b at) (eqb (word b (at + 32)) 0) (between 1 most_layers (word b (at + 32))))
     ∷ must b (at + 36) (not (is_buffer b at) || eqb (word b (at + 36)) 0)
     ∷ must b (at + 40) (is_buffer b at || good_pitch (saved_shape b at) (word b (at + 36)) (word b (at + 40)))
     ∷ must b (at + 44) (backed (word b (at + 40)) || eqb (word b (at + 44)) 0)
     ∷ []
 
-unfoldable pub resources-rules : ℕ → List ℕ → ℕ → ℕ → List Rule
-resources-rules zero b at before = []
-resources-rules (suc n) b at before = resource_rules b at before ++ resources-rules n b (at + resource_bytes) (word b at)
+unfoldable pub resources_rules : ℕ → List ℕ → ℕ → ℕ → List Rule
+resources_rules zero b at before = []
+resources_rules (suc n) b at before = resource_rules b at before ++ resources_rules n b (at + resource_bytes) (word b at)
 
 -- the resource whose fields stand from a place on: its bytes are those that create keeps
-unfoldable pub loaded-resource : List ℕ → ℕ → Resource
-loaded-resource b at =
+unfoldable pub loaded_resource : List ℕ → ℕ → Resource
+loaded_resource b at =
     pick (is_buffer b at)
     (resource_of (word b at) Buffer (long b (at + 8)) 0 (word b (at + 40)) (word b (at + 44)))
-    (resource_of (word b at) (Texture (saved_shape b at)) (pick (backed (word b (at + 40))) (packed-size (saved_shape b at) (word b (at + 36))) 0) (word b (at + 36)) (word b (at + 40)) (word b (at + 44)))
+    (resource_of (word b at) (Texture (saved_shape b at)) (pick (backed (word b (at + 40))) (packed_size (saved_shape b at) (word b (at + 36))) 0) (word b (at + 36)) (word b (at + 40)) (word b (at + 44)))
 
-unfoldable pub loaded-resources : ℕ → List ℕ → ℕ → List Resource
-loaded-resources zero b at = []
-loaded-resources (suc n) b at = loaded-resource b at ∷ loaded-resources n b (at + resource_bytes)
+unfoldable pub loaded_resources : ℕ → List ℕ → ℕ → List Resource
+loaded_resources zero b at = []
+loaded_resources (suc n) b at = loaded_resource b at ∷ loaded_resources n b (at + resource_bytes)
 
 -- ---- sections 3 and 4
 
@@ -174,9 +174,9 @@ name_rules rs b at before =
     ∷ must b (at + 4) (ltb (word b (at + 4)) (word b at) && may_be_shared (lookup handle_of (word b (at + 4)) rs))
     ∷ []
 
-unfoldable pub names-rules : ℕ → List Resource → List ℕ → ℕ → ℕ → List Rule
-names-rules zero rs b at before = []
-names-rules (suc n) rs b at before = name_rules rs b at before ++ names-rules n rs b (at + name_bytes) (word b at)
+unfoldable pub names_rules : ℕ → List Resource → List ℕ → ℕ → ℕ → List Rule
+names_rules zero rs b at before = []
+names_rules (suc n) rs b at before = name_rules rs b at before ++ names_rules n rs b (at + name_bytes) (word b at)
 
 -- a token likewise: "Token 0 or not rising (as u64 numbers): at its HI word"; "a token is bound to the lowest name of its resource; any other name
 -- there is 7"; "A .. bound resource that is no texture of one mip and one layer ..: at the name in section 4"
@@ -187,9 +187,9 @@ token_rules rs b at before =
     ∷ must b (at + 8) (eqb (word b (at + 8)) no_name || may_be_shared (lookup handle_of (word b (at + 8)) rs))
     ∷ []
 
-unfoldable pub tokens-rules : ℕ → List Resource → List ℕ → ℕ → ℕ → List Rule
-tokens-rules zero rs b at before = []
-tokens-rules (suc n) rs b at before = token_rules rs b at before ++ tokens-rules n rs b (at + token_bytes) (long b at)
+unfoldable pub tokens_rules : ℕ → List Resource → List ℕ → ℕ → ℕ → List Rule
+tokens_rules zero rs b at before = []
+tokens_rules (suc n) rs b at before = token_rules rs b at before ++ tokens_rules n rs b (at + token_bytes) (long b at)
 
 -- "or a byte follows the last"
 abbrev pub end_rule : List ℕ → ℕ → Rule
@@ -206,29 +206,29 @@ abbrev pub end_place : ℕ → ℕ → ℕ
 end_place at n = at + 4 + token_bytes * n
 
 -- "within 64 and 256": "Names above 64 in all: at section 3's count", "More than 256 tokens: at section 4's count"; "or a byte follows the last"
-unfoldable pub section-4-rules : List Resource → List ℕ → ℕ → List Rule
-section-4-rules rs b at =
+unfoldable pub section_4_rules : List Resource → List ℕ → ℕ → List Rule
+section_4_rules rs b at =
     must b at (leb (word b at) most_tokens)
-    ∷ (tokens-rules (word b at) rs b (at + 4) 0 ++ (end_rule b (end_place at (word b at)) ∷ []))
+    ∷ (tokens_rules (word b at) rs b (at + 4) 0 ++ (end_rule b (end_place at (word b at)) ∷ []))
 
-unfoldable pub section-3-rules : List Resource → List ℕ → ℕ → List Rule
-section-3-rules rs b at =
+unfoldable pub section_3_rules : List Resource → List ℕ → ℕ → List Rule
+section_3_rules rs b at =
     must b at (leb (length rs + word b at) most)
-    ∷ (names-rules (word b at) rs b (at + 4) 0 ++ section-4-rules rs b (tokens_place at (word b at)))
+    ∷ (names_rules (word b at) rs b (at + 4) 0 ++ section_4_rules rs b (tokens_place at (word b at)))
 
 -- the resources of section 2
 abbrev pub section_2 : Form → List ℕ → List Resource
-section_2 f b = loaded-resources (word b (count_place f)) b (head_bytes f)
+section_2 f b = loaded_resources (word b (count_place f)) b (head_bytes f)
 
 -- what comes after the resources
 abbrev pub later_rules : Form → List ℕ → ℕ → List Rule
 later_rules One b at = end_rule b at ∷ []
-later_rules Two b at = section-3-rules (section_2 Two b) b at
+later_rules Two b at = section_3_rules (section_2 Two b) b at
 
-unfoldable pub sections-rules : Form → List ℕ → List Rule
-sections-rules f b =
+unfoldable pub sections_rules : Form → List ℕ → List Rule
+sections_rules f b =
     head_rules f b
-    ++ (resources-rules (word b (count_place f)) b (head_bytes f) 0
+    ++ (resources_rules (word b (count_place f)) b (head_bytes f) 0
     ++ later_rules f b (names_place f (word b (count_place f))))
 
 -- "Offsets count from the file's first byte, its number included"
@@ -236,16 +236,16 @@ unfoldable pub behind : ℕ → List Rule → List Rule
 behind n [] = []
 behind n (r ∷ rs) = record { place = n + r.place; broken = r.broken } ∷ behind n rs
 
-unfoldable pub file-rules : List ℕ → List Rule
-file-rules b = behind (before-sections b) (sections-rules (form_in b) (sections b))
+unfoldable pub file_rules : List ℕ → List Rule
+file_rules b = behind (before_sections b) (sections_rules (form_in b) (sections b))
 
 -- "the offset of the first such field .. or byte"
-unfoldable pub first-broken : List Rule → Found ℕ
-first-broken [] = none
-first-broken (r ∷ rs) = pick r.broken (found r.place) (first-broken rs)
+unfoldable pub first_broken : List Rule → Found ℕ
+first_broken [] = none
+first_broken (r ∷ rs) = pick r.broken (found r.place) (first_broken rs)
 
-unfoldable pub bad-place : List ℕ → Found ℕ
-bad-place b = first-broken (file-rules b)
+unfoldable pub bad_place : List ℕ → Found ℕ
+bad_place b = first_broken (file_rules b)
 
 -- ---- loading: the device that a good file says
 
@@ -263,23 +263,23 @@ abbrev pub named : ℕ → Found Resource → List Resource
 named k none = []
 named k (found r) = under k r ∷ []
 
-unfoldable pub loaded-names : ℕ → List Resource → List ℕ → ℕ → List Resource
-loaded-names zero rs b at = []
-loaded-names (suc n) rs b at = named (word b at) (lookup handle_of (word b (at + 4)) rs) ++ loaded-names n rs b (at + name_bytes)
+unfoldable pub loaded_names : ℕ → List Resource → List ℕ → ℕ → List Resource
+loaded_names zero rs b at = []
+loaded_names (suc n) rs b at = named (word b at) (lookup handle_of (word b (at + 4)) rs) ++ loaded_names n rs b (at + name_bytes)
 
 abbrev pub loaded_token : List ℕ → ℕ → Token
 loaded_token b at = record { name = word b (at + 8); token = long b at }
 
-unfoldable pub loaded-tokens : ℕ → List ℕ → ℕ → List Token
-loaded-tokens zero b at = []
-loaded-tokens (suc n) b at = loaded_token b at ∷ loaded-tokens n b (at + token_bytes)
+unfoldable pub loaded_tokens : ℕ → List ℕ → ℕ → List Token
+loaded_tokens zero b at = []
+loaded_tokens (suc n) b at = loaded_token b at ∷ loaded_tokens n b (at + token_bytes)
 
 -- what stands in sections 3 and 4; the place is that of section 3's count, for both
 abbrev pub section_3 : List Resource → List ℕ → ℕ → List Resource
-section_3 rs b at = loaded-names (word b at) rs b (at + 4)
+section_3 rs b at = loaded_names (word b at) rs b (at + 4)
 
 abbrev pub section_4 : List ℕ → ℕ → List Token
-section_4 b at = loaded-tokens (word b (tokens_place at (word b at))) b (tokens_place at (word b at) + 4)
+section_4 b at = loaded_tokens (word b (tokens_place at (word b at))) b (tokens_place at (word b at) + 4)
 
 -- "A form 1 file gives detail 0, no tokens and no other names"
 abbrev pub loaded_belongings : Form → List Resource → List ℕ → ℕ → Belongings
@@ -287,8 +287,8 @@ loaded_belongings One rs b at = record { resources = rs; tokens = [] }
 loaded_belongings Two rs b at = record { resources = rs ++ section_3 rs b at; tokens = section_4 b at }
 
 -- Nothing is in work (docs/DECISIONS.md, 115). Any memory length is good (116), and any offset of a backed resource.
-unfoldable pub loaded-sections : Form → List ℕ → State
-loaded-sections f b =
+unfoldable pub loaded_sections : Form → List ℕ → State
+loaded_sections f b =
     record {
       memory = long b (memory_place f);
       regs = loaded_registers f b;
@@ -297,7 +297,7 @@ loaded-sections f b =
     }
 
 unfoldable pub loaded : List ℕ → State
-loaded b = loaded-sections (form_in b) (sections b)
+loaded b = loaded_sections (form_in b) (sections b)
 
 pub record Loaded : Type 0 where
   pub answer : ℕ
@@ -309,8 +309,8 @@ abbrev pub loaded_or : Found ℕ → List ℕ → State → Loaded
 loaded_or none b s = record { answer = done; place = 0; state = loaded b }
 loaded_or (found place) b s = record { answer = bad_file; place = place; state = s }
 
-unfoldable pub call-load : State → List ℕ → Loaded
-call-load s b = loaded_or (bad-place b) b s
+unfoldable pub call_load : State → List ℕ → Loaded
+call_load s b = loaded_or (bad_place b) b s
 
 -- ---- moving: a file's device, saved in the other form. "old files without it are form 1 and the move adds it"; "Form 2 goes back exactly when both
 -- sections are empty and detail is 0, else 8 (7 comes before it, 6 after) and nothing written." A move is about files alone: no device is asked, and 5 never comes.
@@ -321,8 +321,8 @@ other_form One = Two
 other_form Two = One
 
 abbrev pub moved_or : Found ℕ → List ℕ → List ℕ → Saved
-moved_or none b buffer = call-save (other_form (form_in b)) (loaded b) buffer
+moved_or none b buffer = call_save (other_form (form_in b)) (loaded b) buffer
 moved_or (found place) b buffer = not_saved bad_file buffer
 
-unfoldable pub call-move : List ℕ → List ℕ → Saved
-call-move b buffer = moved_or (bad-place b) b buffer
+unfoldable pub call_move : List ℕ → List ℕ → Saved
+call_move b buffer = moved_or (bad_place b) b buffer

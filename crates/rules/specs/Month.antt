@@ -105,32 +105,32 @@ abbrev pub alone : Finished → Bool
 alone s = eqb s.error done || (listed_error s.error && eqb (length s.records) 0)
 
 -- not "an unlisted error or kind, more than 64 records, or records beside an error"
-unfoldable pub good-feed : Finished → Bool
-good-feed s = alone s && (leb (length s.records) most && every listed_kind s.records)
+unfoldable pub good_feed : Finished → Bool
+good_feed s = alone s && (leb (length s.records) most && every listed_kind s.records)
 
 -- what one more is answered after these were counted: 10 first, then 9
-unfoldable pub feed-answer : List Finished → Finished → ℕ
-feed-answer xs s = pick (good-feed s) (pick (below (totals (pushed xs s))) done too_much) bad_feed
+unfoldable pub feed_answer : List Finished → Finished → ℕ
+feed_answer xs s = pick (good_feed s) (pick (below (totals (pushed xs s))) done too_much) bad_feed
 
 -- "counts nothing" if refused
 abbrev pub with_fed : List Finished → Finished → List Finished
-with_fed xs s = pick (eqb (feed-answer xs s) done) (pushed xs s) xs
+with_fed xs s = pick (eqb (feed_answer xs s) done) (pushed xs s) xs
 
 -- those that are counted, in order, if these were before
-unfoldable pub counted-after : List Finished → List Finished → List Finished
-counted-after xs [] = xs
-counted-after xs (s ∷ ss) = counted-after (with_fed xs s) ss
+unfoldable pub counted_after : List Finished → List Finished → List Finished
+counted_after xs [] = xs
+counted_after xs (s ∷ ss) = counted_after (with_fed xs s) ss
 
-unfoldable pub answers-after : List Finished → List Finished → List ℕ
-answers-after xs [] = []
-answers-after xs (s ∷ ss) = feed-answer xs s ∷ answers-after (with_fed xs s) ss
+unfoldable pub answers_after : List Finished → List Finished → List ℕ
+answers_after xs [] = []
+answers_after xs (s ∷ ss) = feed_answer xs s ∷ answers_after (with_fed xs s) ss
 
 -- of all that are fed from the month's beginning
 abbrev pub counted : List Finished → List Finished
-counted ss = counted-after [] ss
+counted ss = counted_after [] ss
 
 abbrev pub answers : List Finished → List ℕ
-answers ss = answers-after [] ss
+answers ss = answers_after [] ss
 
 -- ---- the calls, on totals alone
 
@@ -152,12 +152,12 @@ merged a b = pick (below (joined a b)) (record { answer = done; totals = joined 
 
 -- one submission is a part of its own
 unfoldable pub fed : Totals → Finished → Fed
-fed t s = pick (good-feed s) (merged t (totals (s ∷ []))) (record { answer = bad_feed; totals = t })
+fed t s = pick (good_feed s) (merged t (totals (s ∷ []))) (record { answer = bad_feed; totals = t })
 
-unfoldable pub fed-all : Totals → List Finished → Totals
-fed-all t [] = t
-fed-all t (s ∷ ss) = fed-all (fed t s).totals ss
+unfoldable pub fed_all : Totals → List Finished → Totals
+fed_all t [] = t
+fed_all t (s ∷ ss) = fed_all (fed t s).totals ss
 
-unfoldable pub told-all : Totals → List Finished → List ℕ
-told-all t [] = []
-told-all t (s ∷ ss) = (fed t s).answer ∷ told-all (fed t s).totals ss
+unfoldable pub told_all : Totals → List Finished → List ℕ
+told_all t [] = []
+told_all t (s ∷ ss) = (fed t s).answer ∷ told_all (fed t s).totals ss

@@ -55,17 +55,17 @@ abbrev pub lower_of : ℕ → ℕ → ℕ
 lower_of a b = pick (eqb b no_name) a (lower a b)
 
 -- the lowest name of the resource that was called `low`, of those that are left; no name where none is
-unfoldable pub lowest-left : ℕ → List Resource → ℕ
-lowest-left low [] = no_name
-lowest-left low (r ∷ rs) = pick (eqb r.lowest low) (lower_of r.handle (lowest-left low rs)) (lowest-left low rs)
+unfoldable pub lowest_left : ℕ → List Resource → ℕ
+lowest_left low [] = no_name
+lowest_left low (r ∷ rs) = pick (eqb r.lowest low) (lower_of r.handle (lowest_left low rs)) (lowest_left low rs)
 
 -- "destroying one name leaves the others": the names left once the resource r has lost one
 abbrev pub names_left : Resource → List Resource → List Resource
-names_left r left = pick (shareable r.kind) (rename r.lowest (lowest-left r.lowest left) left) left
+names_left r left = pick (shareable r.kind) (rename r.lowest (lowest_left r.lowest left) left) left
 
 -- and the tokens: once a resource has no name left, its tokens are bound to none, and so spent
 abbrev pub tokens_left : Resource → List Resource → List Token → List Token
-tokens_left r left ts = pick (shareable r.kind) (rebind r.lowest (lowest-left r.lowest left) ts) ts
+tokens_left r left ts = pick (shareable r.kind) (rebind r.lowest (lowest_left r.lowest left) ts) ts
 
 -- "Import makes the handle a second name for the exported resource": the names with one more of r, and the tokens
 abbrev pub names_with : ℕ → Resource → List Resource → List Resource

@@ -6,10 +6,10 @@ use Rattle.rules.specs.Lists.{Found, lookup, index_of, pushed, removed}
 use Rattle.rules.specs.Lists.Found.{none, found}
 use Rattle.rules.specs.Judging.{refusal}
 use Rattle.rules.specs.Names.{token_of, shareable, names_left, tokens_left, names_with, tokens_with, of_another, is_new, with_token, without_token}
-use Rattle.rules.specs.Shapes.{good-shape, good-backed, packed-size}
-use Rattle.rules.specs.StatePackets.{bad-viewport, bad-clear, bad-sides, clip-of}
+use Rattle.rules.specs.Shapes.{good_shape, good_backed, packed_size}
+use Rattle.rules.specs.StatePackets.{bad_viewport, bad_clear, bad_sides, clip_of}
 use Rattle.rules.specs.Table.{matching}
-use Rattle.rules.specs.Stream.{frame-of, packet-of}
+use Rattle.rules.specs.Stream.{frame_of, packet_of}
 use Rattle.rules.specs.declared.Entry.{Entry}
 use Rattle.rules.specs.declared.Shape.{Shape}
 use Rattle.rules.specs.declared.CreateBuffer.{CreateBuffer}
@@ -104,8 +104,8 @@ abbrev pub recorded : Record → Holdings → Holdings
 recorded c h = record { resources = h.resources; records = pushed h.records c }
 
 -- "19 records", and the record. "Dirty and copy of size 0 are put to every check except 19 and make no record."
-unfoldable pub hand-out : Record → Holdings → Outcome
-hand-out c h = pick (eqb c.length 0) (accepted h) (refuse too_many (full h.records) h (accepted (recorded c h)))
+unfoldable pub hand_out : Record → Holdings → Outcome
+hand_out c h = pick (eqb c.length 0) (accepted h) (refuse too_many (full h.records) h (accepted (recorded c h)))
 
 -- ---- create
 
@@ -113,12 +113,12 @@ abbrev pub stored : Resource → Holdings → Holdings
 stored r h = record { resources = pushed h.resources r; records = h.records }
 
 -- "19 if 64 resources are live"
-unfoldable pub create-hosted : Holdings → Resource → Outcome
-create-hosted h r = refuse too_many (full h.resources) h (accepted (stored r h))
+unfoldable pub create_hosted : Holdings → Resource → Outcome
+create_hosted h r = refuse too_many (full h.resources) h (accepted (stored r h))
 
 -- "21 .., 22 backing offset + bytes above the entry's size; 19 if 64 resources are live; backed only: 19 if 64 records exist. Record kind 1."
-unfoldable pub create-backed : List Entry → Holdings → Resource → Outcome
-create-backed es h r =
+unfoldable pub create_backed : List Entry → Holdings → Resource → Outcome
+create_backed es h r =
     on_entry (matching r.backing es) h (λ e.
     refuse past_entry (ltb e.size (r.offset + r.bytes)) h
     (refuse too_many (full h.resources) h
@@ -130,7 +130,7 @@ unfoldable pub create : List Entry → Holdings → Bool → Resource → Outcom
 create es h good r =
     refuse bad_handle (eqb r.handle 0 || is_live (live r.handle h)) h
     (refuse bad_shape (not good) h
-    (pick (backed r.backing) (create-backed es h r) (create-hosted h r)))
+    (pick (backed r.backing) (create_backed es h r) (create_hosted h r)))
 
 -- "A resource keeps kind, shape, pitch, backing id and offset; host-backed ones ignore pitch and offset and keep them as 0."
 -- Its bytes are kept beside them: nothing of a resource but its lowest name changes after its creation, and "24 offset + size beyond the resource" asks for
@@ -140,15 +140,15 @@ resource_of handle kind bytes pitch backing offset =
     record { handle = handle; kind = kind; bytes = bytes; pitch = pick (backed backing) pitch 0; backing = backing; offset = pick (backed backing) offset 0; lowest = handle }
 
 -- "Buffer size not 0."
-unfoldable pub on-buffer-packet : List Entry → Holdings → CreateBuffer → Outcome
-on-buffer-packet es h c =
+unfoldable pub on_buffer_packet : List Entry → Holdings → CreateBuffer → Outcome
+on_buffer_packet es h c =
     create es h (not (eqb c.size 0)) (resource_of c.handle BufferKind c.size 0 c.backing c.offset)
 
 -- "Backed only: pitch >= minimum for mip 0."
-unfoldable pub on-texture-packet : List Entry → Holdings → CreateTexture → Outcome
-on-texture-packet es h c =
-    create es h (pick (backed c.backing) (good-backed c.shape c.pitch) (good-shape c.shape))
-    (resource_of c.handle (TextureKind c.shape) (pick (backed c.backing) (packed-size c.shape c.pitch) 0) c.pitch c.backing c.offset)
+unfoldable pub on_texture_packet : List Entry → Holdings → CreateTexture → Outcome
+on_texture_packet es h c =
+    create es h (pick (backed c.backing) (good_backed c.shape c.pitch) (good_shape c.shape))
+    (resource_of c.handle (TextureKind c.shape) (pick (backed c.backing) (packed_size c.shape c.pitch) 0) c.pitch c.backing c.offset)
 
 -- ---- destroy, dirty, copy
 
@@ -157,39 +157,39 @@ abbrev pub without : ℕ → Holdings → List Resource
 without k h = removed (index_of handle_of k h.resources) h.resources
 
 -- "Destroy: 18 not live." By 02, wish 5, "destroying one name leaves the others".
-unfoldable pub on-destroy-packet : Holdings → DestroyResource → Outcome
-on-destroy-packet h c =
+unfoldable pub on_destroy_packet : Holdings → DestroyResource → Outcome
+on_destroy_packet h c =
     on_live (live c.handle h) h (λ r.
     accepted (record { resources = names_left r (without c.handle h); records = h.records }))
 
 -- "Dirty: 18; 25 host-backed; 24 offset + size beyond the resource; 21; 22 with backing offset added; 19 records. Kind 2 (read)."
-unfoldable pub on-dirty-packet : List Entry → Holdings → DirtyRange → Outcome
-on-dirty-packet es h c =
+unfoldable pub on_dirty_packet : List Entry → Holdings → DirtyRange → Outcome
+on_dirty_packet es h c =
     on_live (live c.handle h) h (λ r.
     refuse host_backed (not (backed r.backing)) h
     (refuse past_resource (ltb r.bytes (c.offset + c.size)) h
     (on_entry (matching r.backing es) h (λ e.
     refuse past_entry (ltb e.size (r.offset + (c.offset + c.size))) h
-    (hand-out (range_of reads r e c.offset c.size) h)))))
+    (hand_out (range_of reads r e c.offset c.size) h)))))
 
 -- "with writeback on dst: 25, 21, 22, 23 read_only, 19. 22 as for dirty. Kind 3 (write, of dst)"
-unfoldable pub write-back : List Entry → Holdings → CopyBuffer → Resource → Outcome
-write-back es h c r =
+unfoldable pub write_back : List Entry → Holdings → CopyBuffer → Resource → Outcome
+write_back es h c r =
     refuse host_backed (not (backed r.backing)) h
     (on_entry (matching r.backing es) h (λ e.
     refuse past_entry (ltb e.size (r.offset + (c.dstoffset + c.size))) h
     (refuse read_only (eqb (e.flags % 2) 1) h
-    (hand-out (range_of writes r e c.dstoffset c.size) h))))
+    (hand_out (range_of writes r e c.dstoffset c.size) h))))
 
 -- "Copy: 18 dst, then src, not a live buffer; 26 same handle, or flags above 1; 24 dst, then src; with writeback on dst: .."
-unfoldable pub on-copy-packet : List Entry → Holdings → CopyBuffer → Outcome
-on-copy-packet es h c =
+unfoldable pub on_copy_packet : List Entry → Holdings → CopyBuffer → Outcome
+on_copy_packet es h c =
     on_buffer (live c.dst h) h (λ d.
     on_buffer (live c.src h) h (λ s.
     refuse bad_copy (eqb c.dst c.src || ltb 1 c.flags) h
     (refuse past_resource (ltb d.bytes (c.dstoffset + c.size)) h
     (refuse past_resource (ltb s.bytes (c.srcoffset + c.size)) h
-    (pick (eqb c.flags 1) (write-back es h c d) (accepted h))))))
+    (pick (eqb c.flags 1) (write_back es h c d) (accepted h))))))
 
 -- ---- state packets (02, wish 7)
 
@@ -203,8 +203,8 @@ shape_in none = none
 shape_in (found r) = shape_of r.kind
 
 -- that of the live texture that has a handle. Handle 0 is not live.
-unfoldable pub live-texture : ℕ → Holdings → Found Shape
-live-texture k h = pick (eqb k 0) none (shape_in (live k h))
+unfoldable pub live_texture : ℕ → Holdings → Found Shape
+live_texture k h = pick (eqb k 0) none (shape_in (live k h))
 
 -- the rule with number n, unless there is such a texture
 abbrev pub on_texture : ℕ → Found Shape → Holdings → (Shape → Outcome) → Outcome
@@ -212,29 +212,29 @@ on_texture n none h later = refused n h
 on_texture n (found s) h later = later s
 
 -- "The target is a live texture, else 18"
-unfoldable pub on-target-packet : Holdings → SetTarget → Outcome
-on-target-packet h c = on_texture bad_handle (live-texture c.handle h) h (λ s. accepted h)
+unfoldable pub on_target_packet : Holdings → SetTarget → Outcome
+on_target_packet h c = on_texture bad_handle (live_texture c.handle h) h (λ s. accepted h)
 
-unfoldable pub on-viewport-packet : Holdings → SetViewport → Outcome
-on-viewport-packet h v = refuse bad_state (bad-viewport v) h (accepted h)
+unfoldable pub on_viewport_packet : Holdings → SetViewport → Outcome
+on_viewport_packet h v = refuse bad_state (bad_viewport v) h (accepted h)
 
-unfoldable pub on-clear-packet : Holdings → ClearValues → Outcome
-on-clear-packet h c = refuse bad_state (bad-clear c) h (accepted h)
+unfoldable pub on_clear_packet : Holdings → ClearValues → Outcome
+on_clear_packet h c = refuse bad_state (bad_clear c) h (accepted h)
 
 -- "scissor sides negative; scissor without a target": 30. The clipped rectangle is a record "which counts toward the 64": 19. "Order: 18, 30, 19."
 -- A target that is no live texture, which only made-up words hold, counts as none (docs/DECISIONS.md, 89).
-unfoldable pub on-scissor-packet : ℕ → Holdings → SetScissor → Outcome
-on-scissor-packet target h c =
-    on_texture bad_state (live-texture target h) h (λ s.
-    refuse bad_state (bad-sides c) h
-    (refuse too_many (full h.records) h (accepted (recorded (clip-of s c) h))))
+unfoldable pub on_scissor_packet : ℕ → Holdings → SetScissor → Outcome
+on_scissor_packet target h c =
+    on_texture bad_state (live_texture target h) h (λ s.
+    refuse bad_state (bad_sides c) h
+    (refuse too_many (full h.records) h (accepted (recorded (clip_of s c) h))))
 
 -- ---- shared surfaces (02, wish 5): "The handle check (18, create's rule for import) comes first, then shape, token, room."
 
 -- "Only textures with one mip and one layer may be exported, else 20. Export gives 28 for token 0, a token ever bound to another resource or
 -- one released"; "At most 256 tokens .., then 19"
-unfoldable pub on-export-packet : List Token → Holdings → ExportSurface → Outcome
-on-export-packet ts h c =
+unfoldable pub on_export_packet : List Token → Holdings → ExportSurface → Outcome
+on_export_packet ts h c =
     on_live (live c.handle h) h (λ r.
     refuse bad_shape (not (shareable r.kind)) h
     (refuse bad_token (eqb c.token 0 || of_another (lookup token_of c.token ts) r.lowest) h
@@ -254,31 +254,31 @@ on_bound none h later = refused unbound_token h
 on_bound (found r) h later = later r
 
 -- "The limit of 64 now counts names."
-unfoldable pub on-import-packet : List Token → Holdings → ImportSurface → Outcome
-on-import-packet ts h c =
+unfoldable pub on_import_packet : List Token → Holdings → ImportSurface → Outcome
+on_import_packet ts h c =
     refuse bad_handle (eqb c.handle 0 || is_live (live c.handle h)) h
     (on_bound (bound c.token ts h.resources) h (λ r.
     refuse too_many (full h.resources) h
     (accepted (record { resources = names_with c.handle r h.resources; records = h.records }))))
 
-unfoldable pub on-release-packet : List Token → Holdings → ReleaseToken → Outcome
-on-release-packet ts h c = on_bound (bound c.token ts h.resources) h (λ r. accepted h)
+unfoldable pub on_release_packet : List Token → Holdings → ReleaseToken → Outcome
+on_release_packet ts h c = on_bound (bound c.token ts h.resources) h (λ r. accepted h)
 
 -- ---- one packet, in a submission that has this target and these tokens
 
 unfoldable pub apply : List Entry → ℕ → List Token → Holdings → Packet → Outcome
-apply es target ts h (Buffer c) = on-buffer-packet es h c
-apply es target ts h (Texture c) = on-texture-packet es h c
-apply es target ts h (Destroy c) = on-destroy-packet h c
-apply es target ts h (Dirty c) = on-dirty-packet es h c
-apply es target ts h (Copy c) = on-copy-packet es h c
-apply es target ts h (Target c) = on-target-packet h c
-apply es target ts h (Viewport v) = on-viewport-packet h v
-apply es target ts h (Scissor c) = on-scissor-packet target h c
-apply es target ts h (Clear c) = on-clear-packet h c
-apply es target ts h (Export c) = on-export-packet ts h c
-apply es target ts h (Import c) = on-import-packet ts h c
-apply es target ts h (Release c) = on-release-packet ts h c
+apply es target ts h (Buffer c) = on_buffer_packet es h c
+apply es target ts h (Texture c) = on_texture_packet es h c
+apply es target ts h (Destroy c) = on_destroy_packet h c
+apply es target ts h (Dirty c) = on_dirty_packet es h c
+apply es target ts h (Copy c) = on_copy_packet es h c
+apply es target ts h (Target c) = on_target_packet h c
+apply es target ts h (Viewport v) = on_viewport_packet h v
+apply es target ts h (Scissor c) = on_scissor_packet target h c
+apply es target ts h (Clear c) = on_clear_packet h c
+apply es target ts h (Export c) = on_export_packet ts h c
+apply es target ts h (Import c) = on_import_packet ts h c
+apply es target ts h (Release c) = on_release_packet ts h c
 apply es target ts h NotANumber = refused bad_state h
 apply es target ts h Unknown = accepted h
 
@@ -309,21 +309,21 @@ if-fine Fine new old = new
 if-fine (Broken r) new old = old
 
 -- "it lasts until the submission ends or that handle is destroyed"
-unfoldable pub target-after : Packet → Verdict → ℕ → ℕ
-target-after (Buffer c) v old = old
-target-after (Texture c) v old = old
-target-after (Destroy c) v old = if-fine v (pick (eqb c.handle old) 0 old) old
-target-after (Dirty c) v old = old
-target-after (Copy c) v old = old
-target-after (Target c) v old = if-fine v c.handle old
-target-after (Viewport c) v old = old
-target-after (Scissor c) v old = old
-target-after (Clear c) v old = old
-target-after (Export c) v old = old
-target-after (Import c) v old = old
-target-after (Release c) v old = old
-target-after NotANumber v old = old
-target-after Unknown v old = old
+unfoldable pub target_after : Packet → Verdict → ℕ → ℕ
+target_after (Buffer c) v old = old
+target_after (Texture c) v old = old
+target_after (Destroy c) v old = if-fine v (pick (eqb c.handle old) 0 old) old
+target_after (Dirty c) v old = old
+target_after (Copy c) v old = old
+target_after (Target c) v old = if-fine v c.handle old
+target_after (Viewport c) v old = old
+target_after (Scissor c) v old = old
+target_after (Clear c) v old = old
+target_after (Export c) v old = old
+target_after (Import c) v old = old
+target_after (Release c) v old = old
+target_after NotANumber v old = old
+target_after Unknown v old = old
 
 -- the tokens after a destroy, an export and an import, by the resource that each finds
 abbrev pub tokens_destroyed : Found Resource → List Resource → List Token → List Token
@@ -339,21 +339,21 @@ tokens_imported none k ts = ts
 tokens_imported (found r) k ts = tokens_with k r ts
 
 -- of what was held before it
-unfoldable pub tokens-after : Packet → Verdict → Holdings → List Token → List Token
-tokens-after (Buffer c) v h old = old
-tokens-after (Texture c) v h old = old
-tokens-after (Destroy c) v h old = if-fine v (tokens_destroyed (live c.handle h) (without c.handle h) old) old
-tokens-after (Dirty c) v h old = old
-tokens-after (Copy c) v h old = old
-tokens-after (Target c) v h old = old
-tokens-after (Viewport c) v h old = old
-tokens-after (Scissor c) v h old = old
-tokens-after (Clear c) v h old = old
-tokens-after (Export c) v h old = if-fine v (tokens_exported (live c.handle h) c.token old) old
-tokens-after (Import c) v h old = if-fine v (tokens_imported (bound c.token old h.resources) c.handle old) old
-tokens-after (Release c) v h old = if-fine v (without_token c.token old) old
-tokens-after NotANumber v h old = old
-tokens-after Unknown v h old = old
+unfoldable pub tokens_after : Packet → Verdict → Holdings → List Token → List Token
+tokens_after (Buffer c) v h old = old
+tokens_after (Texture c) v h old = old
+tokens_after (Destroy c) v h old = if-fine v (tokens_destroyed (live c.handle h) (without c.handle h) old) old
+tokens_after (Dirty c) v h old = old
+tokens_after (Copy c) v h old = old
+tokens_after (Target c) v h old = old
+tokens_after (Viewport c) v h old = old
+tokens_after (Scissor c) v h old = old
+tokens_after (Clear c) v h old = old
+tokens_after (Export c) v h old = if-fine v (tokens_exported (live c.handle h) c.token old) old
+tokens_after (Import c) v h old = if-fine v (tokens_imported (bound c.token old h.resources) c.handle old) old
+tokens_after (Release c) v h old = if-fine v (without_token c.token old) old
+tokens_after NotANumber v h old = old
+tokens_after Unknown v h old = old
 
 -- what a packet comes to, and what is held after it
 pub record Passed : Type 0 where
@@ -366,8 +366,8 @@ passed p h o =
       verdict = o.verdict;
       held = record {
         holdings = o.held;
-        target = target-after p o.verdict h.target;
-        tokens = tokens-after p o.verdict h.holdings h.tokens;
+        target = target_after p o.verdict h.target;
+        tokens = tokens_after p o.verdict h.holdings h.tokens;
       };
     }
 
@@ -377,8 +377,8 @@ pass es h p = passed p h (apply es h.target h.tokens h.holdings p)
 -- ---- the packet that the bytes left of a stream begin with
 
 abbrev pub pass_frame : List Entry → Progress → List ℕ → Frame → Passed
-pass_frame es h b (Whole op size) = pass es h (packet-of op (take size b))
+pass_frame es h b (Whole op size) = pass es h (packet_of op (take size b))
 pass_frame es h b (Misframed r) = record { verdict = Broken r; held = h }
 
-unfoldable pub take-packet : List Entry → Progress → List ℕ → Passed
-take-packet es h b = pass_frame es h b (frame-of b)
+unfoldable pub take_packet : List Entry → Progress → List ℕ → Passed
+take_packet es h b = pass_frame es h b (frame_of b)

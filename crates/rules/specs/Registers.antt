@@ -102,14 +102,14 @@ acknowledged v r =
     with_reported r r.completed (r.fenced && not (bit_of 0 v)) (r.failed && not (bit_of 1 v)) r.error r.doorbell
 
 -- "completed fence, IRQ status and doorbell flag become .. zero; error registers stay; .. other registers stay": the detail, too, is sticky
-unfoldable pub reset-registers : Bool → Registers → Registers
-reset-registers enabled r = with_reported (with_enabled enabled r) 0 false false r.error false
+unfoldable pub reset_registers : Bool → Registers → Registers
+reset_registers enabled r = with_reported (with_enabled enabled r) 0 false false r.error false
 
 -- "Bit 1 resets: the submission in work is dropped without fence, head or error; resources .. become empty"; tokens are
 -- "forgotten at reset" (02, wish 5)
 unfoldable pub reset : Bool → State → State
 reset enabled s =
-    record { memory = s.memory; regs = reset-registers enabled s.regs; belongings = nothing_owned; work = resting }
+    record { memory = s.memory; regs = reset_registers enabled s.regs; belongings = nothing_owned; work = resting }
 
 -- "Control bit 0 enables. Bit 1 resets ..; bit 0 is taken from the same write .. Other bits are dropped."
 unfoldable pub controlled : ℕ → State → State
@@ -139,5 +139,5 @@ writable s v =
     ∷ gives 0x308 (with_regs (acknowledged v s.regs) s)
     ∷ []
 
-unfoldable pub write-of : State → ℕ → ℕ → Found Write
-write-of s offset v = lookup write_offset offset (writable s v)
+unfoldable pub write_of : State → ℕ → ℕ → Found Write
+write_of s offset v = lookup write_offset offset (writable s v)

@@ -3,9 +3,9 @@ use Rattle.std.specs.Prelude.{Bool, not, ◌&&◌, ◌||◌, List, ℕ, zero, su
 use Rattle.machine.specs.Machine.{pick}
 use Rattle.rules.specs.Numbers.{bad_descriptor, outside_memory, ring_magic, slot_doublings}
 use Rattle.rules.specs.Judging.{rule, only, ◌▹◌}
-use Rattle.rules.specs.Layouts.{good_version, ring-header, ring_header_size, descriptor, descriptor_size, table-header, stream-header}
-use Rattle.rules.specs.Table.{header-rules, checked_table, no_table}
-use Rattle.rules.specs.Stream.{stream-rules, stream_of, no_stream}
+use Rattle.rules.specs.Layouts.{good_version, ring_header, ring_header_size, descriptor, descriptor_size, table_header, stream_header}
+use Rattle.rules.specs.Table.{header_rules, checked_table, no_table}
+use Rattle.rules.specs.Stream.{stream_rules, stream_of, no_stream}
 use Rattle.rules.specs.declared.RingHeader.{RingHeader}
 use Rattle.rules.specs.declared.Descriptor.{Descriptor}
 use Rattle.rules.specs.declared.Job.{Job}
@@ -18,9 +18,9 @@ use Rattle.rules.specs.declared.Opening.TheVariants.{BadRing, NoWork, Refused, S
 -- ---- the ring
 
 -- one of 1, 2, 4, .., 2 ^ k
-unfoldable pub power-of-two : ℕ → ℕ → Bool
-power-of-two zero n = eqb n 1
-power-of-two (suc k) n = eqb n (2 ^ suc k) || power-of-two k n
+unfoldable pub power_of_two : ℕ → ℕ → Bool
+power_of_two zero n = eqb n 1
+power_of_two (suc k) n = eqb n (2 ^ suc k) || power_of_two k n
 
 -- "tail - head (wrapping)": how many submissions are pending
 abbrev pub pending : RingHeader → ℕ
@@ -28,22 +28,22 @@ pending h = (h.tail + (2 ^ 32 - h.head)) % 2 ^ 32
 
 -- "magic; version; count a power of two, 1 to 1,024; stride >= 64; 64 + count*stride <= header size <= ring size;
 -- tail - head (wrapping) <= count"
-unfoldable pub good-header : ℕ → RingHeader → Bool
-good-header size h =
+unfoldable pub good_header : ℕ → RingHeader → Bool
+good_header size h =
     eqb h.magic ring_magic
     && (good_version h.version
-    && (power-of-two slot_doublings h.count
+    && (power_of_two slot_doublings h.count
     && (leb descriptor_size h.stride
     && (leb (ring_header_size + h.count * h.stride) h.size
     && (leb h.size size
     && leb (pending h) h.count)))))
 
 -- "ring size >= 64; ring GPA + ring size within memory", then the header
-unfoldable pub good-ring : List ℕ → ℕ → ℕ → Bool
-good-ring m ring size =
+unfoldable pub good_ring : List ℕ → ℕ → ℕ → Bool
+good_ring m ring size =
     leb ring_header_size size
     && (leb (ring + size) (length m)
-    && good-header size (ring-header m ring))
+    && good_header size (ring_header m ring))
 
 -- "the slot is head mod count"
 abbrev pub slot : RingHeader → ℕ
@@ -64,8 +64,8 @@ present size = not (eqb size 0)
 
 -- "11: descriptor size below 64 or above stride; cmd GPA and size not both zero or both non-zero; GPA + size above 2^64 - 1;
 -- then both rules for the table."
-unfoldable pub descriptor-rules : ℕ → Descriptor → Verdict
-descriptor-rules stride d =
+unfoldable pub descriptor_rules : ℕ → Descriptor → Verdict
+descriptor_rules stride d =
     rule bad_descriptor (ltb d.size descriptor_size)
     ▹ rule bad_descriptor (ltb stride d.size)
     ▹ rule bad_descriptor (half_there d.cmd d.cmdsize)
@@ -74,18 +74,18 @@ descriptor-rules stride d =
     ▹ rule bad_descriptor (ltb (2 ^ 64 - 1) (d.table + d.tablesize))
 
 -- "12: cmd range, then table range, not within memory."
-unfoldable pub range-rules : ℕ → Descriptor → Verdict
-range-rules memory d =
+unfoldable pub range_rules : ℕ → Descriptor → Verdict
+range_rules memory d =
     only (present d.cmdsize) (rule outside_memory (ltb memory (d.cmd + d.cmdsize)))
     ▹ only (present d.tablesize) (rule outside_memory (ltb memory (d.table + d.tablesize)))
 
 -- "then in order (12 to 16 only for a range that is present)"
-unfoldable pub submission-rules : List ℕ → ℕ → Descriptor → Verdict
-submission-rules m stride d =
-    descriptor-rules stride d
-    ▹ range-rules (length m) d
-    ▹ only (present d.tablesize) (header-rules d.tablesize (table-header m d.table))
-    ▹ only (present d.cmdsize) (stream-rules d.cmdsize (stream-header m d.cmd))
+unfoldable pub submission_rules : List ℕ → ℕ → Descriptor → Verdict
+submission_rules m stride d =
+    descriptor_rules stride d
+    ▹ range_rules (length m) d
+    ▹ only (present d.tablesize) (header_rules d.tablesize (table_header m d.table))
+    ▹ only (present d.cmdsize) (stream_rules d.cmdsize (stream_header m d.cmd))
 
 -- ---- the opening
 
@@ -98,23 +98,23 @@ abbrev pub opened_of : List ℕ → Job → Descriptor → Opened
 opened_of m j d =
     record {
       job = j;
-      table = pick (present d.tablesize) (checked_table d.table (table-header m d.table)) no_table;
-      stream = pick (present d.cmdsize) (stream_of d.cmd (stream-header m d.cmd)) no_stream;
+      table = pick (present d.tablesize) (checked_table d.table (table_header m d.table)) no_table;
+      stream = pick (present d.cmdsize) (stream_of d.cmd (stream_header m d.cmd)) no_stream;
     }
 
 abbrev pub concluded : Verdict → Job → Opened → Opening
 concluded Fine j o = Started o
 concluded (Broken r) j o = Refused j r
 
-unfoldable pub submission-opening : List ℕ → ℕ → Job → Descriptor → Opening
-submission-opening m stride j d = concluded (submission-rules m stride d) j (opened_of m j d)
+unfoldable pub submission_opening : List ℕ → ℕ → Job → Descriptor → Opening
+submission_opening m stride j d = concluded (submission_rules m stride d) j (opened_of m j d)
 
 -- "Head = tail clears the flag. Else the slot .."
-unfoldable pub ring-opening : List ℕ → ℕ → RingHeader → Opening
-ring-opening m ring h =
+unfoldable pub ring_opening : List ℕ → ℕ → RingHeader → Opening
+ring_opening m ring h =
     pick (eqb h.head h.tail) NoWork
-    (submission-opening m h.stride (job_of ring h (descriptor m (slot_place ring h))) (descriptor m (slot_place ring h)))
+    (submission_opening m h.stride (job_of ring h (descriptor m (slot_place ring h))) (descriptor m (slot_place ring h)))
 
 -- of a memory, a ring GPA and a ring size
 unfoldable pub opening_of : List ℕ → ℕ → ℕ → Opening
-opening_of m ring size = pick (good-ring m ring size) (ring-opening m ring (ring-header m ring)) BadRing
+opening_of m ring size = pick (good_ring m ring size) (ring_opening m ring (ring_header m ring)) BadRing

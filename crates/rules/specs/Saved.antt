@@ -77,9 +77,9 @@ module _ {A : Type 0} (key : A → ℕ) where
   lower_keyed x (found y) = found (pick (ltb (key y) (key x)) y x)
 
   -- the one with the lowest key above k
-  unfoldable pub next-above : ℕ → List A → Found A
-  next-above k [] = none
-  next-above k (x ∷ xs) = pick (ltb k (key x)) (lower_keyed x (next-above k xs)) (next-above k xs)
+  unfoldable pub next_above : ℕ → List A → Found A
+  next_above k [] = none
+  next_above k (x ∷ xs) = pick (ltb k (key x)) (lower_keyed x (next_above k xs)) (next_above k xs)
 
   abbrev pub key_of : Found A → ℕ
   key_of none = 0
@@ -90,12 +90,12 @@ module _ {A : Type 0} (key : A → ℕ) where
   onto (found x) later = x ∷ later
 
   -- and then the next, so many at most
-  unfoldable pub rising-above : ℕ → ℕ → List A → List A
-  rising-above zero k xs = []
-  rising-above (suc n) k xs = onto (next-above k xs) (rising-above n (key_of (next-above k xs)) xs)
+  unfoldable pub rising_above : ℕ → ℕ → List A → List A
+  rising_above zero k xs = []
+  rising_above (suc n) k xs = onto (next_above k xs) (rising_above n (key_of (next_above k xs)) xs)
 
   unfoldable pub rising : List A → List A
-  rising xs = rising-above (length xs) 0 xs
+  rising xs = rising_above (length xs) 0 xs
 
 -- ---- saving: the numbers of a device, in file order
 
@@ -126,8 +126,8 @@ values_of [] = []
 values_of (r ∷ rs) = r.value ∷ values_of rs
 
 -- section 1, and section 2's count
-unfoldable pub head-fields : Form → State → List ℕ
-head-fields f s =
+unfoldable pub head_fields : Form → State → List ℕ
+head_fields f s =
     section_1_count f
     ∷ (values_of (take (saved_register_count f) (readable s.regs))
     ++ (low s.memory ∷ high s.memory ∷ bit s.regs.doorbell ∷ length (firsts_of s) ∷ []))
@@ -141,52 +141,52 @@ kind_fields (Texture s) bytes = texture_kind ∷ 0 ∷ 0 ∷ s.format ∷ s.widt
 abbrev pub resource_fields : Resource → List ℕ
 resource_fields r = r.handle ∷ (kind_fields r.kind r.bytes ++ (r.pitch ∷ r.backing ∷ r.offset ∷ []))
 
-unfoldable pub resources-fields : List Resource → List ℕ
-resources-fields [] = []
-resources-fields (r ∷ rs) = resource_fields r ++ resources-fields rs
+unfoldable pub resources_fields : List Resource → List ℕ
+resources_fields [] = []
+resources_fields (r ∷ rs) = resource_fields r ++ resources_fields rs
 
 -- "(other name, lowest name)", and "(token LO, token HI, lowest name or 0 if spent)"
-unfoldable pub names-fields : List Resource → List ℕ
-names-fields [] = []
-names-fields (r ∷ rs) = r.handle ∷ r.lowest ∷ names-fields rs
+unfoldable pub names_fields : List Resource → List ℕ
+names_fields [] = []
+names_fields (r ∷ rs) = r.handle ∷ r.lowest ∷ names_fields rs
 
-unfoldable pub tokens-fields : List Token → List ℕ
-tokens-fields [] = []
-tokens-fields (t ∷ ts) = low t.token ∷ high t.token ∷ t.name ∷ tokens-fields ts
+unfoldable pub tokens_fields : List Token → List ℕ
+tokens_fields [] = []
+tokens_fields (t ∷ ts) = low t.token ∷ high t.token ∷ t.name ∷ tokens_fields ts
 
 -- sections 3 and 4, which form 1 does not have
 abbrev pub shared_fields : Form → State → List ℕ
 shared_fields One s = []
 shared_fields Two s =
-    (length (others_of s) ∷ names-fields (others_of s))
-    ++ (length (tokens_of s) ∷ tokens-fields (tokens_of s))
+    (length (others_of s) ∷ names_fields (others_of s))
+    ++ (length (tokens_of s) ∷ tokens_fields (tokens_of s))
 
-unfoldable pub saved-fields : Form → State → List ℕ
-saved-fields f s = number_of f ∷ (head-fields f s ++ (resources-fields (firsts_of s) ++ shared_fields f s))
+unfoldable pub saved_fields : Form → State → List ℕ
+saved_fields f s = number_of f ∷ (head_fields f s ++ (resources_fields (firsts_of s) ++ shared_fields f s))
 
 -- the bytes of some fields
-unfoldable pub file-of : List ℕ → List ℕ
-file-of [] = []
-file-of (v ∷ vs) = bytes_of 4 v ++ file-of vs
+unfoldable pub file_of : List ℕ → List ℕ
+file_of [] = []
+file_of (v ∷ vs) = bytes_of 4 v ++ file_of vs
 
 unfoldable pub saved : Form → State → List ℕ
-saved f s = file-of (saved-fields f s)
+saved f s = file_of (saved_fields f s)
 
 -- what form 1 has no field for: "Saving in form 1 answers 8 .. once any token was used" (wish 5), "also where another name is live", and "while
 -- detail is non-zero" (wish 9)
-unfoldable pub other-name-among : List Resource → Bool
-other-name-among [] = false
-other-name-among (r ∷ rs) = is_other_name r || other-name-among rs
+unfoldable pub other_name_among : List Resource → Bool
+other_name_among [] = false
+other_name_among (r ∷ rs) = is_other_name r || other_name_among rs
 
-unfoldable pub beyond-form-1 : State → Bool
-beyond-form-1 s =
+unfoldable pub beyond_form_1 : State → Bool
+beyond_form_1 s =
     not (eqb (length s.belongings.tokens) 0)
-    || (other-name-among s.belongings.resources
+    || (other_name_among s.belongings.resources
     || not (eqb s.regs.error.detail 0))
 
 -- whether there is something that the form has no field for
 abbrev pub beyond : Form → State → Bool
-beyond One s = beyond-form-1 s
+beyond One s = beyond_form_1 s
 beyond Two s = false
 
 pub record Saved : Type 0 where
@@ -199,8 +199,8 @@ not_saved answer buffer = record { answer = answer; length = 0; buffer = buffer 
 
 -- "Saving while a submission is in work answers 5; then a buffer too short answers 6; both leave it untouched. It gives the length and keeps
 -- later bytes." 8 comes "after 5, before 6". Beside 5, 6 and 8 the length is 0 (docs/SAVED-DESK.md).
-unfoldable pub call-save : Form → State → List ℕ → Saved
-call-save f s buffer =
+unfoldable pub call_save : Form → State → List ℕ → Saved
+call_save f s buffer =
     pick (not (at_rest s.work)) (not_saved in_work buffer)
     (pick (beyond f s) (not_saved not_in_form buffer)
     (pick (ltb (length buffer) (length (saved f s))) (not_saved too_short buffer)

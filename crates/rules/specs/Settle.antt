@@ -6,7 +6,7 @@ use Rattle.rules.specs.Judging.{refusal, Finding, without_place}
 use Rattle.rules.specs.Judging.Finding.{fine, broken}
 use Rattle.rules.specs.Bytes.{bytes_of}
 use Rattle.rules.specs.Lists.{over}
-use Rattle.rules.specs.Layouts.{head_offset, page-bytes}
+use Rattle.rules.specs.Layouts.{head_offset, page_bytes}
 use Rattle.rules.specs.Shapes.{larger}
 use Rattle.rules.specs.Packets.{Belongings}
 use Rattle.rules.specs.State.{World, with_reported, registering}
@@ -31,8 +31,8 @@ signalled fence silent r =
     with_reported r (larger r.completed fence) (r.fenced || (ltb r.completed fence && not silent)) r.failed r.error r.doorbell
 
 -- the doorbell flag cleared
-unfoldable pub doorbell-cleared : Registers → Registers
-doorbell-cleared r = with_reported r r.completed r.fenced r.failed r.error false
+unfoldable pub doorbell_cleared : Registers → Registers
+doorbell_cleared r = with_reported r r.completed r.fenced r.failed r.error false
 
 -- a submission's last word to the registers: its error, if any, then its fence
 abbrev pub faulted_by : Finding → ℕ → Registers → Registers
@@ -53,16 +53,16 @@ abbrev pub next_head : ℕ → ℕ
 next_head head = (head + 1) % 2 ^ 32
 
 -- it "goes to the opened ring", which lies within memory
-unfoldable pub head-written : Job → List ℕ → List ℕ
-head-written j m = written (j.ring + head_offset) (bytes_of 4 (next_head j.head)) m
+unfoldable pub head_written : Job → List ℕ → List ℕ
+head_written j m = written (j.ring + head_offset) (bytes_of 4 (next_head j.head)) m
 
 -- "the fence page is written if its GPA is non-zero and all 16 bytes fit, else not"
-unfoldable pub page-written : Registers → List ℕ → List ℕ
-page-written r m = pick (eqb r.fencepage 0) m (written r.fencepage (page-bytes r.completed) m)
+unfoldable pub page_written : Registers → List ℕ → List ℕ
+page_written r m = pick (eqb r.fencepage 0) m (written r.fencepage (page_bytes r.completed) m)
 
 -- "Then the head ..., then the fence page": with the registers as they now are
 unfoldable pub marked : Job → Registers → List ℕ → List ℕ
-marked j r m = page-written r (head-written j m)
+marked j r m = page_written r (head_written j m)
 
 -- ---- the whole of it
 
@@ -87,8 +87,8 @@ settled_keeping j v w = settled j v w.state.belongings w
 
 -- "A bad ring clears the flag, sets the error with fence 0 and settles nothing."
 abbrev pub ring_refused : World → World
-ring_refused w = registering (doorbell-cleared (faulted (without_place (refusal bad_ring)) 0 w.state.regs)) w
+ring_refused w = registering (doorbell_cleared (faulted (without_place (refusal bad_ring)) 0 w.state.regs)) w
 
 -- "Head = tail clears the flag."
 abbrev pub found_no_work : World → World
-found_no_work w = registering (doorbell-cleared w.state.regs) w
+found_no_work w = registering (doorbell_cleared w.state.regs) w

@@ -1,14 +1,14 @@
 -- 01, "The steps and their price": one unit over the state and the memory lent at that unit; a run; the host's answer.
 use Rattle.std.specs.Prelude.{Bool, true, false, ◌&&◌, List, [], ℕ, ◌+◌, ltb, length}
-use Rattle.machine.specs.Machine.{pick, Out, runFor}
+use Rattle.machine.specs.Machine.{pick, Out, run_while}
 use Rattle.rules.specs.Numbers.{host_failed}
 use Rattle.rules.specs.Judging.{refusal, Finding, at_place, without_place}
 use Rattle.rules.specs.Judging.Finding.{fine, broken}
 use Rattle.rules.specs.Layouts.{stream_header_size}
-use Rattle.rules.specs.Table.{take-entry}
-use Rattle.rules.specs.Stream.{left, frame-of, size_of}
+use Rattle.rules.specs.Table.{take_entry}
+use Rattle.rules.specs.Stream.{left, frame_of, size_of}
 use Rattle.rules.specs.Ring.{opening_of}
-use Rattle.rules.specs.Packets.{Progress, Belongings, at_first, left_by, take-packet}
+use Rattle.rules.specs.Packets.{Progress, Belongings, at_first, left_by, take_packet}
 use Rattle.rules.specs.State.{Work, State, World, working}
 use Rattle.rules.specs.State.Work.{resting, entries, packets, waiting}
 use Rattle.rules.specs.Settle.{settled, settled_keeping, ring_refused, found_no_work}
@@ -50,9 +50,9 @@ after_entry w o kept fine = working (entries_at o kept w.state.belongings) w
 after_entry w o kept (broken f) = settled_keeping o.job (broken f) w
 
 -- "the entry index for 14 and 15" (02, wish 9): as many are kept before it
-unfoldable pub entry-step : World → Opened → List Entry → World
-entry-step w o kept =
-    after_entry w o (take-entry w.mem o.table kept).kept (at_place (length kept) (take-entry w.mem o.table kept).verdict)
+unfoldable pub entry_step : World → Opened → List Entry → World
+entry_step w o kept =
+    after_entry w o (take_entry w.mem o.table kept).kept (at_place (length kept) (take_entry w.mem o.table kept).verdict)
 
 -- ---- one packet
 
@@ -62,19 +62,19 @@ after_packet w j s next es h (broken f) = settled_keeping j (broken f) w
 
 -- where the packet after the one that some bytes begin with stands
 abbrev pub next_place : ℕ → List ℕ → ℕ
-next_place at b = at + size_of (frame-of b)
+next_place at b = at + size_of (frame_of b)
 
 -- "the packet's byte offset in the stream for packet errors" (02, wish 9): all that a packet's step raises, 17 of the last bytes and 19 too
 unfoldable pub packet_step : World → Job → Stream → ℕ → List Entry → Progress → World
 packet_step w j s at es h =
-    after_packet w j s (next_place at (left w.mem s at)) es (take-packet es h (left w.mem s at)).held
-    (at_place at (take-packet es h (left w.mem s at)).verdict)
+    after_packet w j s (next_place at (left w.mem s at)) es (take_packet es h (left w.mem s at)).held
+    (at_place at (take_packet es h (left w.mem s at)).verdict)
 
 -- ---- one unit: "opening, one table entry, or one packet"
 
 abbrev pub step_on : World → Work → World
 step_on w resting = open_step w
-step_on w (entries o kept) = entry-step w o kept
+step_on w (entries o kept) = entry_step w o kept
 step_on w (packets j s at es h) = packet_step w j s at es h
 step_on w (waiting j es h) = w
 
@@ -93,7 +93,7 @@ go w = w.state.regs.enabled && busy w.state.regs.doorbell w.state.work
 
 -- "Run stops when the allowance is spent, when idle, or when a submission waits."
 abbrev pub run_for : ℕ → World → Out World
-run_for = runFor go step
+run_for = run_while go step
 
 -- ---- the host's answer
 

@@ -5,9 +5,9 @@ use Rattle.machine.specs.Machine.{pick}
 use Rattle.rules.specs.Numbers.{bad_stream, bad_packet, stream_magic, create_buffer, create_texture, destroy, dirty_range, copy_buffer, set_target, set_viewport, set_scissor, clear, export_surface, import_surface, release_token, create_buffer_size, create_texture_size, destroy_size, dirty_range_size, copy_buffer_size, set_target_size, set_viewport_size, set_scissor_size, clear_size, export_surface_size, import_surface_size, release_token_size}
 use Rattle.rules.specs.Judging.{rule, ◌▹◌}
 use Rattle.rules.specs.Fields.{Field}
-use Rattle.rules.specs.Layouts.{word, stream_header_size, packet_header_size, buffer_layout, texture_layout, destroy_layout, dirty_layout, copy_layout, target_layout, viewport_layout, scissor_layout, clear_layout, share_layout, release_layout, buffer-fields, texture-fields, destroy-fields, dirty-fields, copy-fields, target-fields, viewport_floats, viewport-fields, scissor-fields, clear_floats, clear-fields, export-fields, import-fields, release-fields}
+use Rattle.rules.specs.Layouts.{word, stream_header_size, packet_header_size, buffer_layout, texture_layout, destroy_layout, dirty_layout, copy_layout, target_layout, viewport_layout, scissor_layout, clear_layout, share_layout, release_layout, buffer_fields, texture_fields, destroy_fields, dirty_fields, copy_fields, target_fields, viewport_floats, viewport_fields, scissor_fields, clear_floats, clear_fields, export_fields, import_fields, release_fields}
 use Rattle.rules.specs.Floats.{nan_among}
-use Rattle.rules.specs.Headers.{wrong-header}
+use Rattle.rules.specs.Headers.{wrong_header}
 use Rattle.rules.specs.Lists.{Found}
 use Rattle.rules.specs.Lists.Found.{none, found}
 use Rattle.rules.specs.declared.StreamHeader.{StreamHeader}
@@ -21,9 +21,9 @@ use Rattle.rules.specs.declared.Frame.{Frame}
 use Rattle.rules.specs.declared.Frame.TheVariants.{Whole, Misframed}
 
 -- "16: cmd size below 24; magic; version; stream size below 24 or above cmd size."
-unfoldable pub stream-rules : ℕ → StreamHeader → Verdict
-stream-rules cmdsize h =
-    rule bad_stream (wrong-header stream_magic stream_header_size cmdsize h.magic h.version h.size)
+unfoldable pub stream_rules : ℕ → StreamHeader → Verdict
+stream_rules cmdsize h =
+    rule bad_stream (wrong_header stream_magic stream_header_size cmdsize h.magic h.version h.size)
 
 -- the numbers kept of it
 abbrev pub stream_of : ℕ → StreamHeader → Stream
@@ -51,19 +51,19 @@ unless_nan floats p = pick (nan_among floats) NotANumber p
 -- "Opcode | Packet, bytes | Fields": each row once. The last seven are those of wishes 7 and 5.
 unfoldable pub known : ℕ → Found Known
 known op =
-    pick (eqb op create_buffer) (row "CreateBuffer" create_buffer_size buffer_layout (λ b. Buffer (buffer-fields b)))
-    (pick (eqb op create_texture) (row "CreateTexture" create_texture_size texture_layout (λ b. Texture (texture-fields b)))
-    (pick (eqb op destroy) (row "Destroy" destroy_size destroy_layout (λ b. Destroy (destroy-fields b)))
-    (pick (eqb op dirty_range) (row "DirtyRange" dirty_range_size dirty_layout (λ b. Dirty (dirty-fields b)))
-    (pick (eqb op copy_buffer) (row "CopyBuffer" copy_buffer_size copy_layout (λ b. Copy (copy-fields b)))
-    (pick (eqb op set_target) (row "Target" set_target_size target_layout (λ b. Target (target-fields b)))
+    pick (eqb op create_buffer) (row "CreateBuffer" create_buffer_size buffer_layout (λ b. Buffer (buffer_fields b)))
+    (pick (eqb op create_texture) (row "CreateTexture" create_texture_size texture_layout (λ b. Texture (texture_fields b)))
+    (pick (eqb op destroy) (row "Destroy" destroy_size destroy_layout (λ b. Destroy (destroy_fields b)))
+    (pick (eqb op dirty_range) (row "DirtyRange" dirty_range_size dirty_layout (λ b. Dirty (dirty_fields b)))
+    (pick (eqb op copy_buffer) (row "CopyBuffer" copy_buffer_size copy_layout (λ b. Copy (copy_fields b)))
+    (pick (eqb op set_target) (row "Target" set_target_size target_layout (λ b. Target (target_fields b)))
     (pick (eqb op set_viewport)
-    (row "Viewport" set_viewport_size viewport_layout (λ b. unless_nan (viewport_floats b) (Viewport (viewport-fields b))))
-    (pick (eqb op set_scissor) (row "Scissor" set_scissor_size scissor_layout (λ b. Scissor (scissor-fields b)))
-    (pick (eqb op clear) (row "Clear" clear_size clear_layout (λ b. unless_nan (clear_floats b) (Clear (clear-fields b))))
-    (pick (eqb op export_surface) (row "Export" export_surface_size share_layout (λ b. Export (export-fields b)))
-    (pick (eqb op import_surface) (row "Import" import_surface_size share_layout (λ b. Import (import-fields b)))
-    (pick (eqb op release_token) (row "Release" release_token_size release_layout (λ b. Release (release-fields b))) none)))))))))))
+    (row "Viewport" set_viewport_size viewport_layout (λ b. unless_nan (viewport_floats b) (Viewport (viewport_fields b))))
+    (pick (eqb op set_scissor) (row "Scissor" set_scissor_size scissor_layout (λ b. Scissor (scissor_fields b)))
+    (pick (eqb op clear) (row "Clear" clear_size clear_layout (λ b. unless_nan (clear_floats b) (Clear (clear_fields b))))
+    (pick (eqb op export_surface) (row "Export" export_surface_size share_layout (λ b. Export (export_fields b)))
+    (pick (eqb op import_surface) (row "Import" import_surface_size share_layout (λ b. Import (import_fields b)))
+    (pick (eqb op release_token) (row "Release" release_token_size release_layout (λ b. Release (release_fields b))) none)))))))))))
 
 -- the table size of a row, 0 for an unknown opcode; and the packet that these bytes hold. "Unknown opcodes are skipped."
 abbrev pub bytes_in : Found Known → ℕ
@@ -77,14 +77,14 @@ says_in (found k) b = k.fields b
 unfoldable pub least_size : ℕ → ℕ
 least_size op = bytes_in (known op)
 
-unfoldable pub packet-of : ℕ → List ℕ → Packet
-packet-of op b = says_in (known op) b
+unfoldable pub packet_of : ℕ → List ℕ → Packet
+packet_of op b = says_in (known op) b
 
 -- "17: 1 to 7 bytes left; size below 8, not a multiple of 4, or past the end"; and by wish 2: "A known packet is good from its table size
 -- upward, still a multiple of 4 and inside the stream, and the extra bytes are ignored. Shorter ones keep 17."
 -- Applied to the rest of the stream.
-unfoldable pub frame-rules : List ℕ → Verdict
-frame-rules b =
+unfoldable pub frame_rules : List ℕ → Verdict
+frame_rules b =
     rule bad_packet (ltb (length b) packet_header_size)
     ▹ rule bad_packet (ltb (word b 4) packet_header_size)
     ▹ rule bad_packet (not (eqb (word b 4 % 4) 0))
@@ -96,8 +96,8 @@ framed Fine op size = Whole op size
 framed (Broken r) op size = Misframed r
 
 -- the frame of the packet that the bytes left begin with
-unfoldable pub frame-of : List ℕ → Frame
-frame-of b = framed (frame-rules b) (word b 0) (word b 4)
+unfoldable pub frame_of : List ℕ → Frame
+frame_of b = framed (frame_rules b) (word b 0) (word b 4)
 
 -- the stream's own bytes, and what is left of them from a place on
 abbrev pub stream_bytes : List ℕ → Stream → List ℕ
@@ -119,13 +119,13 @@ size_of (Misframed r) = 0
 
 -- a packet before those after it; nothing is after a bad one
 abbrev pub before : ℕ → Frame → List ℕ → List Piece → List Piece
-before at (Whole op size) b later = packet at (packet-of op (take size b)) ∷ later
+before at (Whole op size) b later = packet at (packet_of op (take size b)) ∷ later
 before at (Misframed r) b later = misframed at r ∷ []
 
 -- the packets of the bytes that stand at an offset, of which there are no more than the first number says
 unfoldable pub cut : ℕ → ℕ → List ℕ → List Piece
 cut zero at b = []
-cut (suc k) at b = pick (eqb (length b) 0) [] (before at (frame-of b) b (cut k (at + size_of (frame-of b)) (drop (size_of (frame-of b)) b)))
+cut (suc k) at b = pick (eqb (length b) 0) [] (before at (frame_of b) b (cut k (at + size_of (frame_of b)) (drop (size_of (frame_of b)) b)))
 
 -- "from byte 24 to the stream size"
 abbrev pub packets_of : List ℕ → Stream → List Piece

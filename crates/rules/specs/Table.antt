@@ -6,8 +6,8 @@ use Rattle.rules.specs.Lists.{Found, lookup, pushed}
 use Rattle.rules.specs.Lists.Found.{none, found}
 use Rattle.rules.specs.Judging.{refusal, rule, ◌▹◌, Finding, fault_at, without_place, number, place_of}
 use Rattle.rules.specs.Judging.Finding.{fine, broken}
-use Rattle.rules.specs.Layouts.{table-header, table_header_size, entry, entry_size}
-use Rattle.rules.specs.Headers.{wrong-header}
+use Rattle.rules.specs.Layouts.{table_header, table_header_size, entry, entry_size}
+use Rattle.rules.specs.Headers.{wrong_header}
 use Rattle.rules.specs.declared.TableHeader.{TableHeader}
 use Rattle.rules.specs.declared.Entry.{Entry}
 use Rattle.rules.specs.declared.Table.{Table}
@@ -16,9 +16,9 @@ use Rattle.rules.specs.declared.Verdict.TheVariants.{Fine, Broken}
 
 -- "13: table size below 24; magic; version; header size below 24 or above table size; entry stride below 32;
 -- 24 + count*stride above header size. Then 19: count above 64."
-unfoldable pub header-rules : ℕ → TableHeader → Verdict
-header-rules tablesize h =
-    rule bad_table (wrong-header table_magic table_header_size tablesize h.magic h.version h.size)
+unfoldable pub header_rules : ℕ → TableHeader → Verdict
+header_rules tablesize h =
+    rule bad_table (wrong_header table_magic table_header_size tablesize h.magic h.version h.size)
     ▹ rule bad_table (ltb h.stride entry_size)
     ▹ rule bad_table (ltb h.size (table_header_size + h.count * h.stride))
     ▹ rule too_many (ltb most h.count)
@@ -49,8 +49,8 @@ entry_place t i = t.gpa + (table_header_size + i * t.stride)
 
 -- "14: id 0, size 0, or gpa + size above memory length"
 -- "15: an earlier entry has this id."
-unfoldable pub entry-rules : ℕ → List Entry → Entry → Verdict
-entry-rules memory earlier e =
+unfoldable pub entry_rules : ℕ → List Entry → Entry → Verdict
+entry_rules memory earlier e =
     rule bad_entry (eqb e.id 0)
     ▹ rule bad_entry (eqb e.size 0)
     ▹ rule bad_entry (ltb memory (e.gpa + e.size))
@@ -72,10 +72,10 @@ abbrev pub in_reach : List ℕ → Table → ℕ → Bool
 in_reach m t i = ltb i most && leb (entry_place t i + entry_size) (length m)
 
 -- the entry after those that were kept. "Checked entries are kept"
-unfoldable pub take-entry : List ℕ → Table → List Entry → Taken
-take-entry m t kept =
+unfoldable pub take_entry : List ℕ → Table → List Entry → Taken
+take_entry m t kept =
     pick (in_reach m t (length kept))
-    (keep (entry-rules (length m) kept (entry m (entry_place t (length kept)))) kept (entry m (entry_place t (length kept))))
+    (keep (entry_rules (length m) kept (entry m (entry_place t (length kept)))) kept (entry m (entry_place t (length kept))))
     (record { verdict = Broken (refusal bad_entry); kept = kept })
 
 -- ---- the table as a list
@@ -98,9 +98,9 @@ stop_or_go place Fine later = record { finding = later.finding; count = suc late
 stop_or_go place (Broken r) later = record { finding = broken (fault_at place r); count = 1 }
 
 -- "in table order". An entry's place is its index: as many are earlier.
-unfoldable pub judge-entries : ℕ → List Entry → List Entry → Judged
-judge-entries memory earlier [] = record { finding = fine; count = 0 }
-judge-entries memory earlier (e ∷ es) = stop_or_go (length earlier) (entry-rules memory earlier e) (judge-entries memory (pushed earlier e) es)
+unfoldable pub judge_entries : ℕ → List Entry → List Entry → Judged
+judge_entries memory earlier [] = record { finding = fine; count = 0 }
+judge_entries memory earlier (e ∷ es) = stop_or_go (length earlier) (entry_rules memory earlier e) (judge_entries memory (pushed earlier e) es)
 
 -- the header's rules come first; theirs has no place
 abbrev pub after_header : Verdict → Finding → Finding
@@ -108,14 +108,14 @@ after_header Fine later = later
 after_header (Broken r) later = broken (without_place r)
 
 -- "a table's first error ..: takes the lent length as table size and a memory length, and finds 13, 19, 14, 15 as the steps do"
-unfoldable pub table-finding : List ℕ → ℕ → Finding
-table-finding b memory =
-    after_header (header-rules (length b) (table-header b 0))
-    (judge-entries memory [] (entries_of b (checked_table 0 (table-header b 0)))).finding
+unfoldable pub table_finding : List ℕ → ℕ → Finding
+table_finding b memory =
+    after_header (header_rules (length b) (table_header b 0))
+    (judge_entries memory [] (entries_of b (checked_table 0 (table_header b 0)))).finding
 
-unfoldable pub table-error : List ℕ → ℕ → ℕ
-table-error b memory = number (table-finding b memory)
+unfoldable pub table_error : List ℕ → ℕ → ℕ
+table_error b memory = number (table_finding b memory)
 
 -- and its place, as the register would show it: the entry's index for 14 and 15, else 0
-unfoldable pub table-place : List ℕ → ℕ → ℕ
-table-place b memory = place_of (table-finding b memory)
+unfoldable pub table_place : List ℕ → ℕ → ℕ
+table_place b memory = place_of (table_finding b memory)

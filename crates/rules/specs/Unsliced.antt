@@ -4,7 +4,7 @@ use Rattle.std.specs.Prelude.{List, [], ◌∷◌, ℕ, suc, ◌+◌, length}
 use Rattle.machine.specs.Machine.{Out}
 use Rattle.rules.specs.Judging.{Finding, fault_at, without_place}
 use Rattle.rules.specs.Judging.Finding.{fine, broken}
-use Rattle.rules.specs.Table.{Judged, entries_of, judge-entries}
+use Rattle.rules.specs.Table.{Judged, entries_of, judge_entries}
 use Rattle.rules.specs.Stream.{Piece, packets_of}
 use Rattle.rules.specs.Stream.Piece.{packet, misframed}
 use Rattle.rules.specs.Ring.{opening_of}
@@ -33,11 +33,11 @@ one_further at Fine h later = record { finding = later.finding; held = later.hel
 one_further at (Broken r) h later = record { finding = broken (fault_at at r); held = h; count = 1 }
 
 -- "the packet's byte offset in the stream for packet errors" (02, wish 9)
-unfoldable pub judge-packets : List Entry → Progress → List Piece → Reckoned
-judge-packets es h [] = record { finding = fine; held = h; count = 0 }
-judge-packets es h (misframed at r ∷ later) = record { finding = broken (fault_at at r); held = h; count = 1 }
-judge-packets es h (packet at p ∷ later) =
-    one_further at (pass es h p).verdict h (judge-packets es (pass es h p).held later)
+unfoldable pub judge_packets : List Entry → Progress → List Piece → Reckoned
+judge_packets es h [] = record { finding = fine; held = h; count = 0 }
+judge_packets es h (misframed at r ∷ later) = record { finding = broken (fault_at at r); held = h; count = 1 }
+judge_packets es h (packet at p ∷ later) =
+    one_further at (pass es h p).verdict h (judge_packets es (pass es h p).held later)
 
 -- ---- a submission
 
@@ -58,8 +58,8 @@ both t h p = after_entries t.finding t.count h p
 -- "The unsliced rules judge the opening, then all entries, then all packets"
 unfoldable pub submission : List ℕ → Opened → Progress → Submission
 submission m o h =
-    both (judge-entries (length m) [] (entries_of m o.table)) h
-    (judge-packets (entries_of m o.table) h (packets_of m o.stream))
+    both (judge_entries (length m) [] (entries_of m o.table)) h
+    (judge_packets (entries_of m o.table) h (packets_of m o.stream))
 
 abbrev pub finished : World → Job → List Entry → Progress → Finding → World
 finished w j es h fine = working (waiting j es h) w

@@ -8,13 +8,13 @@ use Rattle.rules.specs.Settle.{settled_keeping}
 use Rattle.rules.specs.declared.Fault.{Fault}
 use Rattle.rows.specs.Rows.{length-table}
 use Rattle.kept_entries.specs.Views.{entry_of}
-use Rattle.run_entries.specs.Ending.{Ending, endingOf, is-going, is_done, is-broken}
+use Rattle.run_entries.specs.Ending.{Ending, ending_of, is-going, is_done, is-broken}
 use Rattle.run_entries.specs.Ending.Ending.{Going, Done, Broken}
 use Rattle.run_entries.specs.Entries.{reading_of}
 use Rattle.run_entries.specs.declared.entries.EntriesPlace.{EntriesPlace}
 use Rattle.run_packets.specs.Playing.{packet_tables, playing}
 use Rattle.run_packets.specs.declared.PacketsPlace.{PacketsPlace}
-use Rattle.run_state.specs.Views.{small_in, tag_in, job_in, stream_in, opened_in, kept_in, held_tokens_in, worldIn, bare_in, sides_in}
+use Rattle.run_state.specs.Views.{small_in, tag_in, job_in, stream_in, opened_in, kept_in, held_tokens_in, world_in, bare_in, sides_in}
 use Rattle.run_state.specs.Reading.{small-as, count-as}
 use Rattle.run_state.specs.Spelled.{spell}
 use Rattle.run_settle.specs.Views.{Refuses}
@@ -32,14 +32,14 @@ pub ruleset faulting = (fault-is, rules)
 
 module _ (s : List ℕ) (p : EntriesPlace) (m : List ℕ) (pre : (tag_in s ≡ 1) × (p.kept ≤ most)) where
   -- a device whose phase has this ending
-  ended : (k : Ending) → endingOf p.ending p.why ≡ k → (e r dt : List ℕ) → laid_on (bare_in s r dt m) (opened_in s) (reading_of p e).kept k ≡ laid_on (bare_in s r dt m) (opened_in s) (reading_of p e).kept (reading_of p e).ending
+  ended : (k : Ending) → ending_of p.ending p.why ≡ k → (e r dt : List ℕ) → laid_on (bare_in s r dt m) (opened_in s) (reading_of p e).kept k ≡ laid_on (bare_in s r dt m) (opened_in s) (reading_of p e).kept (reading_of p e).ending
   ended k q e r dt = ap (laid_on (bare_in s r dt m) (opened_in s) (reading_of p e).kept) (sym q)
 
   pub lands-going : (x : ℕ) → p.ending ≡ 0 → length s ≡ 36 → (x ≡ p.kept) × (x < 18446744073709551616) → LandsEntries s p m (set s 24 x) m
-  unfolding worldIn
+  unfolding world_in
   lands-going x q long is =
       record {
-        world = λ e r h dt ot c. spell (λ w. worldIn (set w 24 x) e r h dt ot c m) s long ∙ rw (pre.0, count-as x p.kept is pre.1) (ended Going (is-going p.ending p.why q) e r dt);
+        world = λ e r h dt ot c. spell (λ w. world_in (set w 24 x) e r h dt ot c m) s long ∙ rw (pre.0, count-as x p.kept is pre.1) (ended Going (is-going p.ending p.why q) e r dt);
         side = spell (λ w. sides_in (set w 24 x)) s long;
       }
 
@@ -62,7 +62,7 @@ pub ruleset landing_entries = (lands-going, lands-done, lands-broken, rules)
 
 module _ (s : List ℕ) (p : PacketsPlace) (m : List ℕ) (pre : (tag_in s ≡ 2) × (p.held.live ≤ most) × (p.held.made ≤ most)) where
   -- a device whose phase has this ending
-  played-to : (k : Ending) → endingOf p.ending p.why ≡ k → (e r h dt ot c : List ℕ)
+  played-to : (k : Ending) → ending_of p.ending p.why ≡ k → (e r h dt ot c : List ℕ)
       → played_on (bare_in s r dt m) (job_in s) (stream_in s) (kept_in s e) (playing p (packet_tables e r h c) (held_tokens_in s dt ot)) k ≡ played_on (bare_in s r dt m) (job_in s) (stream_in s) (kept_in s e) (playing p (packet_tables e r h c) (held_tokens_in s dt ot)) (playing p (packet_tables e r h c) (held_tokens_in s dt ot)).ending
   played-to k q e r h dt ot c = ap (played_on (bare_in s r dt m) (job_in s) (stream_in s) (kept_in s e) (playing p (packet_tables e r h c) (held_tokens_in s dt ot))) (sym q)
 
@@ -81,21 +81,21 @@ module _ (s : List ℕ) (p : PacketsPlace) (m : List ℕ) (pre : (tag_in s ≡ 2
     waiting_words w = set (set (set (set (set (set (set (set w 13 3) 21 0) 22 0) 23 0) 26 y) 27 z) 29 o) 31 t
 
     pub plays-going : (x : ℕ) → p.ending ≡ 0 → (x ≡ p.at) × (x < 18446744073709551616) → LandsPackets s p m (set (set (set (set (set s 23 x) 26 y) 27 z) 29 o) 31 t) m
-    unfolding worldIn
+    unfolding world_in
     plays-going x q is_x =
         record {
           world = λ e r h dt ot c.
-              spell (λ w. worldIn (onward_words x w) e r h dt ot c m) s long
+              spell (λ w. world_in (onward_words x w) e r h dt ot c m) s long
               ∙ rw (pre.0, is_x.0, count-as y p.held.live is_y pre.1, count-as z p.held.made is-z pre.2, is-o.0, small-as t p.held.target is-t) (played-to Going (is-going p.ending p.why q) e r h dt ot c);
           side = spell (λ w. sides_in (onward_words x w)) s long;
         }
 
     pub plays-done : p.ending ≡ 1 → LandsPackets s p m (set (set (set (set (set (set (set (set s 13 3) 21 0) 22 0) 23 0) 26 y) 27 z) 29 o) 31 t) m
-    unfolding worldIn
+    unfolding world_in
     plays-done q =
         record {
           world = λ e r h dt ot c.
-              spell (λ w. worldIn (waiting_words w) e r h dt ot c m) s long
+              spell (λ w. world_in (waiting_words w) e r h dt ot c m) s long
               ∙ rw (count-as y p.held.live is_y pre.1, count-as z p.held.made is-z pre.2, is-o.0, small-as t p.held.target is-t) (played-to Done (is_done p.ending p.why q) e r h dt ot c);
           side = spell (λ w. sides_in (waiting_words w)) s long;
         }

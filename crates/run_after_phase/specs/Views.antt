@@ -18,7 +18,7 @@ use Rattle.run_entries.specs.Entries.{Reading, reading_of}
 use Rattle.run_entries.specs.declared.entries.EntriesPlace.{EntriesPlace}
 use Rattle.run_packets.specs.Playing.{Playing, packet_tables, playing}
 use Rattle.run_packets.specs.declared.PacketsPlace.{PacketsPlace}
-use Rattle.run_state.specs.Views.{job_in, stream_in, opened_in, kept_in, held_tokens_in, worldIn, bare_in, sides_in}
+use Rattle.run_state.specs.Views.{job_in, stream_in, opened_in, kept_in, held_tokens_in, world_in, bare_in, sides_in}
 
 -- a device whose entries have come so far
 abbrev pub laid_on : World → Opened → List Entry → Ending → World
@@ -41,9 +41,9 @@ played w j t es s = played_on w j t es s s.ending
 -- ---- on the words, whatever the rows are; the same tables stay the device's
 
 pub record LandsEntries (s : List ℕ) (p : EntriesPlace) (m s' m' : List ℕ) : Type 0 where
-  pub world : (e r h dt ot c : List ℕ) → worldIn s' e r h dt ot c m' ≡ laid (bare_in s r dt m) (opened_in s) (reading_of p e)
+  pub world : (e r h dt ot c : List ℕ) → world_in s' e r h dt ot c m' ≡ laid (bare_in s r dt m) (opened_in s) (reading_of p e)
   pub side : sides_in s' ≡ sides_in s
 
 pub record LandsPackets (s : List ℕ) (p : PacketsPlace) (m s' m' : List ℕ) : Type 0 where
-  pub world : (e r h dt ot c : List ℕ) → worldIn s' e r h dt ot c m' ≡ played (bare_in s r dt m) (job_in s) (stream_in s) (kept_in s e) (playing p (packet_tables e r h c) (held_tokens_in s dt ot))
+  pub world : (e r h dt ot c : List ℕ) → world_in s' e r h dt ot c m' ≡ played (bare_in s r dt m) (job_in s) (stream_in s) (kept_in s e) (playing p (packet_tables e r h c) (held_tokens_in s dt ot))
   pub side : sides_in s' ≡ sides_in s

@@ -12,7 +12,7 @@ use Rattle.rules.specs.declared.Job.{Job}
 use Rattle.rules.specs.declared.Opened.{Opened}
 use Rattle.rows.specs.Rows.{table-zero}
 use Rattle.kept_entries.specs.Views.{entry_of, entries_of}
-use Rattle.run_state.specs.Views.{flag_of, small_in, job_in, opened_in, worldIn, bare_in, sides_in}
+use Rattle.run_state.specs.Views.{flag_of, small_in, job_in, opened_in, world_in, bare_in, sides_in}
 use Rattle.run_state.specs.Reading.{flag-as, small-as, count-as, none_kept, none_made}
 use Rattle.run_state.specs.Spelled.{spell}
 use Rattle.run_begin.specs.Views.{Begins, StoresJob, StoresOpened, Starts}
@@ -25,10 +25,10 @@ module _ (s : List ℕ) (kept size n : ℕ) (long : length s ≡ 36) (few : kept
   begun w = set (set (set (set (set (set (set (set (set (set w 18 0) 19 0) 20 0) 24 n) 26 (get_or w 25 0)) 27 0) 29 0) 31 0) 33 (get_or w 32 0)) 35 0
 
   pub begins-more : 24 < size → Begins s kept (set (set (set (set (set (set (set (set (set (set (set (set s 18 0) 19 0) 20 0) 24 n) 26 (get_or s 25 0)) 27 0) 29 0) 31 0) 33 (get_or s 32 0)) 35 0) 23 24) 13 2)
-  unfolding worldIn
+  unfolding world_in
   begins-more h =
       record {
-        world = λ e r x dt ot c m. spell (λ w. worldIn (set (set (begun w) 23 24) 13 2) e r x dt ot c m) s long ∙ rw (count-as n kept is-n few, none_made c, ← is-size, lt-ltb 24 size h);
+        world = λ e r x dt ot c m. spell (λ w. world_in (set (set (begun w) 23 24) 13 2) e r x dt ot c m) s long ∙ rw (count-as n kept is-n few, none_made c, ← is-size, lt-ltb 24 size h);
         side = spell (λ w. sides_in (set (set (begun w) 23 24) 13 2)) s long;
       }
 
@@ -37,10 +37,10 @@ module _ (s : List ℕ) (kept size n : ℕ) (long : length s ≡ 36) (few : kept
   begun_none w = set (set (set (set (begun w) 21 0) 22 0) 23 0) 13 3
 
   pub begins-none : size ≤ 24 → Begins s kept (set (set (set (set (set (set (set (set (set (set (set (set (set (set s 18 0) 19 0) 20 0) 24 n) 26 (get_or s 25 0)) 27 0) 29 0) 31 0) 33 (get_or s 32 0)) 35 0) 21 0) 22 0) 23 0) 13 3)
-  unfolding worldIn
+  unfolding world_in
   begins-none h =
       record {
-        world = λ e r x dt ot c m. spell (λ w. worldIn (begun_none w) e r x dt ot c m) s long ∙ rw (count-as n kept is-n few, none_made c, ← is-size, le-ltb 24 size h);
+        world = λ e r x dt ot c m. spell (λ w. world_in (begun_none w) e r x dt ot c m) s long ∙ rw (count-as n kept is-n few, none_made c, ← is-size, le-ltb 24 size h);
         side = spell (λ w. sides_in (begun_none w)) s long;
       }
 
@@ -71,13 +71,13 @@ module _ (o : Opened) (n stride size : ℕ) where
   pub stores-opened : (s s₁ : List ℕ) → length s₁ ≡ 36 → StoresJob s o.job s₁
       → (n ≡ o.table.count) × (n < 4294967296) → (stride ≡ o.table.stride) × (stride < 4294967296) → (size ≡ o.stream.size) × (size < 4294967296)
       → StoresOpened s o (set (set (set (set (set (set (set s₁ 13 1) 18 o.table.gpa) 19 n) 20 stride) 21 o.stream.gpa) 22 size) 24 0)
-  unfolding worldIn
+  unfolding world_in
   stores-opened s s₁ long k c d e =
       record {
         opened = is-opened;
         bare = λ r dt m. spell (λ w. bare_in (opened w) r dt m) s₁ long ∙ k.bare r dt m;
         world = λ x r h dt ot y m.
-            spell (λ w. worldIn (opened w) x r h dt ot y m) s₁ long
+            spell (λ w. world_in (opened w) x r h dt ot y m) s₁ long
             ∙ rw (small-as n o.table.count c, small-as stride o.table.stride d, small-as size o.stream.size e, k.job, none_kept x)
             (ap (working (entries o [])) (k.bare r dt m));
         side = spell (λ w. sides_in (opened w)) s₁ long ∙ k.side;

@@ -4,7 +4,7 @@ use Rattle.std.proofs.Math.Path.{refl}
 use Rattle.std.proofs.Common.{sym}
 use Rattle.std.proofs.Math.Bool.{true, false}
 use borrow.Author.Tests.{eq-eqb, ne_eqb}
-use Rattle.machine.specs.Machine.{pick, Out, spent, runFor, loop-turn, loop-stop}
+use Rattle.machine.specs.Machine.{pick, Out, spent, run_while, loop-turn, loop-stop}
 use Rattle.rules.specs.Judging.{refusal}
 use Rattle.rules.specs.declared.Refusal.{Refusal}
 
@@ -26,27 +26,27 @@ abbrev pub ending_at : ℕ → ℕ → Ending
 ending_at at end = pick (ltb at end) Going Done
 
 -- an ending's number, and the rule's
-unfoldable pub endingOf : ℕ → ℕ → Ending
-endingOf e why = pick (eqb e 0) Going (pick (eqb e 1) Done (Broken (refusal why)))
+unfoldable pub ending_of : ℕ → ℕ → Ending
+ending_of e why = pick (eqb e 0) Going (pick (eqb e 1) Done (Broken (refusal why)))
 
 module _ (e why : ℕ) where
-  pub is-going : e ≡ 0 → endingOf e why ≡ Going
-  unfolding endingOf
+  pub is-going : e ≡ 0 → ending_of e why ≡ Going
+  unfolding ending_of
   is-going h = rw (eq-eqb _ _ h)
 
-  pub is_done : e ≡ 1 → endingOf e why ≡ Done
-  unfolding endingOf
+  pub is_done : e ≡ 1 → ending_of e why ≡ Done
+  unfolding ending_of
   is_done h = rw h
 
-  pub is-broken : (e ≡ 0 → ⊥) → (e ≡ 1 → ⊥) → endingOf e why ≡ Broken (refusal why)
-  unfolding endingOf
+  pub is-broken : (e ≡ 0 → ⊥) → (e ≡ 1 → ⊥) → ending_of e why ≡ Broken (refusal why)
+  unfolding ending_of
   is-broken h k = rw (ne_eqb _ _ h, ne_eqb _ _ k)
 
-  pub goes : e ≡ 0 → onward (endingOf e why) ≡ true
+  pub goes : e ≡ 0 → onward (ending_of e why) ≡ true
   goes h = rw (is-going h)
 
-  pub ends : (e ≡ 0 → ⊥) → onward (endingOf e why) ≡ false
-  unfolding endingOf
+  pub ends : (e ≡ 0 → ⊥) → onward (ending_of e why) ≡ false
+  unfolding ending_of
   ends h = rw (ne_eqb _ _ h) (by_number (eqb e 1))
     where
       by_number : (t : Bool) → onward (pick t Done (Broken (refusal why))) ≡ false
@@ -55,8 +55,8 @@ module _ (e why : ℕ) where
 
 -- ---- for a loop `while units < allowance { step; units += 1; if ending != GOING { return .. } }`
 
-module _ {S : Type 0} (go : S → Bool) (step : S → S) (a u : ℕ) (s : S) (o : Out S) (inv : o ≡ spent u (runFor go step (a - u) s)) (more : u < a) (here : go s ≡ true) (s' : S) (stepped : s' ≡ step s) where
-  pub phase-on : o ≡ spent (u + 1) (runFor go step (a - (u + 1)) s')
+module _ {S : Type 0} (go : S → Bool) (step : S → S) (a u : ℕ) (s : S) (o : Out S) (inv : o ≡ spent u (run_while go step (a - u) s)) (more : u < a) (here : go s ≡ true) (s' : S) (stepped : s' ≡ step s) where
+  pub phase-on : o ≡ spent (u + 1) (run_while go step (a - (u + 1)) s')
   phase-on = loop-turn go step a u s o inv s' true more (sym here) refl stepped
 
   pub phase-left : go s' ≡ false → record { state = s'; units = u + 1 } ≡ o

@@ -3,11 +3,11 @@ use Rattle.std.specs.Prelude.{◌≡◌, Bool, true, false, List, ℕ, ◌+◌, 
 use Rattle.std.proofs.Math.Path.{refl}
 use Rattle.std.proofs.Common.{sym, ap, arith, rules}
 use borrow.Author.Tests.{lt-ltb, le-ltb, ltb-true}
-use Rattle.machine.specs.Machine.{pick, Out, spent, runFor, loop-start, loop-out}
+use Rattle.machine.specs.Machine.{pick, Out, spent, run_while, loop-start, loop-out}
 use Rattle.rules.specs.Numbers.{most, bad_entry}
 use Rattle.rules.specs.Judging.{refusal}
 use Rattle.rules.specs.Layouts.{entry}
-use Rattle.rules.specs.Table.{Taken, entry_place, entry-rules, keep, in_reach, take-entry}
+use Rattle.rules.specs.Table.{Taken, entry_place, entry_rules, keep, in_reach, take_entry}
 use Rattle.rules.specs.declared.Entry.{Entry}
 use Rattle.rules.specs.declared.Table.{Table}
 use Rattle.rules.specs.declared.Refusal.{Refusal}
@@ -16,7 +16,7 @@ use Rattle.rules.specs.declared.Verdict.TheVariants.{Fine, Broken as BrokenRule}
 use Rattle.rule_laws.specs.Fine.{both_left}
 use Rattle.rows.specs.Rows.{length-table}
 use Rattle.kept_entries.specs.Views.{entry_of, entries_of, taken_of}
-use Rattle.run_entries.specs.Ending.{Ending, onward, ending_at, endingOf, is-going, is_done, is-broken, goes, ends, phase-on, phase-left}
+use Rattle.run_entries.specs.Ending.{Ending, onward, ending_at, ending_of, is-going, is_done, is-broken, goes, ends, phase-on, phase-left}
 use Rattle.run_entries.specs.Ending.Ending.{Going, Broken}
 use Rattle.run_entries.specs.declared.entries.EntriesPlace.{EntriesPlace}
 use Rattle.run_entries.specs.declared.entries.EntriesRun.{EntriesRun}
@@ -33,12 +33,12 @@ read_on count Fine kept = record { kept = kept; ending = ending_at (length kept)
 read_on count (BrokenRule r) kept = record { kept = kept; ending = Broken r }
 
 unfoldable pub read_step : List ℕ → Table → Reading → Reading
-read_step m t s = read_on t.count (take-entry m t s.kept).verdict (take-entry m t s.kept).kept
+read_step m t s = read_on t.count (take_entry m t s.kept).verdict (take_entry m t s.kept).kept
 
 -- ---- views
 
 abbrev pub reading_of : EntriesPlace → List ℕ → Reading
-reading_of p l = record { kept = entries_of p.kept l; ending = endingOf p.ending p.why }
+reading_of p l = record { kept = entries_of p.kept l; ending = ending_of p.ending p.why }
 
 abbrev pub out_of : EntriesRun → List ℕ → Out Reading
 out_of r l = record { state = reading_of r.place l; units = r.units }
@@ -51,31 +51,31 @@ pub record EntryStepped (m : List ℕ) (t : Table) (p : EntriesPlace) (l : List 
   pub room : r.kept ≤ most
 
 pub record EntriesRan (m : List ℕ) (t : Table) (n : ℕ) (l : List ℕ) (allowance : ℕ) (r : EntriesRun) (l' : List ℕ) : Type 0 where
-  pub run : out_of r l' ≡ runFor reading_goes (read_step m t) allowance (from_row n l)
+  pub run : out_of r l' ≡ run_while reading_goes (read_step m t) allowance (from_row n l)
   pub room : r.place.kept ≤ most
 
 -- ---- step_entry
 
 -- an entry that is fine had room
-fine-room : (m : List ℕ) (t : Table) (kept : List Entry) → (take-entry m t kept).verdict ≡ Fine → length kept < most
-unfolding take-entry
+fine-room : (m : List ℕ) (t : Table) (kept : List Entry) → (take_entry m t kept).verdict ≡ Fine → length kept < most
+unfolding take_entry
 fine-room m t kept h = by-reach (in_reach m t (length kept)) refl h
   where
     by-reach : (b : Bool) → in_reach m t (length kept) ≡ b
-        → (pick b (keep (entry-rules (length m) kept (entry m (entry_place t (length kept)))) kept (entry m (entry_place t (length kept)))) (record { verdict = BrokenRule (refusal bad_entry); kept = kept })).verdict ≡ Fine
+        → (pick b (keep (entry_rules (length m) kept (entry m (entry_place t (length kept)))) kept (entry m (entry_place t (length kept)))) (record { verdict = BrokenRule (refusal bad_entry); kept = kept })).verdict ≡ Fine
         → length kept < most
     by-reach true e f = ltb-true (length kept) most (both_left (ltb (length kept) most) _ e)
     by-reach false e f = absurd (let z : ◌≡◌ {A = ℕ} 0 1 = cc in omega arith)
 
-module _ (m : List ℕ) (t : Table) (p : EntriesPlace) (l l' : List ℕ) (v : Verdict) (took : taken_of v p.kept l' ≡ take-entry m t (entries_of p.kept l)) where
+module _ (m : List ℕ) (t : Table) (p : EntriesPlace) (l l' : List ℕ) (v : Verdict) (took : taken_of v p.kept l' ≡ take_entry m t (entries_of p.kept l)) where
   pub step-broken : (r : Refusal) → p.kept ≤ most → v ≡ BrokenRule r → EntryStepped m t p l (record { kept = p.kept; ending = 2; why = r.code }) l'
   unfolding read_step
   step-broken r h e =
-      let taken : taken_of (BrokenRule r) p.kept l' ≡ take-entry m t (entries_of p.kept l) = rw e at took in
+      let taken : taken_of (BrokenRule r) p.kept l' ≡ take_entry m t (entries_of p.kept l) = rw e at took in
       record { step = rw (is-broken 2 r.code (omega arith) (omega arith), ← taken); room = h }
 
   module _ (e : v ≡ Fine) where
-    taken_fine : taken_of Fine p.kept l' ≡ take-entry m t (entries_of p.kept l)
+    taken_fine : taken_of Fine p.kept l' ≡ take_entry m t (entries_of p.kept l)
     taken_fine = rw e at took
 
     pub step_room : p.kept < most
@@ -100,15 +100,15 @@ pub ruleset stepping_entry = (step-broken, step_room, step-next-fits, step-going
 -- ---- read_entries
 
 module _ (m : List ℕ) (t : Table) (n a : ℕ) (l₀ : List ℕ) where
-  pub reads_first : runFor reading_goes (read_step m t) a (from_row n l₀) ≡ spent 0 (runFor reading_goes (read_step m t) (a - 0) (reading_of (record { kept = n; ending = 0; why = 0 }) l₀))
+  pub reads_first : run_while reading_goes (read_step m t) a (from_row n l₀) ≡ spent 0 (run_while reading_goes (read_step m t) (a - 0) (reading_of (record { kept = n; ending = 0; why = 0 }) l₀))
   reads_first = rw (is-going 0 0 refl) (loop-start reading_goes (read_step m t) a (from_row n l₀))
 
-  module _ (u : ℕ) (p : EntriesPlace) (l : List ℕ) (inv : runFor reading_goes (read_step m t) a (from_row n l₀) ≡ spent u (runFor reading_goes (read_step m t) (a - u) (reading_of p l))) where
+  module _ (u : ℕ) (p : EntriesPlace) (l : List ℕ) (inv : run_while reading_goes (read_step m t) a (from_row n l₀) ≡ spent u (run_while reading_goes (read_step m t) (a - u) (reading_of p l))) where
     pub reads-no-more : a ≤ u → p.kept ≤ most → EntriesRan m t n l₀ a (record { place = p; units = u }) l
     reads-no-more h room = record { run = loop-out reading_goes (read_step m t) a u (reading_of p l) _ inv h; room = room }
 
     module _ (more : u < a) (here : p.ending ≡ 0) (r : EntriesPlace) (l' : List ℕ) (s : EntryStepped m t p l r l') where
-      pub reads_on : runFor reading_goes (read_step m t) a (from_row n l₀) ≡ spent (u + 1) (runFor reading_goes (read_step m t) (a - (u + 1)) (reading_of r l'))
+      pub reads_on : run_while reading_goes (read_step m t) a (from_row n l₀) ≡ spent (u + 1) (run_while reading_goes (read_step m t) (a - (u + 1)) (reading_of r l'))
       reads_on = phase-on reading_goes (read_step m t) a u (reading_of p l) _ inv more (goes p.ending p.why here) (reading_of r l') s.step
 
       pub reads-to-end : (r.ending ≡ 0 → ⊥) → EntriesRan m t n l₀ a (record { place = r; units = u + 1 }) l'

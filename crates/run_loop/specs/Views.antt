@@ -2,8 +2,8 @@
 use Rattle.std.specs.Prelude.{◌≡◌, List, ℕ}
 use Rattle.rules.specs.Steps.{run_for}
 use Rattle.run_state.specs.Views.{sides_in}
-use Rattle.run_turns.specs.Views.{Tables, worldWith}
+use Rattle.run_turns.specs.Views.{Tables, world_with}
 
 pub record RanFor (allowance : ℕ) (s : List ℕ) (t : Tables) (m : List ℕ) (units : ℕ) (s' : List ℕ) (t' : Tables) (m' : List ℕ) : Type 0 where
-  pub run : record { state = worldWith s' t' m'; units = units } ≡ run_for allowance (worldWith s t m)
+  pub run : record { state = world_with s' t' m'; units = units } ≡ run_for allowance (world_with s t m)
   pub side : sides_in s' ≡ sides_in s

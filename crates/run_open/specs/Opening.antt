@@ -5,7 +5,7 @@ use Rattle.rules.specs.Judging.{without_place}
 use Rattle.rules.specs.Judging.Finding.{broken}
 use Rattle.rules.specs.Ring.{opening_of}
 use Rattle.rules.specs.State.{World}
-use Rattle.rules.specs.Settle.{one_more, faulted, doorbell-cleared, settled_keeping}
+use Rattle.rules.specs.Settle.{one_more, faulted, doorbell_cleared, settled_keeping}
 use Rattle.rules.specs.Steps.{after_opening}
 use Rattle.rules.specs.Settle.{ring_refused}
 use Rattle.rules.specs.declared.Job.{Job}
@@ -13,7 +13,7 @@ use Rattle.rules.specs.declared.Opened.{Opened}
 use Rattle.rules.specs.declared.Refusal.{Refusal}
 use Rattle.rules.specs.declared.Opening.{Opening}
 use Rattle.rules.specs.declared.Opening.TheVariants.{BadRing, NoWork, Refused, Started}
-use Rattle.run_state.specs.Views.{small_in, tag_in, worldIn, bare_in, sides_in}
+use Rattle.run_state.specs.Views.{small_in, tag_in, world_in, bare_in, sides_in}
 use Rattle.run_state.specs.Reading.{small-as}
 use Rattle.run_state.specs.Spelled.{spell}
 use Rattle.run_settle.specs.Views.{Refuses}
@@ -21,12 +21,12 @@ use Rattle.run_begin.specs.Views.{StoresJob, Starts}
 
 -- a bad ring, whatever the rows and the memory are
 pub record FaultsRing (s s' : List ℕ) : Type 0 where
-  pub world : tag_in s ≡ 0 → (e r h dt ot c m : List ℕ) → worldIn s' e r h dt ot c m ≡ ring_refused (bare_in s r dt m)
+  pub world : tag_in s ≡ 0 → (e r h dt ot c m : List ℕ) → world_in s' e r h dt ot c m ≡ ring_refused (bare_in s r dt m)
   pub side : sides_in s' ≡ sides_in s
 
 -- what the opening comes to, whatever the rows are; the same table stays the device's
 pub record Opens (s m s' m' : List ℕ) : Type 0 where
-  pub world : (e r h dt ot c : List ℕ) → worldIn s' e r h dt ot c m' ≡ after_opening (bare_in s r dt m) (opening_of m (get_or s 1 0) (small_in (get_or s 2 0)))
+  pub world : (e r h dt ot c : List ℕ) → world_in s' e r h dt ot c m' ≡ after_opening (bare_in s r dt m) (opening_of m (get_or s 1 0) (small_in (get_or s 2 0)))
   pub side : sides_in s' ≡ sides_in s
 
 -- ---- fault_ring
@@ -36,10 +36,10 @@ ring_faulted errors w = set (set (set (set (set (set w 7 1) 9 10) 10 0) 11 error
 
 pub faults-ring : (s : List ℕ) (low more errors : ℕ) → length s ≡ 36 → low ≡ small_in (get_or s 11 0) → more ≡ one_more low → (errors ≡ more) × (errors < 4294967296)
     → FaultsRing s (set (set (set (set (set (set s 7 1) 9 10) 10 0) 11 errors) 30 0) 12 0)
-unfolding worldIn faulted doorbell-cleared
+unfolding world_in faulted doorbell_cleared
 faults-ring s low more errors long a b c =
     record {
-      world = λ none e r h dt ot x m. spell (λ w. worldIn (ring_faulted errors w) e r h dt ot x m) s long ∙ rw (none, small-as errors more c, b, a);
+      world = λ none e r h dt ot x m. spell (λ w. world_in (ring_faulted errors w) e r h dt ot x m) s long ∙ rw (none, small-as errors more c, b, a);
       side = spell (λ w. sides_in (ring_faulted errors w)) s long;
     }
 
@@ -56,10 +56,10 @@ module _ (s m : List ℕ) (none : tag_in s ≡ 0) (size : ℕ) (is : size ≡ sm
   opens-bad s' e f = record { world = λ x r h dt ot c. f.world none x r h dt ot c m ∙ as-opened (bare_in s r dt m) BadRing e; side = f.side }
 
   pub opens-empty : v ≡ NoWork → length s ≡ 36 → Opens s m (set s 12 0) m
-  unfolding worldIn doorbell-cleared
+  unfolding world_in doorbell_cleared
   opens-empty e long =
       record {
-        world = λ x r h dt ot c. spell (λ w. worldIn (set w 12 0) x r h dt ot c m) s long ∙ rw none (as-opened (bare_in s r dt m) NoWork e);
+        world = λ x r h dt ot c. spell (λ w. world_in (set w 12 0) x r h dt ot c m) s long ∙ rw none (as-opened (bare_in s r dt m) NoWork e);
         side = spell (λ w. sides_in (set w 12 0)) s long;
       }
 

@@ -2,7 +2,7 @@
 // and so the loop over the others has nothing of tokens in it.
 ghost use Rattle.std.specs.Prelude.{◌≡◌, ◌+◌, ◌-◌, ◌≤◌, ◌<◌, length};
 ghost use Rattle.packet_ranges.specs.Views.{RowsExist};
-ghost use Rattle.run_packets.specs.Playing.{placeAfter, nothing_left, PacketTook, PacketStepped, Skips, PacketsRan};
+ghost use Rattle.run_packets.specs.Playing.{place_after, nothing_left, PacketTook, PacketStepped, Skips, PacketsRan};
 
 use kept_entries::Entries;
 use kept_records::Records;
@@ -54,7 +54,7 @@ fn nothing_left() -> Left
 
 // The place after a packet of the stream: the next one, the end, or where it was refused.
 pub fn place_after(at: usize, next: usize, end: usize, x: Changed) -> PacketsPlace
-    ensures { result ≡ placeAfter at next end x }
+    ensures { result ≡ place_after at next end x }
 {
     let held = x.held;
     if x.why != 0 {

@@ -4,33 +4,33 @@ use Rattle.std.proofs.Common.{sym, ap, subst, ◌∙◌, arith, rules, eq-eqb, n
 use Rattle.std.proofs.lemmas.List.{set-get_or}
 use Rattle.machine.specs.Machine.{pick}
 use Rattle.rules.specs.Shapes.{larger}
-use Rattle.rules.specs.Settle.{one_more, faulted, signalled, ended_by, head-written, marked, settled}
+use Rattle.rules.specs.Settle.{one_more, faulted, signalled, ended_by, head_written, marked, settled}
 use Rattle.rules.specs.declared.Job.{Job}
 use Rattle.rules.specs.declared.Fault.{Fault}
 use Rattle.settle.specs.Settling.{page_put}
 use Rattle.settle.specs.Laws.{marks-as}
-use Rattle.run_state.specs.Views.{set_in, flag_of, small_in, registers_in, job_in, worldIn, rested, sides_in, desk_in}
+use Rattle.run_state.specs.Views.{set_in, flag_of, small_in, registers_in, job_in, world_in, rested, sides_in, desk_in}
 use Rattle.run_state.specs.Reading.{small-as}
 use Rattle.run_state.specs.Spelled.{spell}
-use Rattle.run_settle.specs.Views.{signalled-words, Signals, Finishes, Refuses, turned_if, Turns, Accepts}
+use Rattle.run_settle.specs.Views.{signalled_words, Signals, Finishes, Refuses, turned_if, Turns, Accepts}
 
 -- ---- signal
 
 pub signals-words : (s s' : List ℕ) (silent set' fenced : Bool) (completed flag : ℕ) → silent ≡ set_in (get_or s 17 0) → set' ≡ set_in (get_or s 6 0)
     → fenced ≡ (set' || (ltb (get_or s 5 0) (get_or s 16 0) && not silent)) → completed ≡ larger (get_or s 5 0) (get_or s 16 0) → flag ≡ flag_of fenced
     → s' ≡ rested (set (set s 5 completed) 6 flag) → Signals s s'
-unfolding signalled-words
+unfolding signalled_words
 signals-words s s' silent set' fenced completed flag a b c d e f = record { words = rw (f, d, e, c, b, a) }
 
 pub ruleset signalling = (signals-words, rules)
 
 -- ---- finish
 
-pub finishes : (s s' m m' : List ℕ) (j : Job) → j ≡ job_in s → Signals s s' → m' ≡ page_put (get_or s' 4 0) (get_or s' 5 0) (head-written j m) → Finishes s m s' m'
+pub finishes : (s s' m m' : List ℕ) (j : Job) → j ≡ job_in s → Signals s s' → m' ≡ page_put (get_or s' 4 0) (get_or s' 5 0) (head_written j m) → Finishes s m s' m'
 finishes s s' m m' j is w p =
     record {
       words = w.words;
-      mem = p ∙ (rw (w.words, is) (marks-as (registers_in (signalled-words s)) (job_in s) m));
+      mem = p ∙ (rw (w.words, is) (marks-as (registers_in (signalled_words s)) (job_in s) m));
     }
 
 pub ruleset finishing = (finishes, rules)
@@ -48,17 +48,17 @@ faulted_words code errors place s = set (set (set (set (set s 7 1) 9 code) 10 (g
 pub refuses : (s s' m m' : List ℕ) (why : Fault) (code low more errors place : ℕ) → length s ≡ 36 → low ≡ small_in (get_or s 11 0) → more ≡ one_more low → (errors ≡ more) × (errors < 4294967296)
     → (code ≡ why.code) × (code < 4294967296) → (place ≡ why.place) × (place < 4294967296)
     → Finishes (set (set (set (set (set s 7 1) 9 code) 10 (get_or s 16 0)) 11 errors) 30 place) m s' m' → Refuses s m why s' m'
-unfolding worldIn settled ended_by signalled faulted signalled-words rested
+unfolding world_in settled ended_by signalled faulted signalled_words rested
 refuses s s' m m' why code low more errors place long is-low is-more is-errors is_code is-place f =
     record {
       world = λ e r h dt ot c.
           rw (f.words, f.mem)
-          (spell (λ w. worldIn (signalled-words (faulted_words code errors place w)) e r h dt ot c (marked (job_in (faulted_words code errors place w)) (registers_in (signalled-words (faulted_words code errors place w))) m)) s long
+          (spell (λ w. world_in (signalled_words (faulted_words code errors place w)) e r h dt ot c (marked (job_in (faulted_words code errors place w)) (registers_in (signalled_words (faulted_words code errors place w))) m)) s long
           ∙ rw (set-flag (set_in (get_or s 6 0) || (ltb (get_or s 5 0) (get_or s 16 0) && not (set_in (get_or s 17 0)))), small-as code why.code is_code, small-as errors more is-errors, is-more, is-low, small-as place why.place is-place));
-      side = rw f.words (spell (λ w. sides_in (signalled-words (faulted_words code errors place w))) s long);
+      side = rw f.words (spell (λ w. sides_in (signalled_words (faulted_words code errors place w))) s long);
       rests =
           rw f.words
-          (spell (λ w. signalled-words (faulted_words code errors place w)) s long ∙ sym (spell (λ w. rested (signalled-words (faulted_words code errors place w))) s long));
+          (spell (λ w. signalled_words (faulted_words code errors place w)) s long ∙ sym (spell (λ w. rested (signalled_words (faulted_words code errors place w))) s long));
     }
 
 pub ruleset refusing = (refuses, rules)
@@ -94,14 +94,14 @@ turned_words side tside s = set (set (set (set s 28 side) 34 tside) 25 (get_or s
 accepts-turned : (s s' m m' : List ℕ) (side tside : ℕ) → length s ≡ 36 → set_in side ≡ turned_if (set_in (get_or s 28 0)) (set_in (get_or s 29 0))
     → set_in tside ≡ turned_if (set_in (get_or s 34 0)) (set_in (get_or s 35 0))
     → Finishes (set (set (set (set s 28 side) 34 tside) 25 (get_or s 26 0)) 32 (get_or s 33 0)) m s' m' → Accepts s m s' m'
-unfolding worldIn settled ended_by signalled signalled-words rested
+unfolding world_in settled ended_by signalled signalled_words rested
 accepts-turned s s' m m' side tside long turned tturned f =
     record {
       world = λ e a b ft st c.
           rw (f.words, f.mem)
-          (spell (λ w. desk_in (signalled-words (turned_words side tside w)) e a b ft st c (marked (job_in (turned_words side tside w)) (registers_in (signalled-words (turned_words side tside w))) m)) s long
+          (spell (λ w. desk_in (signalled_words (turned_words side tside w)) e a b ft st c (marked (job_in (turned_words side tside w)) (registers_in (signalled_words (turned_words side tside w))) m)) s long
           ∙ rw (set-flag (set_in (get_or s 6 0) || (ltb (get_or s 5 0) (get_or s 16 0) && not (set_in (get_or s 17 0)))), turned, turned_rows (set_in (get_or s 28 0)) (set_in (get_or s 29 0)) a b, tturned, turned_rows (set_in (get_or s 34 0)) (set_in (get_or s 35 0)) ft st));
-      rests = rw f.words (spell (λ w. signalled-words (turned_words side tside w)) s long ∙ sym (spell (λ w. rested (signalled-words (turned_words side tside w))) s long));
+      rests = rw f.words (spell (λ w. signalled_words (turned_words side tside w)) s long ∙ sym (spell (λ w. rested (signalled_words (turned_words side tside w))) s long));
     }
 
 pub accepts : (s s₁ s₂ s' m m' : List ℕ) → length s ≡ 36 → Turns 28 29 s s₁ → Turns 34 35 s₁ s₂ → Finishes (set (set s₂ 25 (get_or s 26 0)) 32 (get_or s 33 0)) m s' m' → Accepts s m s' m'

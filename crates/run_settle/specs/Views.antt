@@ -6,26 +6,26 @@ use Rattle.rules.specs.Packets.{left_by}
 use Rattle.rules.specs.Shapes.{larger}
 use Rattle.rules.specs.Settle.{marked, settled, settled_keeping}
 use Rattle.rules.specs.declared.Fault.{Fault}
-use Rattle.run_state.specs.Views.{set_in, flag_of, registers_in, job_in, held_in, worldIn, bare_in, rested, Rests, side_in, token_side_in, sides_in, desk_in}
+use Rattle.run_state.specs.Views.{set_in, flag_of, registers_in, job_in, held_in, world_in, bare_in, rested, Rests, side_in, token_side_in, sides_in, desk_in}
 
 -- the words with the job's fence signalled, and nothing in work
-unfoldable pub signalled-words : List ℕ → List ℕ
-signalled-words s =
+unfoldable pub signalled_words : List ℕ → List ℕ
+signalled_words s =
     rested
     (set (set s 5 (larger (get_or s 5 0) (get_or s 16 0))) 6
     (flag_of (set_in (get_or s 6 0) || (ltb (get_or s 5 0) (get_or s 16 0) && not (set_in (get_or s 17 0))))))
 
 pub record Signals (s s' : List ℕ) : Type 0 where
-  pub words : s' ≡ signalled-words s
+  pub words : s' ≡ signalled_words s
 
 pub record Finishes (s m s' m' : List ℕ) : Type 0 where
-  pub words : s' ≡ signalled-words s
-  pub mem : m' ≡ marked (job_in s) (registers_in (signalled-words s)) m
+  pub words : s' ≡ signalled_words s
+  pub mem : m' ≡ marked (job_in s) (registers_in (signalled_words s)) m
 
 -- the submission in work settled with a broken rule and its place, whatever the rows are; the same tables stay the device's, and no word
 -- is left of the work
 pub record Refuses (s m : List ℕ) (why : Fault) (s' m' : List ℕ) : Type 0 where
-  pub world : (e r h dt ot c : List ℕ) → worldIn s' e r h dt ot c m' ≡ settled_keeping (job_in s) (broken why) (bare_in s r dt m)
+  pub world : (e r h dt ot c : List ℕ) → world_in s' e r h dt ot c m' ≡ settled_keeping (job_in s) (broken why) (bare_in s r dt m)
   pub side : sides_in s' ≡ sides_in s
   pub rests : Rests s'
 

@@ -12,10 +12,10 @@ use Rattle.packet_held.specs.Held.{held_of, packet_of}
 use Rattle.packet_held.specs.declared.tokens.HeldTokens.{HeldTokens}
 use Rattle.packet_apply_shared.specs.Shared.{Shares}
 use Rattle.packet_apply_shared.specs.declared.Shared.{Shared}
-use Rattle.run_packets.specs.Playing.{packet_tables, playing, shared_step, placeAfter, after-plays, after-held}
+use Rattle.run_packets.specs.Playing.{packet_tables, playing, shared_step, place_after, after-plays, after-held}
 use Rattle.run_packets.specs.declared.PacketsPlace.{PacketsPlace}
 use Rattle.run_packets.specs.declared.Left.{Left}
-use Rattle.run_state.specs.Views.{set_in, tokenCountIn, tag_in, job_in, stream_in, kept_in, held_tokens_in, bare_in, sides_in, token_side_in}
+use Rattle.run_state.specs.Views.{set_in, token_count_in, tag_in, job_in, stream_in, kept_in, held_tokens_in, bare_in, sides_in, token_side_in}
 use Rattle.run_state.specs.Reading.{token-count-as}
 use Rattle.run_state.specs.Spelled.{spell}
 use Rattle.run_shared.specs.declared.SharedStep.{SharedStep}
@@ -27,7 +27,7 @@ pub record TokensHeldIn (s : List ℕ) (t : HeldTokens) : Type 0 where
   pub tokens : (dt ot : List ℕ) → tokens_held t dt ot ≡ held_tokens_in s dt ot
   pub room : t.used ≤ most_tokens
 
-pub held-are : (s : List ℕ) (used own : ℕ) → (used ≡ tokenCountIn (get_or s 33 0)) × (used ≤ most_tokens) → set_in own ≡ set_in (get_or s 35 0) → TokensHeldIn s (record { used = used; copied = own })
+pub held-are : (s : List ℕ) (used own : ℕ) → (used ≡ token_count_in (get_or s 33 0)) × (used ≤ most_tokens) → set_in own ≡ set_in (get_or s 35 0) → TokensHeldIn s (record { used = used; copied = own })
 held-are s used own i j = record { tokens = λ dt ot. rw (i.0, j); room = i.1 }
 
 pub ruleset finding_tokens = (held-are, rules)
@@ -72,7 +72,7 @@ pub record SharedStepped (end : ℕ) (r h dt ot : List ℕ) (p : PacketsPlace) (
   pub tokens : x.tokens.used ≤ most_tokens
 
 pub shared-stepped : (end : ℕ) (r h dt ot h' ot' : List ℕ) (p q : PacketsPlace) (y : Left) (u : HeldTokens) (x : Shared) → Shares p.held u r h dt ot (packet_of y.packet) x h' ot'
-    → q ≡ placeAfter p.at y.next end x.changed → SharedStepped end r h dt ot p y u (record { place = q; tokens = x.tokens }) h' ot'
+    → q ≡ place_after p.at y.next end x.changed → SharedStepped end r h dt ot p y u (record { place = q; tokens = x.tokens }) h' ot'
 shared-stepped end r h dt ot h' ot' p q y u x s is =
     let held = after-held p.at y.next end x.changed (packet_tables h r h' h) (tokens_held u dt ot) in
     rw is

@@ -10,7 +10,7 @@ use Rattle.rows.specs.Rows.{table-zero}
 use Rattle.kept_entries.specs.Views.{entries_of}
 use Rattle.kept_resources.specs.Views.{resources_of, records_of}
 use Rattle.kept_tokens.specs.Views.{tokens_of}
-use Rattle.run_state.specs.Views.{set_in, flag_of, small_in, countIn, tokenCountIn, job_in, table_in, stream_in}
+use Rattle.run_state.specs.Views.{set_in, flag_of, small_in, count_in, token_count_in, job_in, table_in, stream_in}
 
 -- ---- one word
 
@@ -51,47 +51,47 @@ flag-as n b p = rw p (by b)
 pub small-as : (x y : ℕ) → (x ≡ y) × (x < 4294967296) → small_in x ≡ y
 small-as x y p = mod-eq_of_lt p.1 ∙ p.0
 
-pub many : (x : ℕ) → 64 < x → (64 ≡ countIn x) × (64 ≤ most)
-unfolding countIn
+pub many : (x : ℕ) → 64 < x → (64 ≡ count_in x) × (64 ≤ most)
+unfolding count_in
 many x h = (rw (lt-ltb most x h), omega arith)
 
-pub few : (x : ℕ) → x ≤ 64 → (x ≡ countIn x) × (x ≤ most)
-unfolding countIn
+pub few : (x : ℕ) → x ≤ 64 → (x ≡ count_in x) × (x ≤ most)
+unfolding count_in
 few x h = (rw (le-ltb most x h), h)
 
-pub many-tokens : (x : ℕ) → 256 < x → (256 ≡ tokenCountIn x) × (256 ≤ most_tokens)
-unfolding tokenCountIn
+pub many-tokens : (x : ℕ) → 256 < x → (256 ≡ token_count_in x) × (256 ≤ most_tokens)
+unfolding token_count_in
 many-tokens x h = (rw (lt-ltb most_tokens x h), omega arith)
 
-pub few-tokens : (x : ℕ) → x ≤ 256 → (x ≡ tokenCountIn x) × (x ≤ most_tokens)
-unfolding tokenCountIn
+pub few-tokens : (x : ℕ) → x ≤ 256 → (x ≡ token_count_in x) × (x ≤ most_tokens)
+unfolding token_count_in
 few-tokens x h = (rw (le-ltb most_tokens x h), h)
 
 pub ruleset reading_word = (marks-none, marks-set, unset, is_set, set-test, flagged, unflagged, many, few, many-tokens, few-tokens, rules)
 
 -- a count that was stored is read
-pub count-as : (x n : ℕ) → (x ≡ n) × (x < 18446744073709551616) → n ≤ most → countIn x ≡ n
+pub count-as : (x n : ℕ) → (x ≡ n) × (x < 18446744073709551616) → n ≤ most → count_in x ≡ n
 count-as x n p h = sym (few x (omega arith)).0 ∙ p.0
 
-pub token-count-as : (x n : ℕ) → (x ≡ n) × (x < 18446744073709551616) → n ≤ most_tokens → tokenCountIn x ≡ n
+pub token-count-as : (x n : ℕ) → (x ≡ n) × (x < 18446744073709551616) → n ≤ most_tokens → token_count_in x ≡ n
 token-count-as x n p h = sym (few-tokens x (omega arith)).0 ∙ p.0
 
 -- a count of 0 is no row
 module _ (l : List ℕ) where
-  pub none_kept : entries_of (countIn 0) l ≡ []
-  unfolding countIn
+  pub none_kept : entries_of (count_in 0) l ≡ []
+  unfolding count_in
   none_kept = table-zero _ _ l
 
-  pub none-live : resources_of (countIn 0) l ≡ []
-  unfolding countIn
+  pub none-live : resources_of (count_in 0) l ≡ []
+  unfolding count_in
   none-live = table-zero _ _ l
 
-  pub none_made : records_of (countIn 0) l ≡ []
-  unfolding countIn
+  pub none_made : records_of (count_in 0) l ≡ []
+  unfolding count_in
   none_made = table-zero _ _ l
 
-  pub none-used : tokens_of (tokenCountIn 0) l ≡ []
-  unfolding tokenCountIn
+  pub none-used : tokens_of (token_count_in 0) l ≡ []
+  unfolding token_count_in
   none-used = table-zero _ _ l
 
 -- ---- some words

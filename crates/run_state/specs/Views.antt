@@ -32,11 +32,11 @@ abbrev pub small_in : ℕ → ℕ
 small_in x = x % 4294967296
 
 -- a count above the rows that there are means all of them
-unfoldable pub countIn : ℕ → ℕ
-countIn x = pick (ltb most x) most x
+unfoldable pub count_in : ℕ → ℕ
+count_in x = pick (ltb most x) most x
 
-unfoldable pub tokenCountIn : ℕ → ℕ
-tokenCountIn x = pick (ltb most_tokens x) most_tokens x
+unfoldable pub token_count_in : ℕ → ℕ
+token_count_in x = pick (ltb most_tokens x) most_tokens x
 
 -- ---- some words
 
@@ -66,20 +66,20 @@ place_in s = get_or s 23 0
 -- ---- words with the rows of tables
 
 abbrev pub kept_in : List ℕ → List ℕ → List Entry
-kept_in s e = entries_of (countIn (get_or s 24 0)) e
+kept_in s e = entries_of (count_in (get_or s 24 0)) e
 
 -- the device's resources and tokens, by the rows of its tables
 abbrev pub belongings_in : List ℕ → List ℕ → List ℕ → Belongings
 belongings_in s r dt =
-    record { resources = resources_of (countIn (get_or s 25 0)) r; tokens = tokens_of (tokenCountIn (get_or s 32 0)) dt }
+    record { resources = resources_of (count_in (get_or s 25 0)) r; tokens = tokens_of (token_count_in (get_or s 32 0)) dt }
 
 -- the submission's tokens: rows of the device's table until it has its own
 abbrev pub held_tokens_in : List ℕ → List ℕ → List ℕ → List Token
-held_tokens_in s dt ot = tokens_of (tokenCountIn (get_or s 33 0)) (pick (set_in (get_or s 35 0)) ot dt)
+held_tokens_in s dt ot = tokens_of (token_count_in (get_or s 33 0)) (pick (set_in (get_or s 35 0)) ot dt)
 
 -- what the submission holds and its target, with these tokens: resources, too, are rows of the device's table until it has its own
 abbrev pub held_with : List ℕ → List ℕ → List ℕ → List ℕ → List Token → Progress
-held_with s r h c ts = progress_of (small_in (get_or s 31 0)) (countIn (get_or s 26 0)) (pick (set_in (get_or s 29 0)) h r) (countIn (get_or s 27 0)) c ts
+held_with s r h c ts = progress_of (small_in (get_or s 31 0)) (count_in (get_or s 26 0)) (pick (set_in (get_or s 29 0)) h r) (count_in (get_or s 27 0)) c ts
 
 -- the same with its own tokens
 abbrev pub held_in : List ℕ → List ℕ → List ℕ → List ℕ → List ℕ → List ℕ → Progress
@@ -95,8 +95,8 @@ work_in s e r h dt ot c =
 
 -- words, the rows of entries, of the device's resources, of the submission's own, of the device's tokens, of the submission's own, of records; and
 -- the memory
-unfoldable pub worldIn : List ℕ → List ℕ → List ℕ → List ℕ → List ℕ → List ℕ → List ℕ → List ℕ → World
-worldIn s e r h dt ot c m =
+unfoldable pub world_in : List ℕ → List ℕ → List ℕ → List ℕ → List ℕ → List ℕ → List ℕ → List ℕ → World
+world_in s e r h dt ot c m =
     record {
       state = record { memory = get_or s 0 0; regs = registers_in s; belongings = belongings_in s r dt; work = work_in s e r h dt ot c };
       mem = m;
@@ -148,7 +148,7 @@ sides_in s = record { resources = get_or s 28 0; tokens = get_or s 34 0 }
 -- words, entries, the first and the second table of resources, the same of tokens, records; and the memory
 abbrev pub desk_in : List ℕ → List ℕ → List ℕ → List ℕ → List ℕ → List ℕ → List ℕ → List ℕ → World
 desk_in s e a b ft st c m =
-    worldIn s e (pick (side_in s) b a) (pick (side_in s) a b) (pick (token_side_in s) st ft) (pick (token_side_in s) ft st) c m
+    world_in s e (pick (side_in s) b a) (pick (side_in s) a b) (pick (token_side_in s) st ft) (pick (token_side_in s) ft st) c m
 
 -- all that a call on memory is lent, each part by its name
 pub record Lent : Type 0 where

@@ -2,7 +2,7 @@
 // nothing is ever asked of them. What changes is set in place by the crates above; what ends a submission's work stands here.
 ghost use Rattle.std.specs.Prelude.{◌≡◌, ◌≤◌};
 ghost use Rattle.rules.specs.Numbers.{most, most_tokens};
-ghost use Rattle.run_state.specs.Views.{set_in, flag_of, countIn, tokenCountIn, job_in, table_in, stream_in, rested};
+ghost use Rattle.run_state.specs.Views.{set_in, flag_of, count_in, token_count_in, job_in, table_in, stream_in, rested};
 
 use rules::{Job, Stream, Table};
 use words::low32;
@@ -126,7 +126,7 @@ pub fn mark(word: u64) -> u32
 
 // How many rows a word says; a count above 64 is 64.
 pub fn rows_in(word: u64) -> usize
-    ensures { (result ≡ countIn word) × (result ≤ most) }
+    ensures { (result ≡ count_in word) × (result ≤ most) }
 {
     if 64 < word {
         return 64;
@@ -136,7 +136,7 @@ pub fn rows_in(word: u64) -> usize
 
 // How many tokens a word says; a count above 256 is 256.
 pub fn tokens_in(word: u64) -> u32
-    ensures { (result ≡ tokenCountIn word) × (result ≤ most_tokens) }
+    ensures { (result ≡ token_count_in word) × (result ≤ most_tokens) }
 {
     if 256 < word {
         return 256;

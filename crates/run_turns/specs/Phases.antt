@@ -9,13 +9,13 @@ use Rattle.machine.specs.Machine.{pick}
 use Rattle.rules.specs.Numbers.{bad_entry}
 use Rattle.rules.specs.Judging.{refusal, at_place}
 use Rattle.rules.specs.Layouts.{entry, stream_header_size}
-use Rattle.rules.specs.Table.{entry_place, entry-rules, keep, in_reach, take-entry}
+use Rattle.rules.specs.Table.{entry_place, entry_rules, keep, in_reach, take_entry}
 use Rattle.rules.specs.Stream.{stream_bytes}
-use Rattle.rules.specs.Packets.{Progress, at_first, take-packet}
+use Rattle.rules.specs.Packets.{Progress, at_first, take_packet}
 use Rattle.rules.specs.State.{Work, World, working}
 use Rattle.rules.specs.State.Work.{entries, packets, waiting}
 use Rattle.rules.specs.Settle.{settled}
-use Rattle.rules.specs.Steps.{go, step, packets_at, entry-step, after_entry, packet_step, after_packet, next_place}
+use Rattle.rules.specs.Steps.{go, step, packets_at, entry_step, after_entry, packet_step, after_packet, next_place}
 use Rattle.rules.specs.declared.Entry.{Entry}
 use Rattle.rules.specs.declared.Job.{Job}
 use Rattle.rules.specs.declared.Table.{Table}
@@ -27,7 +27,7 @@ use Rattle.rules.specs.declared.Verdict.TheVariants.{Fine, Broken as BrokenRule}
 use Rattle.run_entries.specs.Ending.{Ending, onward}
 use Rattle.run_entries.specs.Ending.Ending.{Going, Done, Broken}
 use Rattle.run_entries.specs.Entries.{Reading, reading_goes, read_on, read_step}
-use Rattle.run_packets.specs.Playing.{Playing, playing_goes, play_on, play-step, PacketsRan, packet_tables}
+use Rattle.run_packets.specs.Playing.{Playing, playing_goes, play_on, play_step, PacketsRan, packet_tables}
 use Rattle.run_packets.specs.declared.PacketsPlace.{PacketsPlace}
 use Rattle.run_packets.specs.declared.PacketsRun.{PacketsRun}
 use Rattle.run_after_phase.specs.Views.{laid_on, laid, played_on, played}
@@ -71,9 +71,9 @@ pub ruleset playing = (played-part, rules)
 -- ---- the phases within the device
 
 -- an entry that is refused is not kept, so as many are kept as its index says
-refused-not-kept : (m : List ℕ) (t : Table) (kept : List Entry) (r : Refusal) → (take-entry m t kept).verdict ≡ BrokenRule r → length (take-entry m t kept).kept ≡ length kept
-unfolding take-entry
-refused-not-kept m t kept r = by_tests (in_reach m t (length kept)) (entry-rules (length m) kept (entry m (entry_place t (length kept))))
+refused-not-kept : (m : List ℕ) (t : Table) (kept : List Entry) (r : Refusal) → (take_entry m t kept).verdict ≡ BrokenRule r → length (take_entry m t kept).kept ≡ length kept
+unfolding take_entry
+refused-not-kept m t kept r = by_tests (in_reach m t (length kept)) (entry_rules (length m) kept (entry m (entry_place t (length kept))))
   where
     by_tests : (b : Bool) (v : Verdict)
         → (pick b (keep v kept (entry m (entry_place t (length kept)))) (record { verdict = BrokenRule (refusal bad_entry); kept = kept })).verdict ≡ BrokenRule r
@@ -103,13 +103,13 @@ module _ (w : World) (on : w.state.regs.enabled ≡ true) (o : Opened) where
   read-lays k n kept (BrokenRule r) same = rw (same r refl)
 
   pub entries-step : (p : Reading) → reading_goes p ≡ true → step (laid w o p) ≡ laid w o (read_step w.mem o.table p)
-  unfolding step entry-step read_step
+  unfolding step entry_step read_step
   entries-step p g = by-ending p.ending g
     where
       by-ending : (e : Ending) → onward e ≡ true
-          → step (laid_on w o p.kept e) ≡ laid w o (read_on o.table.count (take-entry w.mem o.table p.kept).verdict (take-entry w.mem o.table p.kept).kept)
+          → step (laid_on w o p.kept e) ≡ laid w o (read_on o.table.count (take_entry w.mem o.table p.kept).verdict (take_entry w.mem o.table p.kept).kept)
       by-ending Going h =
-          read-lays (entries o p.kept) (length p.kept) (take-entry w.mem o.table p.kept).kept (take-entry w.mem o.table p.kept).verdict
+          read-lays (entries o p.kept) (length p.kept) (take_entry w.mem o.table p.kept).kept (take_entry w.mem o.table p.kept).verdict
           (refused-not-kept w.mem o.table p.kept)
       by-ending Done h = absurd (let z : ◌≡◌ {A = ℕ} 0 1 = cc in omega arith)
       by-ending (Broken r) h = absurd (let z : ◌≡◌ {A = ℕ} 0 1 = cc in omega arith)
@@ -138,12 +138,12 @@ module _ (w : World) (on : w.state.regs.enabled ≡ true) (j : Job) (t : Stream)
   abbrev left_at : Playing → List ℕ
   left_at p = drop p.at (stream_bytes w.mem t)
 
-  pub packets-step : (p : Playing) → playing_goes p ≡ true → step (played w j t es p) ≡ played w j t es (play-step es (stream_bytes w.mem t) t.size p)
-  unfolding step packet_step play-step
+  pub packets-step : (p : Playing) → playing_goes p ≡ true → step (played w j t es p) ≡ played w j t es (play_step es (stream_bytes w.mem t) t.size p)
+  unfolding step packet_step play_step
   packets-step p g = by-ending p.ending g
     where
       by-ending : (e : Ending) → onward e ≡ true
-          → step (played_on w j t es p e) ≡ played w j t es (play_on p.at (next_place p.at (left_at p)) t.size (take-packet es p.held (left_at p)).held (take-packet es p.held (left_at p)).verdict)
-      by-ending Going h = play-lays (packets j t p.at es p.held) p.at (next_place p.at (left_at p)) (take-packet es p.held (left_at p)).held (take-packet es p.held (left_at p)).verdict
+          → step (played_on w j t es p e) ≡ played w j t es (play_on p.at (next_place p.at (left_at p)) t.size (take_packet es p.held (left_at p)).held (take_packet es p.held (left_at p)).verdict)
+      by-ending Going h = play-lays (packets j t p.at es p.held) p.at (next_place p.at (left_at p)) (take_packet es p.held (left_at p)).held (take_packet es p.held (left_at p)).verdict
       by-ending Done h = absurd (let z : ◌≡◌ {A = ℕ} 0 1 = cc in omega arith)
       by-ending (Broken r) h = absurd (let z : ◌≡◌ {A = ℕ} 0 1 = cc in omega arith)

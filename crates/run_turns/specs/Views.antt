@@ -1,7 +1,7 @@
 -- What a turn comes to: so many units of the rules' step machine, on a device's words and tables; the same tables
 -- stay the device's.
 use Rattle.std.specs.Prelude.{◌≡◌, true, List, ℕ, ◌-◌, ◌≤◌, ◌<◌}
-use Rattle.machine.specs.Machine.{pick, spent, runFor}
+use Rattle.machine.specs.Machine.{pick, spent, run_while}
 use Rattle.machine.specs.Within.{Turned}
 use Rattle.rules.specs.Numbers.{most}
 use Rattle.rules.specs.Stream.{stream_bytes}
@@ -9,11 +9,11 @@ use Rattle.rules.specs.State.{World}
 use Rattle.rules.specs.Steps.{go, step}
 use Rattle.rules.specs.declared.Token.{Token}
 use Rattle.run_entries.specs.Ending.Ending.{Going}
-use Rattle.run_packets.specs.Playing.{Playing, playing_goes, play-step, PacketTables, packet_tables, playing, shared_step}
+use Rattle.run_packets.specs.Playing.{Playing, playing_goes, play_step, PacketTables, packet_tables, playing, shared_step}
 use Rattle.run_packets.specs.declared.PacketsPlace.{PacketsPlace}
 use Rattle.run_packets.specs.declared.PacketsRun.{PacketsRun}
 use Rattle.run_shared.specs.Shared.{SameButTokens}
-use Rattle.run_state.specs.Views.{registers_in, stream_in, place_in, kept_in, held_tokens_in, held_with, worldIn, sides_in, token_side_in}
+use Rattle.run_state.specs.Views.{registers_in, stream_in, place_in, kept_in, held_tokens_in, held_with, world_in, sides_in, token_side_in}
 use Rattle.packet_held.specs.Held.{held_of}
 use Rattle.packet_held.specs.declared.held.Held.{Held}
 
@@ -37,8 +37,8 @@ abbrev pub other_tokens : List ℕ → Tables → List ℕ
 other_tokens s t = pick (token_side_in s) t.first_tokens t.second_tokens
 
 -- the device in the words and the tables, and the memory beside it
-unfoldable pub worldWith : List ℕ → Tables → List ℕ → World
-worldWith s t m = worldIn s t.entries t.resources t.own (device_tokens s t) (other_tokens s t) t.records m
+unfoldable pub world_with : List ℕ → Tables → List ℕ → World
+world_with s t m = world_in s t.entries t.resources t.own (device_tokens s t) (other_tokens s t) t.records m
 
 -- what the submission in work holds, read from the words, whatever the rows are; its rows are there
 pub record HeldIn (s : List ℕ) (k : Held) : Type 0 where
@@ -52,13 +52,13 @@ playing_in s t ts = record { at = place_in s; held = held_with s t.resources t.o
 
 -- one unit of the phase of packets of the submission in the words, by the entries kept and the memory
 abbrev pub step_in : List ℕ → List ℕ → List ℕ → Playing → Playing
-step_in s e m = play-step (kept_in s e) (stream_bytes m (stream_in s)) (stream_in s).size
+step_in s e m = play_step (kept_in s e) (stream_bytes m (stream_in s)) (stream_in s).size
 
 -- a run from there is what it says; or it is left at a packet, the last of the units that it says
 pub record PlaysWords (s : List ℕ) (allowance : ℕ) (m : List ℕ) (t : PacketTables) (x : PacketsRun) (t' : PacketTables) : Type 0 where
-  pub run : (x.place.ending ≡ 3 → ⊥) → (ts : List Token) → record { state = playing x.place t' ts; units = x.units } ≡ runFor playing_goes (step_in s t.entries m) allowance (playing_in s t ts)
-  pub left : x.place.ending ≡ 3 → (ts : List Token) → runFor playing_goes (step_in s t.entries m) allowance (playing_in s t ts)
-      ≡ spent x.units (runFor playing_goes (step_in s t.entries m) (allowance - x.units) (shared_step (kept_in s t.entries) (stream_in s).size x.place x.left t' ts))
+  pub run : (x.place.ending ≡ 3 → ⊥) → (ts : List Token) → record { state = playing x.place t' ts; units = x.units } ≡ run_while playing_goes (step_in s t.entries m) allowance (playing_in s t ts)
+  pub left : x.place.ending ≡ 3 → (ts : List Token) → run_while playing_goes (step_in s t.entries m) allowance (playing_in s t ts)
+      ≡ spent x.units (run_while playing_goes (step_in s t.entries m) (allowance - x.units) (shared_step (kept_in s t.entries) (stream_in s).size x.place x.left t' ts))
   pub some : x.place.ending ≡ 3 → (0 < x.units) × (x.units ≤ allowance)
   pub live : x.place.held.live ≤ most
   pub made : x.place.held.made ≤ most
@@ -75,7 +75,7 @@ pub record PlaysShared (s : List ℕ) (left : ℕ) (m : List ℕ) (t : Tables) (
 
 -- words, tables and memory; the units; and what then stands
 pub record TurnOf (left : ℕ) (s : List ℕ) (t : Tables) (m : List ℕ) (units : ℕ) (s' : List ℕ) (t' : Tables) (m' : List ℕ) : Type 0 where
-  pub turned : Turned go step left (worldWith s t m) (worldWith s' t' m') units
+  pub turned : Turned go step left (world_with s t m) (world_with s' t' m') units
   pub side : sides_in s' ≡ sides_in s
 
 -- of the entries, on an enabled device and whatever the tables are that it is not lent

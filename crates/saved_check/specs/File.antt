@@ -5,7 +5,7 @@ use Rattle.std.proofs.Math.Bool.{true, false}
 use Rattle.machine.specs.Machine.{pick}
 use Rattle.rules.specs.Lists.{Found}
 use Rattle.rules.specs.Lists.Found.{none, found}
-use Rattle.rules.specs.Loaded.{Rule, first-broken, form_in, has_number, before-sections, sections, sections-rules, behind, file-rules, bad-place}
+use Rattle.rules.specs.Loaded.{Rule, first_broken, form_in, has_number, before_sections, sections, sections_rules, behind, file_rules, bad_place}
 use Rattle.rules.specs.declared.FileCheck.{FileCheck}
 use Rattle.rules.specs.declared.FileCheck.TheVariants.{Good, BadAt}
 use Rattle.saved_fields.specs.Judging.{checked, judged-first}
@@ -17,31 +17,31 @@ abbrev moved : ℕ → Found ℕ → Found ℕ
 moved n none = none
 moved n (found place) = found (n + place)
 
-first-behind : (n : ℕ) (rs : List Rule) → first-broken (behind n rs) ≡ moved n (first-broken rs)
-unfolding first-broken behind
+first-behind : (n : ℕ) (rs : List Rule) → first_broken (behind n rs) ≡ moved n (first_broken rs)
+unfolding first_broken behind
 first-behind n [] = refl
 first-behind n (r ∷ rs) = by r.broken (first-behind n rs)
   where
-    by : (v : Bool) → first-broken (behind n rs) ≡ moved n (first-broken rs)
-        → pick v (found (n + r.place)) (first-broken (behind n rs)) ≡ moved n (pick v (found r.place) (first-broken rs))
+    by : (v : Bool) → first_broken (behind n rs) ≡ moved n (first_broken rs)
+        → pick v (found (n + r.place)) (first_broken (behind n rs)) ≡ moved n (pick v (found r.place) (first_broken rs))
     by true later = refl
     by false later = later
 
 -- the rules of the sections tell the file's first broken one
-pub in-sections : (b : List ℕ) → bad-place b ≡ moved (before-sections b) (first-broken (sections-rules (form_in b) (sections b)))
-unfolding bad-place file-rules
-in-sections b = first-behind (before-sections b) (sections-rules (form_in b) (sections b))
+pub in-sections : (b : List ℕ) → bad_place b ≡ moved (before_sections b) (first_broken (sections_rules (form_in b) (sections b)))
+unfolding bad_place file_rules
+in-sections b = first-behind (before_sections b) (sections_rules (form_in b) (sections b))
 
 -- where the file is good, so are its sections
-pub sections-good : (b : List ℕ) → checked (bad-place b) ≡ Good → checked (first-broken (sections-rules (form_in b) (sections b))) ≡ Good
-sections-good b e = by (first-broken (sections-rules (form_in b) (sections b))) (ap checked (sym (in-sections b)) ∙ e)
+pub sections-good : (b : List ℕ) → checked (bad_place b) ≡ Good → checked (first_broken (sections_rules (form_in b) (sections b))) ≡ Good
+sections-good b e = by (first_broken (sections_rules (form_in b) (sections b))) (ap checked (sym (in-sections b)) ∙ e)
   where
-    by : (x : Found ℕ) → checked (moved (before-sections b) x) ≡ Good → checked x ≡ Good
+    by : (x : Found ℕ) → checked (moved (before_sections b) x) ≡ Good → checked x ≡ Good
     by none h = refl
     by (found place) h = cc
 
 -- the part of the file behind its number
-pub sections-part : (b : List ℕ) (n : ℕ) → n ≡ before-sections b → n ≤ length b → take (length b - n) (drop n b) ≡ sections b
+pub sections-part : (b : List ℕ) (n : ℕ) → n ≡ before_sections b → n ≤ length b → take (length b - n) (drop n b) ≡ sections b
 unfolding sections
 sections-part b n before room =
     let left : length (drop n b) ≡ length b - n = length-drop n b in
@@ -49,18 +49,18 @@ sections-part b n before room =
 
 -- ---- check_file
 
-module _ (b : List ℕ) (n : ℕ) (f : Form) (c : FileCheck) (before : n ≡ before-sections b) (room : n ≤ length b) (form : f ≡ form_in b)
-    (is : c ≡ checked (first-broken (sections-rules f (take (length b - n) (drop n b))))) where
+module _ (b : List ℕ) (n : ℕ) (f : Form) (c : FileCheck) (before : n ≡ before_sections b) (room : n ≤ length b) (form : f ≡ form_in b)
+    (is : c ≡ checked (first_broken (sections_rules f (take (length b - n) (drop n b))))) where
   abbrev broken : Found ℕ
-  broken = first-broken (sections-rules (form_in b) (sections b))
+  broken = first_broken (sections_rules (form_in b) (sections b))
 
   told : c ≡ checked broken
-  told = is ∙ (ap (λ x. checked (first-broken (sections-rules f x))) (sections-part b n before room) ∙ ap (λ x. checked (first-broken (sections-rules x (sections b)))) form)
+  told = is ∙ (ap (λ x. checked (first_broken (sections_rules f x))) (sections-part b n before room) ∙ ap (λ x. checked (first_broken (sections_rules x (sections b)))) form)
 
-  whole : checked (moved n broken) ≡ checked (bad-place b)
+  whole : checked (moved n broken) ≡ checked (bad_place b)
   whole = ap (λ k. checked (moved k broken)) before ∙ ap checked (sym (in-sections b))
 
-  pub no_number : n ≡ 0 → c ≡ checked (bad-place b)
+  pub no_number : n ≡ 0 → c ≡ checked (bad_place b)
   no_number z = told ∙ (by broken ∙ whole)
     where
       by : (x : Found ℕ) → checked x ≡ checked (moved n x)
@@ -69,7 +69,7 @@ module _ (b : List ℕ) (n : ℕ) (f : Form) (c : FileCheck) (before : n ≡ bef
           let same : place ≡ n + place = omega arith in
           ap BadAt same
 
-  pub good-behind : c ≡ Good → c ≡ checked (bad-place b)
+  pub good-behind : c ≡ Good → c ≡ checked (bad_place b)
   good-behind e = by broken (sym told ∙ e) ∙ whole
     where
       by : (x : Found ℕ) → checked x ≡ Good → c ≡ checked (moved n x)
@@ -78,7 +78,7 @@ module _ (b : List ℕ) (n : ℕ) (f : Form) (c : FileCheck) (before : n ≡ bef
 
   -- a number has four bytes
   four : (n ≡ 0 → ⊥) → n ≡ 4
-  unfolding before-sections
+  unfolding before_sections
   four some = by (has_number b) before
     where
       by : (v : Bool) → n ≡ pick v 4 0 → n ≡ 4
@@ -86,7 +86,7 @@ module _ (b : List ℕ) (n : ℕ) (f : Form) (c : FileCheck) (before : n ≡ bef
       by false h = absurd (some h)
 
   module _ (p : ℕ) (bad : c ≡ BadAt p) where
-    pub bad-behind : (n ≡ 0 → ⊥) → BadAt (p + 4) ≡ checked (bad-place b)
+    pub bad-behind : (n ≡ 0 → ⊥) → BadAt (p + 4) ≡ checked (bad_place b)
     bad-behind some = by broken (sym told ∙ bad) ∙ whole
       where
         by : (x : Found ℕ) → checked x ≡ BadAt p → BadAt (p + 4) ≡ checked (moved n x)
@@ -97,7 +97,7 @@ module _ (b : List ℕ) (n : ℕ) (f : Form) (c : FileCheck) (before : n ≡ bef
             ap BadAt here
 
     near : p ≤ 6760
-    near = subst Near (judged-first (sections-rules (form_in b) (sections b)) ∙ (sym told ∙ bad)) (near-sections (form_in b) (sections b))
+    near = subst Near (judged-first (sections_rules (form_in b) (sections b)) ∙ (sym told ∙ bad)) (near-sections (form_in b) (sections b))
 
     pub place-fits : p + 4 < 4294967296
     place-fits = omega (arith, near)

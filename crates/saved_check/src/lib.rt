@@ -2,9 +2,9 @@
 ghost use Rattle.std.specs.Prelude.{◌≡◌, ◌≤◌};
 ghost use Rattle.rules.specs.Numbers.{most};
 ghost use Rattle.rules.specs.Saved.{head_bytes};
-ghost use Rattle.rules.specs.Loaded.{resources-rules, first-broken, names_place, section-3-rules, sections-rules, bad-place};
+ghost use Rattle.rules.specs.Loaded.{resources_rules, first_broken, names_place, section_3_rules, sections_rules, bad_place};
 ghost use Rattle.rules.specs.declared.FileCheck.TheVariants.{Good};
-ghost use Rattle.saved_fields.specs.Judging.{checked, judge-rules};
+ghost use Rattle.saved_fields.specs.Judging.{checked, judge_rules};
 ghost use Rattle.saved_names.specs.Scan.{Standing, resources_of};
 ghost use Rattle.rules.specs.declared.Form.TheVariants.{Two};
 ghost use Rattle.saved_check.specs.Whole.{AllThere, later};
@@ -23,7 +23,7 @@ const NUMBER: u32 = 4;
 // So many resources, one after the other, the first of which stands there.
 fn check_resources(sofar: FileCheck, file: &[u8], first: u32, count: u32) -> FileCheck
     requires { (first ≤ head_bytes Two) × (count ≤ most) }
-    ensures { result ≡ judge-rules sofar (resources-rules count file.now first 0) }
+    ensures { result ≡ judge_rules sofar (resources_rules count file.now first 0) }
 {
     let mut check = sofar;
     let mut before: u32 = 0;
@@ -42,7 +42,7 @@ fn check_resources(sofar: FileCheck, file: &[u8], first: u32, count: u32) -> Fil
 // Sections 3 and 4 after so many good resources.
 fn check_shared(file: &[u8], count: u32) -> FileCheck
     requires { Standing file.now count }
-    ensures { result ≡ judge-rules Good (section-3-rules (resources_of file.now count) file.now (names_place Two count)) }
+    ensures { result ≡ judge_rules Good (section_3_rules (resources_of file.now count) file.now (names_place Two count)) }
 {
     let names = check_names(file, count);
     match names {
@@ -58,7 +58,7 @@ fn check_shared(file: &[u8], count: u32) -> FileCheck
 // What comes after so many resources. Where a rule before was broken, nothing more is looked at.
 fn check_later(sofar: FileCheck, file: &[u8], form: Form, count: u32) -> FileCheck
     requires { (count ≤ most) × AllThere file.now (names_place form count) sofar }
-    ensures { result ≡ judge-rules sofar (later form file.now count) }
+    ensures { result ≡ judge_rules sofar (later form file.now count) }
 {
     match form {
         Form::One => must_end(sofar, file.len(), HEAD_BYTES + RESOURCE_BYTES * count),
@@ -71,7 +71,7 @@ fn check_later(sofar: FileCheck, file: &[u8], form: Form, count: u32) -> FileChe
 
 // All sections of a file of this form. Where they say too many resources, nothing after that is looked at.
 fn check_sections(file: &[u8], form: Form) -> FileCheck
-    ensures { result ≡ checked (first-broken (sections-rules form file.now)) }
+    ensures { result ≡ checked (first_broken (sections_rules form file.now)) }
 {
     let more = REGISTER_BYTES * more_registers(form);
     let head = check_head(file, form);
@@ -85,7 +85,7 @@ fn check_sections(file: &[u8], form: Form) -> FileCheck
 
 // Judges a whole file. Places count from its first byte, its number included.
 pub fn check_file(file: &[u8]) -> FileCheck
-    ensures { result ≡ checked (bad-place file.now) }
+    ensures { result ≡ checked (bad_place file.now) }
 {
     let before = before_sections(file);
     let form = form_in(file);

@@ -7,7 +7,7 @@ use Rattle.rules.specs.Lists.{Found}
 use Rattle.rules.specs.Lists.Found.{none, found}
 use Rattle.rules.specs.Layouts.{word, long}
 use Rattle.words.specs.Fields.{le-add}
-use Rattle.rules.specs.Loaded.{Rule, missing, first-broken}
+use Rattle.rules.specs.Loaded.{Rule, missing, first_broken}
 use Rattle.rules.specs.declared.FileCheck.{FileCheck}
 use Rattle.rules.specs.declared.FileCheck.TheVariants.{Good, BadAt}
 
@@ -22,9 +22,9 @@ judge_rule Good r = pick r.broken (BadAt r.place) Good
 judge_rule (BadAt place) r = BadAt place
 
 -- and some more, in their order
-unfoldable pub judge-rules : FileCheck → List Rule → FileCheck
-judge-rules c [] = c
-judge-rules c (r ∷ rs) = judge-rules (judge_rule c r) rs
+unfoldable pub judge_rules : FileCheck → List Rule → FileCheck
+judge_rules c [] = c
+judge_rules c (r ∷ rs) = judge_rules (judge_rule c r) rs
 
 -- the rule of a field, in a file of so many bytes
 abbrev pub rule : ℕ → ℕ → Bool → Rule
@@ -40,22 +40,22 @@ seen b at = pick (missing b at) 0 (word b at)
 
 -- ---- laws
 
-pub once-bad : (place : ℕ) (rs : List Rule) → judge-rules (BadAt place) rs ≡ BadAt place
-unfolding judge-rules
+pub once-bad : (place : ℕ) (rs : List Rule) → judge_rules (BadAt place) rs ≡ BadAt place
+unfolding judge_rules
 once-bad place [] = refl
 once-bad place (r ∷ rs) = once-bad place rs
 
-pub judged-first : (rs : List Rule) → judge-rules Good rs ≡ checked (first-broken rs)
-unfolding judge-rules first-broken
+pub judged-first : (rs : List Rule) → judge_rules Good rs ≡ checked (first_broken rs)
+unfolding judge_rules first_broken
 judged-first [] = refl
 judged-first (r ∷ rs) = by r.broken (judged-first rs)
   where
-    by : (v : Bool) → judge-rules Good rs ≡ checked (first-broken rs) → judge-rules (pick v (BadAt r.place) Good) rs ≡ checked (pick v (found r.place) (first-broken rs))
+    by : (v : Bool) → judge_rules Good rs ≡ checked (first_broken rs) → judge_rules (pick v (BadAt r.place) Good) rs ≡ checked (pick v (found r.place) (first_broken rs))
     by true later = once-bad r.place rs
     by false later = later
 
-pub judged-append : (c : FileCheck) (xs ys : List Rule) → judge-rules c (xs ++ ys) ≡ judge-rules (judge-rules c xs) ys
-unfolding judge-rules
+pub judged-append : (c : FileCheck) (xs ys : List Rule) → judge_rules c (xs ++ ys) ≡ judge_rules (judge_rules c xs) ys
+unfolding judge_rules
 judged-append c [] ys = refl
 judged-append c (x ∷ xs) ys = judged-append (judge_rule c x) xs ys
 

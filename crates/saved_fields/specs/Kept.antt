@@ -6,14 +6,14 @@ use Rattle.machine.specs.Machine.{pick}
 use Rattle.rules.specs.Loaded.{Rule, must, missing}
 use Rattle.rules.specs.declared.FileCheck.{FileCheck}
 use Rattle.rules.specs.declared.FileCheck.TheVariants.{Good, BadAt}
-use Rattle.saved_fields.specs.Judging.{judge_rule, judge-rules, once-bad, judged-append}
+use Rattle.saved_fields.specs.Judging.{judge_rule, judge_rules, once-bad, judged-append}
 
-pub was-good : (c : FileCheck) (rs : List Rule) → judge-rules c rs ≡ Good → c ≡ Good
+pub was-good : (c : FileCheck) (rs : List Rule) → judge_rules c rs ≡ Good → c ≡ Good
 was-good Good rs e = refl
 was-good (BadAt place) rs e = sym (once-bad place rs) ∙ e
 
-pub front-good : (c : FileCheck) (xs ys : List Rule) → judge-rules c (xs ++ ys) ≡ Good → judge-rules c xs ≡ Good
-front-good c xs ys e = was-good (judge-rules c xs) ys (sym (judged-append c xs ys) ∙ e)
+pub front-good : (c : FileCheck) (xs ys : List Rule) → judge_rules c (xs ++ ys) ≡ Good → judge_rules c xs ≡ Good
+front-good c xs ys e = was-good (judge_rules c xs) ys (sym (judged-append c xs ys) ∙ e)
 
 pub kept : (c : FileCheck) (r : Rule) → judge_rule c r ≡ Good → r.broken ≡ false
 kept Good r e = by r.broken e
@@ -36,6 +36,6 @@ pub kept_there : (c : FileCheck) (b : List ℕ) (at : ℕ) (k : Bool) → judge_
 kept_there c b at k e = there b at k (kept c (must b at k) e)
 
 -- rules that are the same where all before them are kept
-pub same_after : (c : FileCheck) (xs ys : List Rule) → (c ≡ Good → xs ≡ ys) → judge-rules c xs ≡ judge-rules c ys
-same_after Good xs ys e = ap (judge-rules Good) (e refl)
+pub same_after : (c : FileCheck) (xs ys : List Rule) → (c ≡ Good → xs ≡ ys) → judge_rules c xs ≡ judge_rules c ys
+same_after Good xs ys e = ap (judge_rules Good) (e refl)
 same_after (BadAt place) xs ys e = once-bad place xs ∙ sym (once-bad place ys)

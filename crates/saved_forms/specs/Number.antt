@@ -3,7 +3,7 @@ use Rattle.std.specs.Prelude.{◌≡◌, refl, Bool, true, false, List, ℕ, ◌
 use Rattle.std.proofs.Math.Path.{sym}
 use Rattle.std.proofs.Common.{◌∙◌, arith, rules}
 use borrow.Author.Tests.{eq-eqb, ne_eqb, ltb-false}
-use Rattle.rules.specs.Loaded.{missing, first_field, form_in, before-sections}
+use Rattle.rules.specs.Loaded.{missing, first_field, form_in, before_sections}
 use Rattle.saved_fields.specs.Judging.{seen}
 use Rattle.rules.specs.declared.Form.TheVariants.{One, Two}
 
@@ -20,16 +20,16 @@ module _ (b : List ℕ) (n : ℕ) (is : n ≡ seen b 0) where
   pub is-form-1 : (n ≡ 2 → ⊥) → One ≡ form_in b
   is-form-1 e = rw (first, ne_eqb n 2 e)
 
-  pub numbered-1 : n ≡ 1 → 4 ≡ before-sections b
-  unfolding before-sections
+  pub numbered-1 : n ≡ 1 → 4 ≡ before_sections b
+  unfolding before_sections
   numbered-1 e = rw (first, eq-eqb n 1 e)
 
-  pub numbered-2 : (n ≡ 1 → ⊥) → n ≡ 2 → 4 ≡ before-sections b
-  unfolding before-sections
+  pub numbered-2 : (n ≡ 1 → ⊥) → n ≡ 2 → 4 ≡ before_sections b
+  unfolding before_sections
   numbered-2 e f = rw (first, ne_eqb n 1 e, eq-eqb n 2 f)
 
-  pub not-numbered : (n ≡ 1 → ⊥) → (n ≡ 2 → ⊥) → 0 ≡ before-sections b
-  unfolding before-sections
+  pub not-numbered : (n ≡ 1 → ⊥) → (n ≡ 2 → ⊥) → 0 ≡ before_sections b
+  unfolding before_sections
   not-numbered e f = rw (first, ne_eqb n 1 e, ne_eqb n 2 f)
 
   -- a number that is not 0 is all there

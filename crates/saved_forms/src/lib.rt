@@ -1,7 +1,7 @@
 // Which form a file has, and where its sections begin: "A first u32, 1 or 2, tells the forms apart; old files without it are form 1" (02, wish 11).
 ghost use Rattle.std.specs.Prelude.{◌≡◌, ◌≤◌, length};
 ghost use Rattle.rules.specs.Saved.{more_registers};
-ghost use Rattle.rules.specs.Loaded.{form_in, before-sections};
+ghost use Rattle.rules.specs.Loaded.{form_in, before_sections};
 
 use rules::Form;
 use saved_fields::field_at;
@@ -36,7 +36,7 @@ pub fn form_in(file: &[u8]) -> Form
 
 // The bytes before a file's sections.
 pub fn before_sections(file: &[u8]) -> usize
-    ensures { (result ≡ before-sections file.now) × (result ≤ length file.now) }
+    ensures { (result ≡ before_sections file.now) × (result ≤ length file.now) }
 {
     let first = field_at(file, 0);
     if first == NUMBER_1 {

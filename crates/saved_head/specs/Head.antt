@@ -12,7 +12,7 @@ use Rattle.rules.specs.Saved.{more_registers}
 use Rattle.rules.specs.Loaded.{Rule, must, any, good_code, good_error, detail_rules, head_rules}
 use Rattle.rules.specs.declared.FileCheck.{FileCheck}
 use Rattle.rules.specs.declared.FileCheck.TheVariants.{Good}
-use Rattle.saved_fields.specs.Judging.{judge_rule, judge-rules, rule, seen, same-rule, seen-there, zero-by-halves}
+use Rattle.saved_fields.specs.Judging.{judge_rule, judge_rules, rule, seen, same-rule, seen-there, zero-by-halves}
 use Rattle.rules.specs.declared.Form.{Form}
 use Rattle.rules.specs.declared.Form.TheVariants.{One, Two}
 
@@ -88,15 +88,15 @@ pub ruleset tying = (some-error, low-fence, high-fence, no-fence, rules)
 module _ (b : List ℕ) where
   pub judges-fixed : (n : ℕ) (c₁ c₂ c₃ c₄ c₅ : FileCheck) → c₁ ≡ judge_rule Good (must b 0 (eqb (word b 0) n)) → c₂ ≡ judge_rule c₁ (must b 4 (eqb (word b 4) device_magic))
       → c₃ ≡ judge_rule c₂ (must b 8 (eqb (word b 8) version)) → c₄ ≡ judge_rule c₃ (must b 12 (eqb (word b 12) features))
-      → c₅ ≡ judge_rule c₄ (must b 16 (eqb (word b 16) 0)) → c₅ ≡ judge-rules Good (fixed_rules n b)
-  unfolding judge-rules
+      → c₅ ≡ judge_rule c₄ (must b 16 (eqb (word b 16) 0)) → c₅ ≡ judge_rules Good (fixed_rules n b)
+  unfolding judge_rules
   judges-fixed n c₁ c₂ c₃ c₄ c₅ e₁ e₂ e₃ e₄ e₅ = rw (e₅, e₄, e₃, e₂, e₁)
 
   pub judges-ring : (c₀ c₁ c₂ c₃ c₄ c₅ c₆ c₇ c₈ : FileCheck) → c₁ ≡ judge_rule c₀ (any b 20) → c₂ ≡ judge_rule c₁ (any b 24)
       → c₃ ≡ judge_rule c₂ (any b 28) → c₄ ≡ judge_rule c₃ (must b 32 (leb (word b 32) 1))
       → c₅ ≡ judge_rule c₄ (any b 36) → c₆ ≡ judge_rule c₅ (any b 40) → c₇ ≡ judge_rule c₆ (any b 44) → c₈ ≡ judge_rule c₇ (any b 48)
-      → c₈ ≡ judge-rules c₀ (ring_rules b)
-  unfolding judge-rules
+      → c₈ ≡ judge_rules c₀ (ring_rules b)
+  unfolding judge_rules
   judges-ring c₀ c₁ c₂ c₃ c₄ c₅ c₆ c₇ c₈ e₁ e₂ e₃ e₄ e₅ e₆ e₇ e₈ = rw (e₈, e₇, e₆, e₅, e₄, e₃, e₂, e₁)
 
   module _ (code low high count : ℕ) (is_code : code ≡ seen b 60) (is-low : low ≡ seen b 64) (is-high : high ≡ seen b 68) (is-count : count ≡ seen b 72) where
@@ -111,25 +111,25 @@ module _ (b : List ℕ) where
     pub judges-status : (good tied : Bool) (c₀ c₁ c₂ c₃ c₄ c₅ c₆ : FileCheck) → c₁ ≡ judge_rule c₀ (must b 52 (leb (word b 52) 3)) → c₂ ≡ judge_rule c₁ (any b 56)
         → good ≡ good_code code → c₃ ≡ judge_rule c₂ (rule (length b) 60 good) → c₄ ≡ judge_rule c₃ (any b 64) → c₅ ≡ judge_rule c₄ (any b 68)
         → tied ≡ good_error_by_halves code low high count → c₆ ≡ judge_rule c₅ (rule (length b) 72 tied)
-        → c₆ ≡ judge-rules c₀ (status_rules b)
-    unfolding judge-rules
+        → c₆ ≡ judge_rules c₀ (status_rules b)
+    unfolding judge_rules
     judges-status good tied c₀ c₁ c₂ c₃ c₄ c₅ c₆ e₁ e₂ g e₃ e₄ e₅ t e₆ = rw (e₆, e₅, e₄, e₃, e₂, e₁, g, t, code-rule, error-rule)
 
   module _ (f : Form) (c r : FileCheck) where
-    pub no-detail : f ≡ One → c ≡ judge-rules c (detail_rules f b)
-    unfolding judge-rules
+    pub no-detail : f ≡ One → c ≡ judge_rules c (detail_rules f b)
+    unfolding judge_rules
     no-detail e = rw e
 
     module _ (two : f ≡ Two) (code : ℕ) (is : code ≡ seen b 60) where
-      pub no-code-detail : code ≡ 0 → r ≡ judge_rule c (must b 76 (eqb (word b 76) 0)) → r ≡ judge-rules c (detail_rules f b)
-      unfolding judge-rules
+      pub no-code-detail : code ≡ 0 → r ≡ judge_rule c (must b 76 (eqb (word b 76) 0)) → r ≡ judge_rules c (detail_rules f b)
+      unfolding judge_rules
       no-code-detail z e =
           rw two (e ∙ ap (judge_rule c) (same-rule (length b) 76 (eqb (word b 76) 0) (not (eqb (word b 60) 0) || eqb (word b 76) 0) (λ h.
           let zero : word b 60 ≡ 0 = rw (← seen-there b 60 (omega arith), ← is) z in
           rw (eq-eqb (word b 60) 0 zero))))
 
-      pub some-code-detail : (code ≡ 0 → ⊥) → r ≡ judge_rule c (any b 76) → r ≡ judge-rules c (detail_rules f b)
-      unfolding judge-rules
+      pub some-code-detail : (code ≡ 0 → ⊥) → r ≡ judge_rule c (any b 76) → r ≡ judge_rules c (detail_rules f b)
+      unfolding judge_rules
       some-code-detail n e =
           rw two (e ∙ ap (judge_rule c) (same-rule (length b) 76 true (not (eqb (word b 60) 0) || eqb (word b 76) 0) (λ h.
           let some : eqb (word b 60) 0 ≡ false = ne_eqb (word b 60) 0 (λ z. n (is ∙ (seen-there b 60 (omega arith) ∙ z))) in
@@ -137,14 +137,14 @@ module _ (b : List ℕ) where
 
   pub judges-memory : (at : ℕ) (c₀ c₁ c₂ c₃ c₄ : FileCheck) → c₁ ≡ judge_rule c₀ (any b at) → c₂ ≡ judge_rule c₁ (any b (at + 4))
       → c₃ ≡ judge_rule c₂ (must b (at + 8) (leb (word b (at + 8)) 1)) → c₄ ≡ judge_rule c₃ (must b (at + 12) (leb (word b (at + 12)) 64))
-      → c₄ ≡ judge-rules c₀ (memory_rules b at)
-  unfolding judge-rules
+      → c₄ ≡ judge_rules c₀ (memory_rules b at)
+  unfolding judge_rules
   judges-memory at c₀ c₁ c₂ c₃ c₄ e₁ e₂ e₃ e₄ = rw (e₄, e₃, e₂, e₁)
 
-  pub judges-head : (f : Form) (m : ℕ) (c₁ c₂ c₃ c₄ c₅ : FileCheck) → m ≡ more_registers f → c₁ ≡ judge-rules Good (fixed_rules (21 + m) b)
-      → c₂ ≡ judge-rules c₁ (ring_rules b) → c₃ ≡ judge-rules c₂ (status_rules b) → c₄ ≡ judge-rules c₃ (detail_rules f b)
-      → c₅ ≡ judge-rules c₄ (memory_rules b (76 + 4 * m)) → c₅ ≡ judge-rules Good (head_rules f b)
-  unfolding judge-rules
+  pub judges-head : (f : Form) (m : ℕ) (c₁ c₂ c₃ c₄ c₅ : FileCheck) → m ≡ more_registers f → c₁ ≡ judge_rules Good (fixed_rules (21 + m) b)
+      → c₂ ≡ judge_rules c₁ (ring_rules b) → c₃ ≡ judge_rules c₂ (status_rules b) → c₄ ≡ judge_rules c₃ (detail_rules f b)
+      → c₅ ≡ judge_rules c₄ (memory_rules b (76 + 4 * m)) → c₅ ≡ judge_rules Good (head_rules f b)
+  unfolding judge_rules
   judges-head One m c₁ c₂ c₃ c₄ c₅ n e₁ e₂ e₃ e₄ e₅ = rw (e₅, e₄, e₃, e₂, e₁, n)
   judges-head Two m c₁ c₂ c₃ c₄ c₅ n e₁ e₂ e₃ e₄ e₅ = rw (e₅, e₄, e₃, e₂, e₁, n)
 

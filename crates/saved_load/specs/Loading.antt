@@ -6,7 +6,7 @@ use Rattle.rules.specs.Lists.{Found}
 use Rattle.rules.specs.Lists.Found.{none, found}
 use Rattle.rules.specs.declared.FileCheck.{FileCheck}
 use Rattle.rules.specs.declared.FileCheck.TheVariants.{Good, BadAt}
-use Rattle.rules.specs.Loaded.{form_in, before-sections, bad-place, loaded, call-load}
+use Rattle.rules.specs.Loaded.{form_in, before_sections, bad_place, loaded, call_load}
 use Rattle.rules.specs.declared.Form.{Form}
 use Rattle.saved_fields.specs.Judging.{checked}
 use Rattle.saved_fields.specs.Good.{GoodSections, GoodFile}
@@ -17,7 +17,7 @@ use Rattle.saved_load.specs.Views.{LoadsGood, Loads}
 
 -- ---- load_good
 
-module _ (b : List ℕ) (n : ℕ) (f : Form) (before : n ≡ before-sections b) (room : n ≤ length b) (form : f ≡ form_in b) where
+module _ (b : List ℕ) (n : ℕ) (f : Form) (before : n ≡ before_sections b) (room : n ≤ length b) (form : f ≡ form_in b) where
   pub good-sections : GoodFile b → GoodSections f (take (length b - n) (drop n b))
   good-sections good = rw (sections-part b n before room, form) good
 
@@ -41,12 +41,12 @@ no-bad : (f : Found ℕ) → checked f ≡ Good → f ≡ none
 no-bad none e = refl
 no-bad (found p) e = cc
 
-module _ (b s a ft : List ℕ) (x : FileCheck) (is : x ≡ checked (bad-place b)) where
+module _ (b s a ft : List ℕ) (x : FileCheck) (is : x ≡ checked (bad_place b)) where
   pub refuses-file : (place : ℕ) → x ≡ BadAt place → Loads b s a ft s a ft (record { answer = 7; place = place })
-  unfolding call-load
+  unfolding call_load
   refuses-file place q =
       record {
-        loads = λ e a₂ st c. rw (bad-at (bad-place b) place (sym is ∙ q));
+        loads = λ e a₂ st c. rw (bad-at (bad_place b) place (sym is ∙ q));
         refused = λ no_answer. (refl, (refl, refl));
         rests = λ (z : ◌≡◌ {A = ℕ} 7 0). absurd (omega arith);
       }
@@ -55,10 +55,10 @@ module _ (b s a ft : List ℕ) (x : FileCheck) (is : x ≡ checked (bad-place b)
   is-good-file q = good-file b (sym is ∙ q)
 
   pub takes-file : (s' a' ft' : List ℕ) → x ≡ Good → LoadsGood b s' a' ft' → Loads b s a ft s' a' ft' (record { answer = 0; place = 0 })
-  unfolding call-load
+  unfolding call_load
   takes-file s' a' ft' q l =
       record {
-        loads = λ e a₂ st c. rw (l.state e a₂ st c, no-bad (bad-place b) (sym is ∙ q));
+        loads = λ e a₂ st c. rw (l.state e a₂ st c, no-bad (bad_place b) (sym is ∙ q));
         refused = λ no_answer. absurd (no_answer refl);
         rests = λ z. l.rests;
       }

@@ -2,7 +2,7 @@
 use Rattle.std.specs.Prelude.{◌≡◌, List, ℕ}
 use Rattle.rules.specs.Numbers.{done}
 use Rattle.rules.specs.State.{State}
-use Rattle.rules.specs.Loaded.{Loaded, loaded, call-load}
+use Rattle.rules.specs.Loaded.{Loaded, loaded, call_load}
 use Rattle.run_state.specs.Views.{Rests, state_in, Refused}
 use Rattle.saved_load.specs.declared.FileLoaded.{FileLoaded}
 
@@ -16,7 +16,7 @@ pub record LoadsGood (b s' a' ft' : List ℕ) : Type 0 where
 
 -- any file: s, a and ft are the words and the first tables of resources and of tokens before, s', a' and ft' after
 pub record Loads (b s a ft s' a' ft' : List ℕ) (x : FileLoaded) : Type 0 where
-  pub loads : (e a₂ st c : List ℕ) → loaded_of x (state_in s' e a' a₂ ft' st c) ≡ call-load (state_in s e a a₂ ft st c) b
+  pub loads : (e a₂ st c : List ℕ) → loaded_of x (state_in s' e a' a₂ ft' st c) ≡ call_load (state_in s e a a₂ ft st c) b
   -- "device unchanged", to the last word
   pub refused : Refused x.answer → (s' ≡ s) × ((a' ≡ a) × (ft' ≡ ft))
   pub rests : x.answer ≡ done → Rests s'

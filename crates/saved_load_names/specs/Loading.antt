@@ -12,7 +12,7 @@ use Rattle.rows.specs.Rows.{row_at, table-take, length-table}
 use Rattle.kept_resources.specs.Views.{resource_of_row, resources_of}
 use Rattle.kept_resources.specs.Resources.{resource-found, resource-missing}
 use Rattle.rules.specs.Saved.{name_bytes}
-use Rattle.rules.specs.Loaded.{named, loaded-names}
+use Rattle.rules.specs.Loaded.{named, loaded_names}
 use Rattle.saved_fields.specs.Good.{IsFound}
 
 -- each of so many other names, the first of which stands at this place, is of one of these resources
@@ -48,14 +48,14 @@ pub ruleset saying = (row-there, says-name, rules)
 
 -- one more, after those before it
 one_more : (n : ℕ) (rs : List Resource) (b : List ℕ) (at : ℕ)
-    → loaded-names (n + 1) rs b at ≡ loaded-names n rs b at ++ named (word b (at + 8 * n)) (lookup handle_of (word b (at + 8 * n + 4)) rs)
-unfolding loaded-names
+    → loaded_names (n + 1) rs b at ≡ loaded_names n rs b at ++ named (word b (at + 8 * n)) (lookup handle_of (word b (at + 8 * n + 4)) rs)
+unfolding loaded_names
 one_more zero rs b at = rw (add-zero, append-nil)
 one_more (suc n) rs b at =
     let far : at + 8 * suc n ≡ at + 8 + 8 * n = omega arith in
     rw (suc-add, far)
     (ap (λ names. named (word b at) (lookup handle_of (word b (at + 4)) rs) ++ names) (one_more n rs b (at + 8))
-    ∙ sym (append_assoc (named (word b at) (lookup handle_of (word b (at + 4)) rs)) (loaded-names n rs b (at + 8)) (named (word b (at + 8 + 8 * n)) (lookup handle_of (word b (at + 8 + 8 * n + 4)) rs))))
+    ∙ sym (append_assoc (named (word b at) (lookup handle_of (word b (at + 4)) rs)) (loaded_names n rs b (at + 8)) (named (word b (at + 8 + 8 * n)) (lookup handle_of (word b (at + 8 + 8 * n + 4)) rs))))
 
 -- the rows before those that were added
 front_kept : (live n : ℕ) (l : List ℕ) (rs names : List Resource) → length rs ≡ live → resources_of (live + n) l ≡ rs ++ names → resources_of live l ≡ rs
@@ -66,27 +66,27 @@ module _ (b l₀ : List ℕ) (start live : ℕ) where
   abbrev before : List Resource
   before = resources_of live l₀
 
-  pub names-start : resources_of (live + 0) l₀ ≡ before ++ loaded-names 0 before b start
-  unfolding loaded-names
+  pub names-start : resources_of (live + 0) l₀ ≡ before ++ loaded_names 0 before b start
+  unfolding loaded_names
   names-start = rw (add-zero, append-nil)
 
-  module _ (n at : ℕ) (l : List ℕ) (here : at ≡ start + 8 * n) (inv : resources_of (live + n) l ≡ before ++ loaded-names n before b start) where
+  module _ (n at : ℕ) (l : List ℕ) (here : at ≡ start + 8 * n) (inv : resources_of (live + n) l ≡ before ++ loaded_names n before b start) where
     same-front : resources_of live l ≡ before
-    same-front = front_kept live n l before (loaded-names n before b start) (length-table resource_of_row 12 live l₀) inv
+    same-front = front_kept live n l before (loaded_names n before b start) (length-table resource_of_row 12 live l₀) inv
 
     pub name-known : (count : ℕ) → n < count → NamesFound count before b start → IsFound (lookup handle_of (word b (at + 4)) (resources_of live l))
     name-known count h known = rw (same-front, here) (known n h)
 
     pub names-turn : (l' : List ℕ) (r : Resource) → named (word b at) (lookup handle_of (word b (at + 4)) (resources_of live l)) ≡ r ∷ []
         → resources_of (live + n + 1) l' ≡ pushed (resources_of (live + n) l) r
-        → resources_of (live + (n + 1)) l' ≡ before ++ loaded-names (n + 1) before b start
+        → resources_of (live + (n + 1)) l' ≡ before ++ loaded_names (n + 1) before b start
     names-turn l' r e f =
         let next : live + (n + 1) ≡ live + n + 1 = omega arith in
         let it : named (word b (start + 8 * n)) (lookup handle_of (word b (start + 8 * n + 4)) before) ≡ r ∷ [] = rw (here, same-front) at e in
-        rw next (f ∙ rw (inv, one_more n before b start, it) (append_assoc before (loaded-names n before b start) (r ∷ [])))
+        rw next (f ∙ rw (inv, one_more n before b start, it) (append_assoc before (loaded_names n before b start) (r ∷ [])))
 
-  pub names-end : (count n : ℕ) (l : List ℕ) → n ≤ count → count ≤ n → resources_of (live + n) l ≡ before ++ loaded-names n before b start
-      → resources_of (live + count) l ≡ before ++ loaded-names count before b start
+  pub names-end : (count n : ℕ) (l : List ℕ) → n ≤ count → count ≤ n → resources_of (live + n) l ≡ before ++ loaded_names n before b start
+      → resources_of (live + count) l ≡ before ++ loaded_names count before b start
   names-end count n l h k inv =
       let same : count ≡ n = omega arith in
       rw same inv

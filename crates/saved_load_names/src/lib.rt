@@ -6,7 +6,7 @@ ghost use Rattle.rules.specs.Layouts.{word};
 ghost use Rattle.rules.specs.Packets.{handle_of};
 ghost use Rattle.kept_resources.specs.Views.{resources_of};
 ghost use Rattle.rules.specs.Saved.{name_bytes};
-ghost use Rattle.rules.specs.Loaded.{named, loaded-names};
+ghost use Rattle.rules.specs.Loaded.{named, loaded_names};
 ghost use Rattle.saved_fields.specs.Good.{IsFound};
 ghost use Rattle.saved_load_names.specs.Loading.{NamesFound};
 
@@ -45,7 +45,7 @@ pub fn load_names(resources: &mut Resources, live: usize, file: &[u8], start: u3
     requires { (live + count ≤ most) × ((start + name_bytes * count ≤ length file.now)
         × NamesFound count (resources_of live resources.old) file.now start) }
     ensures { resources_of (live + count) resources.new
-        ≡ resources_of live resources.old ++ loaded-names count (resources_of live resources.old) file.now start }
+        ≡ resources_of live resources.old ++ loaded_names count (resources_of live resources.old) file.now start }
 {
     let mut at: usize = u32_to_usize(start);
     let mut i: usize = 0;

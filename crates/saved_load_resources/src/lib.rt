@@ -2,10 +2,10 @@
 ghost use Rattle.std.specs.Prelude.{◌≡◌, ◌+◌, ◌*◌, ◌≤◌, length};
 ghost use Rattle.machine.specs.Machine.{pick};
 ghost use Rattle.rules.specs.Numbers.{most};
-ghost use Rattle.rules.specs.Shapes.{packed-size};
+ghost use Rattle.rules.specs.Shapes.{packed_size};
 ghost use Rattle.rules.specs.Packets.{backed};
 ghost use Rattle.rules.specs.Saved.{resource_bytes, head_bytes};
-ghost use Rattle.rules.specs.Loaded.{loaded-resource, loaded-resources};
+ghost use Rattle.rules.specs.Loaded.{loaded_resource, loaded_resources};
 ghost use Rattle.rules.specs.declared.Form.TheVariants.{Two};
 ghost use Rattle.saved_resources.specs.Rules.{furthest};
 ghost use Rattle.kept_resources.specs.Views.{resources_of};
@@ -32,7 +32,7 @@ fn if_backed(backing: u32, n: u32) -> u32
 
 // The bytes of a texture: those that it takes in guest memory, none where the host backs it.
 fn texture_bytes(shape: Shape, pitch: u32, backing: u32) -> u64
-    ensures { result ≡ pick (backed backing) (packed-size shape pitch) 0 }
+    ensures { result ≡ pick (backed backing) (packed_size shape pitch) 0 }
 {
     if backing == 0 {
         return 0;
@@ -71,7 +71,7 @@ fn resource_of(s: SavedResource, size: u64) -> Resource
 // The resource whose fields stand from a place on.
 fn resource_at(file: &[u8], at: u32) -> Resource
     requires { (at ≤ furthest) × (at + resource_bytes ≤ length file.now) }
-    ensures { result ≡ loaded-resource file.now at }
+    ensures { result ≡ loaded_resource file.now at }
 {
     let size = u64_at(file, u32_to_usize(at) + 8);
     resource_of(read_resource(file, at), size)
@@ -80,7 +80,7 @@ fn resource_at(file: &[u8], at: u32) -> Resource
 // Stores so many resources, of which the first one's fields stand from a place on, in their order.
 pub fn load_resources(resources: &mut Resources, file: &[u8], start: u32, count: usize)
     requires { (count ≤ most) × ((start ≤ head_bytes Two) × (start + resource_bytes * count ≤ length file.now)) }
-    ensures { resources_of count resources.new ≡ loaded-resources count file.now start }
+    ensures { resources_of count resources.new ≡ loaded_resources count file.now start }
 {
     let mut at: u32 = start;
     let mut i: usize = 0;

@@ -6,7 +6,7 @@ use Rattle.rules.specs.Lists.{lookup}
 use Rattle.rules.specs.Layouts.{word}
 use Rattle.rules.specs.Packets.{handle_of}
 use Rattle.rules.specs.Saved.{more_registers, count_place, head_bytes}
-use Rattle.rules.specs.Loaded.{loaded-resources, names_place, section_2, loaded-names, loaded-tokens, loaded_belongings, loaded-sections}
+use Rattle.rules.specs.Loaded.{loaded_resources, names_place, section_2, loaded_names, loaded_tokens, loaded_belongings, loaded_sections}
 use Rattle.rules.specs.declared.Resource.{Resource}
 use Rattle.rows.specs.Rows.{table-zero, length-table}
 use Rattle.kept_resources.specs.Views.{resource_of_row, resources_of}
@@ -39,10 +39,10 @@ module _ (f : Form) (b : List ℕ) (good : GoodSections f b) (more : ℕ) (m : (
     pub first-there : 92 + 4 * more + 48 * n' ≤ length b
     first-there = omega (arith, counted, m.0, good.whole)
 
-    pub loads-resources : (a' : List ℕ) → resources_of n' a' ≡ loaded-resources n' b (92 + 4 * more) → LoadsResources f b a' n
+    pub loads-resources : (a' : List ℕ) → resources_of n' a' ≡ loaded_resources n' b (92 + 4 * more) → LoadsResources f b a' n
     loads-resources a' rows =
         let first : 92 + 4 * more ≡ head_bytes f = rw m.0 in
-        let all : resources_of n a' ≡ loaded-resources n b (head_bytes f) = rw (e', first) at rows in
+        let all : resources_of n a' ≡ loaded_resources n b (head_bytes f) = rw (e', first) at rows in
         record { count = counted; resources = all ∙ rw counted }
 
 pub ruleset loading_resources = (few-first, first-there, loads-resources, rules)
@@ -79,10 +79,10 @@ module _ (b a : List ℕ) (at count : ℕ) (good : GoodShared (resources_of coun
       pub all-tokens-there : at + 4 + 8 * n + 4 + 12 * t' ≤ length b
       all-tokens-there = omega (arith, counted-tokens, good.tokens-there)
 
-      pub loads-shared : (n' n'' : ℕ) (a' ft' : List ℕ) → n' ≡ n → n'' ≡ n → resources_of (count + n') a' ≡ rs ++ loaded-names n' rs b (at + 4)
-          → tokens_of t' ft' ≡ loaded-tokens t' b (at + 4 + 8 * n + 4) → LoadsRows (loaded_belongings Two rs b at) a' ft' (record { live = count + n''; used = t' })
+      pub loads-shared : (n' n'' : ℕ) (a' ft' : List ℕ) → n' ≡ n → n'' ≡ n → resources_of (count + n') a' ≡ rs ++ loaded_names n' rs b (at + 4)
+          → tokens_of t' ft' ≡ loaded_tokens t' b (at + 4 + 8 * n + 4) → LoadsRows (loaded_belongings Two rs b at) a' ft' (record { live = count + n''; used = t' })
       loads-shared n' n'' a' ft' e' e'' names tokens =
-          let all-names : resources_of (count + n) a' ≡ rs ++ loaded-names n rs b (at + 4) = rw e' at names in
+          let all-names : resources_of (count + n) a' ≡ rs ++ loaded_names n rs b (at + 4) = rw e' at names in
           let all-tokens : t' ≡ word b (at + 4 + 8 * word b at) = g' ∙ counted-tokens in
           record {
             live = omega (arith, names-few);
@@ -131,7 +131,7 @@ pub ruleset loading_belongings = (few-resources, loads-form-1, shared-good, load
 pub loads-sections : (f : Form) (b s' a' ft' : List ℕ) (x : LoadedRows)
     → LoadsRows (loaded_belongings f (section_2 f b) b (names_place f (word b (count_place f)))) a' ft' x → LoadsWords f b x.live x.used s'
     → LoadsSections f b s' a' ft'
-unfolding loaded-sections
+unfolding loaded_sections
 loads-sections f b s' a' ft' x rows words =
     record {
       state = λ e a₂ st c. words.state e a' a₂ ft' st c ∙ rw (rows.resources, rows.tokens);

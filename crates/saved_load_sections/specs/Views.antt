@@ -7,7 +7,7 @@ use Rattle.kept_resources.specs.Views.{resources_of}
 use Rattle.kept_tokens.specs.Views.{tokens_of}
 use Rattle.run_state.specs.Views.{Rests, state_in}
 use Rattle.rules.specs.Saved.{count_place}
-use Rattle.rules.specs.Loaded.{section_2, loaded-sections}
+use Rattle.rules.specs.Loaded.{section_2, loaded_sections}
 use Rattle.rules.specs.declared.Form.{Form}
 use Rattle.saved_load_sections.specs.declared.LoadedRows.{LoadedRows}
 
@@ -25,5 +25,5 @@ pub record LoadsRows (g : Belongings) (a' ft' : List ℕ) (x : LoadedRows) : Typ
 
 -- all of the device is what the sections say
 pub record LoadsSections (f : Form) (b s' a' ft' : List ℕ) : Type 0 where
-  pub state : (e a₂ st c : List ℕ) → state_in s' e a' a₂ ft' st c ≡ loaded-sections f b
+  pub state : (e a₂ st c : List ℕ) → state_in s' e a' a₂ ft' st c ≡ loaded_sections f b
   pub rests : Rests s'

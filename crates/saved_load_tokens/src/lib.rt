@@ -3,7 +3,7 @@ ghost use Rattle.std.specs.Prelude.{◌≡◌, ◌+◌, ◌*◌, ◌≤◌, leng
 ghost use Rattle.rules.specs.Numbers.{most_tokens};
 ghost use Rattle.kept_tokens.specs.Views.{tokens_of};
 ghost use Rattle.rules.specs.Saved.{token_bytes};
-ghost use Rattle.rules.specs.Loaded.{loaded_token, loaded-tokens};
+ghost use Rattle.rules.specs.Loaded.{loaded_token, loaded_tokens};
 
 use kept_tokens::Tokens;
 use kept_tokens::storing::push_token;
@@ -28,7 +28,7 @@ fn token_at(file: &[u8], at: usize) -> Token
 // Stores so many tokens, of which the first one's fields stand from a place on, in their order.
 pub fn load_tokens(tokens: &mut Tokens, file: &[u8], start: u32, count: usize)
     requires { (count ≤ most_tokens) × (start + token_bytes * count ≤ length file.now) }
-    ensures { tokens_of count tokens.new ≡ loaded-tokens count file.now start }
+    ensures { tokens_of count tokens.new ≡ loaded_tokens count file.now start }
 {
     let mut at: usize = u32_to_usize(start);
     let mut i: usize = 0;

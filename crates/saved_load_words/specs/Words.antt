@@ -4,7 +4,7 @@ use Rattle.std.proofs.Common.{sym, ◌∙◌, mod-eq_of_lt, div-one, arith, rule
 use Rattle.rules.specs.Numbers.{most, most_tokens}
 use Rattle.rules.specs.Layouts.{word, long}
 use Rattle.rules.specs.Registers.{bit_of}
-use Rattle.run_state.specs.Views.{flag_of, set_in, countIn, tokenCountIn, worldIn, rested, state_in}
+use Rattle.run_state.specs.Views.{flag_of, set_in, count_in, token_count_in, world_in, rested, state_in}
 use Rattle.run_state.specs.Reading.{count-as, token-count-as}
 use Rattle.run_state.specs.Spelled.{spell}
 use Rattle.rules.specs.Saved.{more_registers, memory_place}
@@ -79,7 +79,7 @@ all_words f b n t w = set (set (set (set (register_words f b w) 25 n) 28 0) 32 t
 pub loads_words : (f : Form) (b s s₁ s' : List ℕ) (live rows used tokens : ℕ) → length s ≡ 36 → live ≤ most → used ≤ most_tokens
     → (rows ≡ live) × (rows < 18446744073709551616) → (tokens ≡ used) × (tokens < 18446744073709551616) → LoadsRegisters f b s s₁
     → s' ≡ rested (set (set (set (set s₁ 25 rows) 28 0) 32 tokens) 34 0) → LoadsWords f b live used s'
-unfolding worldIn rested
+unfolding world_in rested
 loads_words f b s s₁ s' live rows used tokens long36 few few-used r t l is =
     let whole : s' ≡ rested (all_words f b rows tokens s) = is ∙ rw l.words in
     let bell : Bool = eqb (word b (memory_place f + 8)) 1 in

@@ -1,7 +1,7 @@
 // A saved desk moved to the other form (02, wish 11): what the file says is loaded into a device of its own, and saved in the other form. Only
 // files are lent, and a refused move writes nothing.
 ghost use Rattle.std.specs.Prelude.{◌≡◌};
-ghost use Rattle.rules.specs.Loaded.{other_form, call-move};
+ghost use Rattle.rules.specs.Loaded.{other_form, call_move};
 ghost use Rattle.saved_save.specs.Views.{saved_of};
 
 use kept_resources::resources::Resources;
@@ -25,7 +25,7 @@ fn other_form(form: Form) -> Form
 
 // Writes into the buffer, in the other form, the device that the file says.
 pub fn move_form(file: &[u8], buffer: &mut [u8]) -> FileSaved
-    ensures { saved_of result buffer.new ≡ call-move file.now buffer.old }
+    ensures { saved_of result buffer.new ≡ call_move file.now buffer.old }
 {
     let mut words: Words = [0; 36];
     let mut resources: Resources = [0; 768];

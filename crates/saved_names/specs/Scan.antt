@@ -15,7 +15,7 @@ use Rattle.rules.specs.Layouts.{word}
 use Rattle.rules.specs.Names.{shareable}
 use Rattle.rules.specs.Packets.{handle_of}
 use Rattle.rules.specs.Saved.{head_bytes}
-use Rattle.rules.specs.Loaded.{is_buffer, loaded-resource, loaded-resources, names_place, may_be_shared}
+use Rattle.rules.specs.Loaded.{is_buffer, loaded_resource, loaded_resources, names_place, may_be_shared}
 use Rattle.rules.specs.declared.Resource.{Resource}
 use Rattle.saved_fields.specs.Judging.{seen, seen-there}
 use Rattle.rules.specs.declared.Form.TheVariants.{Two}
@@ -24,7 +24,7 @@ use Rattle.saved_names.specs.declared.Place.TheVariants.{Nowhere, At}
 
 -- so many resources, all of them there
 abbrev pub resources_of : List ℕ → ℕ → List Resource
-resources_of b count = loaded-resources count b (head_bytes Two)
+resources_of b count = loaded_resources count b (head_bytes Two)
 
 abbrev pub Standing : List ℕ → ℕ → Type 0
 Standing b count = (count ≤ most) × (names_place Two count ≤ length b)
@@ -42,7 +42,7 @@ WholeAt b at = (at ≤ furthest_first) × (at + 48 ≤ length b)
 
 abbrev pub stands : List ℕ → Place → Found Resource
 stands b Nowhere = none
-stands b (At at) = found (loaded-resource b at)
+stands b (At at) = found (loaded_resource b at)
 
 abbrev pub StandsWhole : List ℕ → Place → Type 0
 StandsWhole b Nowhere = 0 ≤ 0
@@ -51,22 +51,22 @@ StandsWhole b (At at) = WholeAt b at
 -- ---- place_of
 
 module _ (b : List ℕ) where
-  handle-there : (at : ℕ) → handle_of (loaded-resource b at) ≡ word b at
-  unfolding loaded-resource
+  handle-there : (at : ℕ) → handle_of (loaded_resource b at) ≡ word b at
+  unfolding loaded_resource
   handle-there at = by (is_buffer b at) refl
     where
-      by : (v : Bool) → is_buffer b at ≡ v → handle_of (loaded-resource b at) ≡ word b at
+      by : (v : Bool) → is_buffer b at ≡ v → handle_of (loaded_resource b at) ≡ word b at
       by true h = rw h
       by false h = rw h
 
   module _ (count name : ℕ) where
-    pub scan-start : lookup handle_of name (resources_of b count) ≡ lookup handle_of name (loaded-resources (count - 0) b 96)
+    pub scan-start : lookup handle_of name (resources_of b count) ≡ lookup handle_of name (loaded_resources (count - 0) b 96)
     scan-start = rw (sub-zero count)
 
-    module _ (i at v : ℕ) (inv : lookup handle_of name (resources_of b count) ≡ lookup handle_of name (loaded-resources (count - i) b at)) where
+    module _ (i at v : ℕ) (inv : lookup handle_of name (resources_of b count) ≡ lookup handle_of name (loaded_resources (count - i) b at)) where
       next : i < count → lookup handle_of name (resources_of b count)
-          ≡ pick (eqb (word b at) name) (found (loaded-resource b at)) (lookup handle_of name (loaded-resources (count - (i + 1)) b (at + 48)))
-      unfolding lookup loaded-resources
+          ≡ pick (eqb (word b at) name) (found (loaded_resource b at)) (lookup handle_of name (loaded_resources (count - (i + 1)) b (at + 48)))
+      unfolding lookup loaded_resources
       next h =
           let one : count - i ≡ suc (count - (i + 1)) = omega arith in
           inv ∙ rw (one, handle-there at)
@@ -75,14 +75,14 @@ module _ (b : List ℕ) where
         there : v ≡ word b at
         there = is ∙ seen-there b at (omega arith)
 
-        pub scan-hit : v ≡ name → lookup handle_of name (resources_of b count) ≡ found (loaded-resource b at)
+        pub scan-hit : v ≡ name → lookup handle_of name (resources_of b count) ≡ found (loaded_resource b at)
         scan-hit e = next h ∙ rw (eq-eqb (word b at) name (sym there ∙ e))
 
-        pub scan-turn : (v ≡ name → ⊥) → lookup handle_of name (resources_of b count) ≡ lookup handle_of name (loaded-resources (count - (i + 1)) b (at + 48))
+        pub scan-turn : (v ≡ name → ⊥) → lookup handle_of name (resources_of b count) ≡ lookup handle_of name (loaded_resources (count - (i + 1)) b (at + 48))
         scan-turn e = next h ∙ rw (ne_eqb (word b at) name (λ z. e (there ∙ z)))
 
       pub scan-end : count ≤ i → lookup handle_of name (resources_of b count) ≡ none
-      unfolding lookup loaded-resources
+      unfolding lookup loaded_resources
       scan-end h =
           let over : count - i ≡ 0 = omega arith in
           inv ∙ rw over
@@ -95,19 +95,19 @@ module _ (b : List ℕ) (at : ℕ) (whole : at + 48 ≤ length b) (k : ℕ) (kin
   a_buffer : is_buffer b at ≡ eqb k 1
   a_buffer = rw (kind, seen-there b (at + 4) (omega arith))
 
-  pub shares-no-buffer : k ≡ 1 → false ≡ shareable (loaded-resource b at).kind
-  unfolding loaded-resource
+  pub shares-no-buffer : k ≡ 1 → false ≡ shareable (loaded_resource b at).kind
+  unfolding loaded_resource
   shares-no-buffer e = rw (a_buffer, eq-eqb k 1 e)
 
   module _ (texture : k ≡ 1 → ⊥) (m : ℕ) (mips : m ≡ seen b (at + 28)) where
-    of-texture : shareable (loaded-resource b at).kind ≡ (eqb m 1 && eqb (word b (at + 32)) 1)
-    unfolding loaded-resource
+    of-texture : shareable (loaded_resource b at).kind ≡ (eqb m 1 && eqb (word b (at + 32)) 1)
+    unfolding loaded_resource
     of-texture = rw (a_buffer, ne_eqb k 1 texture, mips, seen-there b (at + 28) (omega arith))
 
-    pub shares-one-mip : (m ≡ 1 → ⊥) → false ≡ shareable (loaded-resource b at).kind
+    pub shares-one-mip : (m ≡ 1 → ⊥) → false ≡ shareable (loaded_resource b at).kind
     shares-one-mip e = rw (of-texture, ne_eqb m 1 e)
 
-    pub shares-one-layer : (l : ℕ) → l ≡ seen b (at + 32) → m ≡ 1 → eqb l 1 ≡ shareable (loaded-resource b at).kind
+    pub shares-one-layer : (l : ℕ) → l ≡ seen b (at + 32) → m ≡ 1 → eqb l 1 ≡ shareable (loaded_resource b at).kind
     shares-one-layer l layers e = rw (of-texture, eq-eqb m 1 e, layers, seen-there b (at + 32) (omega arith))
 
 pub ruleset sharing = (shares-no-buffer, shares-one-mip, shares-one-layer, rules)
@@ -118,7 +118,7 @@ module _ (b : List ℕ) (rs : List Resource) (name : ℕ) (p : Place) (is : look
   pub shares-nothing : p ≡ Nowhere → false ≡ may_be_shared (lookup handle_of name rs)
   shares-nothing e = rw (is, e)
 
-  pub shares-found : (at : ℕ) (v : Bool) → p ≡ At at → v ≡ shareable (loaded-resource b at).kind → v ≡ may_be_shared (lookup handle_of name rs)
+  pub shares-found : (at : ℕ) (v : Bool) → p ≡ At at → v ≡ shareable (loaded_resource b at).kind → v ≡ may_be_shared (lookup handle_of name rs)
   shares-found at v e f = rw (is, e, f)
 
   pub stands-there : (at : ℕ) → p ≡ At at → StandsWhole b p → WholeAt b at

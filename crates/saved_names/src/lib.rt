@@ -5,9 +5,9 @@ ghost use Rattle.rules.specs.Numbers.{most};
 ghost use Rattle.rules.specs.Lists.{lookup};
 ghost use Rattle.rules.specs.Names.{shareable};
 ghost use Rattle.rules.specs.Packets.{handle_of};
-ghost use Rattle.rules.specs.Loaded.{loaded-resource, is_free, may_be_shared, name_rules, names-rules, names_place};
+ghost use Rattle.rules.specs.Loaded.{loaded_resource, is_free, may_be_shared, name_rules, names_rules, names_place};
 ghost use Rattle.rules.specs.declared.FileCheck.TheVariants.{Good};
-ghost use Rattle.saved_fields.specs.Judging.{judge-rules};
+ghost use Rattle.saved_fields.specs.Judging.{judge_rules};
 ghost use Rattle.rules.specs.declared.Form.TheVariants.{Two};
 ghost use Rattle.saved_names.specs.Scan.{Standing, StandsWhole, stands, WholeAt, resources_of, furthest_first, furthest_name};
 ghost use Rattle.saved_names.specs.Names.{section_3_names};
@@ -55,7 +55,7 @@ fn place_of(file: &[u8], count: u32, name: u32) -> Place
 // Whether the resource that stands there is a texture of one mip and one layer.
 fn shareable_at(file: &[u8], at: u32) -> bool
     requires { WholeAt file.now at }
-    ensures { result ≡ shareable (loaded-resource file.now at).kind }
+    ensures { result ≡ shareable (loaded_resource file.now at).kind }
 {
     if field_at(file, at + 4) == BUFFER_KIND {
         return false;
@@ -105,7 +105,7 @@ fn good_lowest(file: &[u8], count: u32, name: u32, lowest: u32) -> bool
 // The other name that stands there, after the name `before`, with its lowest name.
 fn judge_name(sofar: FileCheck, file: &[u8], count: u32, at: u32, before: u32) -> FileCheck
     requires { Standing file.now count × (at ≤ furthest_name) }
-    ensures { result ≡ judge-rules sofar (name_rules (resources_of file.now count) file.now at before) }
+    ensures { result ≡ judge_rules sofar (name_rules (resources_of file.now count) file.now at before) }
 {
     let name = field_at(file, at);
     let lowest = field_at(file, at + 4);
@@ -118,7 +118,7 @@ fn judge_name(sofar: FileCheck, file: &[u8], count: u32, at: u32, before: u32) -
 // So many other names, the first of which stands there.
 fn judge_names(file: &[u8], count: u32, first: u32, n: u32) -> FileCheck
     requires { Standing file.now count × ((first ≤ furthest_first) × (n ≤ most)) }
-    ensures { result ≡ judge-rules Good (names-rules n (resources_of file.now count) file.now first 0) }
+    ensures { result ≡ judge_rules Good (names_rules n (resources_of file.now count) file.now first 0) }
 {
     let mut check = FileCheck::Good;
     let mut before: u32 = 0;
@@ -136,7 +136,7 @@ fn judge_names(file: &[u8], count: u32, first: u32, n: u32) -> FileCheck
 // Section 3 after so many resources. Where it says too many names, nothing after that is looked at.
 pub fn check_names(file: &[u8], count: u32) -> FileCheck
     requires { Standing file.now count }
-    ensures { result ≡ judge-rules Good (section_3_names (resources_of file.now count) file.now (names_place Two count)) }
+    ensures { result ≡ judge_rules Good (section_3_names (resources_of file.now count) file.now (names_place Two count)) }
 {
     let at = FIRST_RESOURCE + RESOURCE_BYTES * count;
     let n = field_at(file, at);

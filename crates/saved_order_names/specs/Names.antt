@@ -4,9 +4,9 @@ use Rattle.std.proofs.Math.Path.{sym}
 use Rattle.std.proofs.Common.{ap, ◌∙◌, append-nil, arith, rules, length-set}
 use Rattle.machine.specs.Machine.{pick}
 use Rattle.rules.specs.Numbers.{most}
-use Rattle.rules.specs.Saved.{is_other_name, other-name-among, is_lowest_name, those}
+use Rattle.rules.specs.Saved.{is_other_name, other_name_among, is_lowest_name, those}
 use Rattle.rules.specs.declared.Resource.{Resource}
-use Rattle.rows.specs.Rows.{row_at, tab, tableFrom, from_first, from-none, from_zero}
+use Rattle.rows.specs.Rows.{row_at, tab, table_from, from_first, from-none, from_zero}
 use Rattle.kept_resources.specs.Views.{resource_of_row, resources_of}
 use Rattle.saved_order.specs.Orders.{Rows, listed, resources_listed, listed_suc, listed-set, set_there}
 
@@ -18,24 +18,24 @@ other-is l i handle lowest a b = rw (a, b)
 
 -- the rows before row i have no other name
 pub record SingleTo (n : ℕ) (l : List ℕ) (i : ℕ) : Type 0 where
-  pub left : other-name-among (resources_of n l) ≡ other-name-among (tableFrom resource_of_row 12 i n l)
+  pub left : other_name_among (resources_of n l) ≡ other_name_among (table_from resource_of_row 12 i n l)
 
 module _ (n : ℕ) (l : List ℕ) where
   pub names-start : SingleTo n l 0
   names-start = record { left = rw (from_zero resource_of_row 12 n l) }
 
   module _ (i : ℕ) (so_far : SingleTo n l i) where
-    pub names-end : n ≤ i → false ≡ other-name-among (resources_of n l)
-    unfolding other-name-among
+    pub names-end : n ≤ i → false ≡ other_name_among (resources_of n l)
+    unfolding other_name_among
     names-end h = sym (so_far.left ∙ rw (from-none resource_of_row 12 i n l h))
 
     module _ (h : i < n) (t : Bool) (is : t ≡ is_other_name (resource_of_row (row_at 12 l i))) where
-      pub names-other : t ≡ true → true ≡ other-name-among (resources_of n l)
-      unfolding other-name-among
+      pub names-other : t ≡ true → true ≡ other_name_among (resources_of n l)
+      unfolding other_name_among
       names-other q = sym (so_far.left ∙ rw (from_first resource_of_row 12 i n l h, ← is, q))
 
       pub names-next : t ≡ false → SingleTo n l (i + 1)
-      unfolding other-name-among
+      unfolding other_name_among
       names-next q = record { left = so_far.left ∙ rw (from_first resource_of_row 12 i n l h, ← is, q) }
 
 pub ruleset naming_others = (other-is, names-start, names-end, names-other, names-next, rules)

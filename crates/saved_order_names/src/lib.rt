@@ -3,7 +3,7 @@ pub mod form;
 
 ghost use Rattle.std.specs.Prelude.{◌≡◌, ◌≤◌, ◌<◌};
 ghost use Rattle.rules.specs.Numbers.{most};
-ghost use Rattle.rules.specs.Saved.{is_other_name, other-name-among};
+ghost use Rattle.rules.specs.Saved.{is_other_name, other_name_among};
 ghost use Rattle.rows.specs.Rows.{row_at};
 ghost use Rattle.kept_resources.specs.Views.{resource_of_row, resources_of};
 ghost use Rattle.saved_order.specs.Orders.{Rows};
@@ -23,7 +23,7 @@ fn is_other(resources: &Resources, i: usize) -> bool
 // Whether a live row is another name.
 fn has_other_name(resources: &Resources, live: usize) -> bool
     requires { live ≤ most }
-    ensures { result ≡ other-name-among (resources_of live resources.now) }
+    ensures { result ≡ other_name_among (resources_of live resources.now) }
 {
     let mut i: usize = 0;
     while i < live {

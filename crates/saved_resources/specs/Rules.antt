@@ -4,7 +4,7 @@ use Rattle.std.proofs.Common.{sym, ap, ◌∙◌, arith}
 use Rattle.machine.specs.Machine.{pick}
 use Rattle.rules.specs.Numbers.{longest_side, most_layers, buffer_kind, texture_kind}
 use Rattle.rules.specs.Layouts.{word, long}
-use Rattle.rules.specs.Shapes.{block-bytes, full-chain}
+use Rattle.rules.specs.Shapes.{block_bytes, full_chain}
 use Rattle.rules.specs.Packets.{backed}
 use Rattle.rules.specs.declared.Shape.{Shape}
 use Rattle.rules.specs.Loaded.{Rule, between, is_buffer, saved_shape, good_pitch, resource_rules}
@@ -41,10 +41,10 @@ module _ (bytes at : ℕ) (s : Shape) where
 
   abbrev pub shape_rules : List Rule
   shape_rules =
-      rule bytes (at + 16) (ltb 0 (block-bytes s.format))
+      rule bytes (at + 16) (ltb 0 (block_bytes s.format))
       ∷ rule bytes (at + 20) (between 1 longest_side s.width)
       ∷ rule bytes (at + 24) (between 1 longest_side s.height)
-      ∷ rule bytes (at + 28) (between 1 (full-chain s.width s.height) s.mips)
+      ∷ rule bytes (at + 28) (between 1 (full_chain s.width s.height) s.mips)
       ∷ rule bytes (at + 32) (between 1 most_layers s.layers)
       ∷ []
 
@@ -74,10 +74,10 @@ module _ (bytes at : ℕ) (s : SavedResource) where
       ∷ rule bytes (at + 4) (v || eqb s.kind texture_kind)
       ∷ rule bytes (at + 8) (v || eqb s.low 0)
       ∷ rule bytes (at + 12) (pick v (not (eqb s.low 0 && eqb s.high 0)) (eqb s.high 0))
-      ∷ rule bytes (at + 16) (pick v (eqb s.shape.format 0) (ltb 0 (block-bytes s.shape.format)))
+      ∷ rule bytes (at + 16) (pick v (eqb s.shape.format 0) (ltb 0 (block_bytes s.shape.format)))
       ∷ rule bytes (at + 20) (pick v (eqb s.shape.width 0) (between 1 longest_side s.shape.width))
       ∷ rule bytes (at + 24) (pick v (eqb s.shape.height 0) (between 1 longest_side s.shape.height))
-      ∷ rule bytes (at + 28) (pick v (eqb s.shape.mips 0) (between 1 (full-chain s.shape.width s.shape.height) s.shape.mips))
+      ∷ rule bytes (at + 28) (pick v (eqb s.shape.mips 0) (between 1 (full_chain s.shape.width s.shape.height) s.shape.mips))
       ∷ rule bytes (at + 32) (pick v (eqb s.shape.layers 0) (between 1 most_layers s.shape.layers))
       ∷ rule bytes (at + 36) (not v || eqb s.pitch 0)
       ∷ rule bytes (at + 40) (v || good_pitch s.shape s.pitch s.backing)
@@ -115,10 +115,10 @@ module _ (b : List ℕ) (at before : ℕ) where
       (also (same-rule (length b) (at + 4) (eqb (seen b (at + 4)) buffer_kind || eqb (seen b (at + 4)) texture_kind) (is_buffer b at || eqb (word b (at + 4)) texture_kind) (λ h. rw (f 4 h)))
       (also (same-rule (length b) (at + 8) (eqb (seen b (at + 4)) buffer_kind || eqb (seen b (at + 8)) 0) (is_buffer b at || eqb (word b (at + 8)) 0) (λ h. rw (f 4 (omega arith), f 8 h)))
       (also (same-rule (length b) (at + 12) (pick (eqb (seen b (at + 4)) buffer_kind) (not (eqb (seen b (at + 8)) 0 && eqb (seen b (at + 12)) 0)) (eqb (seen b (at + 12)) 0)) (pick (is_buffer b at) (not (eqb (long b (at + 8)) 0)) (eqb (word b (at + 12)) 0)) (λ h. rw (size-zero (omega arith), f 4 (omega arith), f 8 (omega arith), f 12 h)))
-      (also (same-rule (length b) (at + 16) (pick (eqb (seen b (at + 4)) buffer_kind) (eqb (seen b (at + 16)) 0) (ltb 0 (block-bytes (seen b (at + 16))))) (pick (is_buffer b at) (eqb (word b (at + 16)) 0) (ltb 0 (block-bytes (word b (at + 16))))) (λ h. rw (f 4 (omega arith), f 16 h)))
+      (also (same-rule (length b) (at + 16) (pick (eqb (seen b (at + 4)) buffer_kind) (eqb (seen b (at + 16)) 0) (ltb 0 (block_bytes (seen b (at + 16))))) (pick (is_buffer b at) (eqb (word b (at + 16)) 0) (ltb 0 (block_bytes (word b (at + 16))))) (λ h. rw (f 4 (omega arith), f 16 h)))
       (also (same-rule (length b) (at + 20) (pick (eqb (seen b (at + 4)) buffer_kind) (eqb (seen b (at + 20)) 0) (between 1 longest_side (seen b (at + 20)))) (pick (is_buffer b at) (eqb (word b (at + 20)) 0) (between 1 longest_side (word b (at + 20)))) (λ h. rw (f 4 (omega arith), f 20 h)))
       (also (same-rule (length b) (at + 24) (pick (eqb (seen b (at + 4)) buffer_kind) (eqb (seen b (at + 24)) 0) (between 1 longest_side (seen b (at + 24)))) (pick (is_buffer b at) (eqb (word b (at + 24)) 0) (between 1 longest_side (word b (at + 24)))) (λ h. rw (f 4 (omega arith), f 24 h)))
-      (also (same-rule (length b) (at + 28) (pick (eqb (seen b (at + 4)) buffer_kind) (eqb (seen b (at + 28)) 0) (between 1 (full-chain (seen b (at + 20)) (seen b (at + 24))) (seen b (at + 28)))) (pick (is_buffer b at) (eqb (word b (at + 28)) 0) (between 1 (full-chain (word b (at + 20)) (word b (at + 24))) (word b (at + 28)))) (λ h. rw (f 4 (omega arith), f 20 (omega arith), f 24 (omega arith), f 28 h)))
+      (also (same-rule (length b) (at + 28) (pick (eqb (seen b (at + 4)) buffer_kind) (eqb (seen b (at + 28)) 0) (between 1 (full_chain (seen b (at + 20)) (seen b (at + 24))) (seen b (at + 28)))) (pick (is_buffer b at) (eqb (word b (at + 28)) 0) (between 1 (full_chain (word b (at + 20)) (word b (at + 24))) (word b (at + 28)))) (λ h. rw (f 4 (omega arith), f 20 (omega arith), f 24 (omega arith), f 28 h)))
       (also (same-rule (length b) (at + 32) (pick (eqb (seen b (at + 4)) buffer_kind) (eqb (seen b (at + 32)) 0) (between 1 most_layers (seen b (at + 32)))) (pick (is_buffer b at) (eqb (word b (at + 32)) 0) (between 1 most_layers (word b (at + 32)))) (λ h. rw (f 4 (omega arith), f 32 h)))
       (also (same-rule (length b) (at + 36) (not (eqb (seen b (at + 4)) buffer_kind) || eqb (seen b (at + 36)) 0) (not (is_buffer b at) || eqb (word b (at + 36)) 0) (λ h. rw (f 4 (omega arith), f 36 h)))
       (also (same-rule (length b) (at + 40) (eqb (seen b (at + 4)) buffer_kind || good_pitch (seen_resource b at).shape (seen b (at + 36)) (seen b (at + 40))) (is_buffer b at || good_pitch (saved_shape b at) (word b (at + 36)) (word b (at + 40))) (λ h. rw (f 4 (omega arith), f 16 (omega arith), f 20 (omega arith), f 24 (omega arith), f 28 (omega arith), f 32 (omega arith), f 36 (omega arith), f 40 h)))

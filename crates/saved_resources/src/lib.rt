@@ -1,7 +1,7 @@
 // A resource of a saved desk: its twelve fields, read once and judged in their order.
 
 ghost use Rattle.std.specs.Prelude.{◌≡◌, ◌≤◌};
-ghost use Rattle.saved_fields.specs.Judging.{judge-rules};
+ghost use Rattle.saved_fields.specs.Judging.{judge_rules};
 ghost use Rattle.saved_resources.specs.Rules.{furthest, seen_resource, no_shape_rules, shape_rules, buffer_rules, texture_rules, fields_rules};
 
 use rules::numbers::{BUFFER_KIND, TEXTURE_KIND};
@@ -62,7 +62,7 @@ pub fn read_resource(file: &[u8], at: u32) -> SavedResource
 // The fields of a shape where there is none.
 fn judge_no_shape(sofar: FileCheck, bytes: usize, at: u32, shape: Shape) -> FileCheck
     requires { at ≤ furthest }
-    ensures { result ≡ judge-rules sofar (no_shape_rules bytes at shape) }
+    ensures { result ≡ judge_rules sofar (no_shape_rules bytes at shape) }
 {
     let format = must(sofar, bytes, at + 16, shape.format == 0);
     let width = must(format, bytes, at + 20, shape.width == 0);
@@ -74,7 +74,7 @@ fn judge_no_shape(sofar: FileCheck, bytes: usize, at: u32, shape: Shape) -> File
 // The fields of a texture's shape.
 fn judge_shape(sofar: FileCheck, bytes: usize, at: u32, shape: Shape) -> FileCheck
     requires { at ≤ furthest }
-    ensures { result ≡ judge-rules sofar (shape_rules bytes at shape) }
+    ensures { result ≡ judge_rules sofar (shape_rules bytes at shape) }
 {
     let format = must(sofar, bytes, at + 16, unit_of(shape.format) > 0);
     let width = must(format, bytes, at + 20, good_side_of(shape.width));
@@ -91,7 +91,7 @@ fn judge_shape(sofar: FileCheck, bytes: usize, at: u32, shape: Shape) -> FileChe
 // A buffer's fields from its size to its backing id: it has no shape and no pitch.
 fn judge_buffer(sofar: FileCheck, bytes: usize, at: u32, s: SavedResource) -> FileCheck
     requires { at ≤ furthest }
-    ensures { result ≡ judge-rules sofar (buffer_rules bytes at s) }
+    ensures { result ≡ judge_rules sofar (buffer_rules bytes at s) }
 {
     let low = must(sofar, bytes, at + 8, true);
     let size = must(low, bytes, at + 12, has_size(s.low, s.high));
@@ -103,7 +103,7 @@ fn judge_buffer(sofar: FileCheck, bytes: usize, at: u32, s: SavedResource) -> Fi
 // A texture's fields from its size, which it does not have, to its backing id, which its pitch is tied to.
 fn judge_texture(sofar: FileCheck, bytes: usize, at: u32, s: SavedResource) -> FileCheck
     requires { at ≤ furthest }
-    ensures { result ≡ judge-rules sofar (texture_rules bytes at s) }
+    ensures { result ≡ judge_rules sofar (texture_rules bytes at s) }
 {
     let low = must(sofar, bytes, at + 8, s.low == 0);
     let size = must(low, bytes, at + 12, s.high == 0);
@@ -126,7 +126,7 @@ pub fn judge_resource(
     s: SavedResource,
 ) -> FileCheck
     requires { at ≤ furthest }
-    ensures { result ≡ judge-rules sofar (fields_rules bytes at s before) }
+    ensures { result ≡ judge_rules sofar (fields_rules bytes at s before) }
 {
     let handle = must(sofar, bytes, at, before < s.handle);
     let tied = good_offset(s.backing, s.offset);

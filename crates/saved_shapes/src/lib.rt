@@ -1,7 +1,7 @@
 // What is asked of the numbers of a resource.
 ghost use Rattle.std.specs.Prelude.{◌≡◌, not, ◌&&◌, ◌||◌, eqb};
 ghost use Rattle.rules.specs.Numbers.{most_layers};
-ghost use Rattle.rules.specs.Shapes.{full-chain};
+ghost use Rattle.rules.specs.Shapes.{full_chain};
 ghost use Rattle.rules.specs.Packets.{backed};
 ghost use Rattle.rules.specs.Loaded.{between, good_pitch};
 
@@ -22,7 +22,7 @@ pub fn has_size(low: u32, high: u32) -> bool
 
 // Whether there are mips, and no more than the full chain.
 pub fn good_mips(width: u32, height: u32, mips: u32) -> bool
-    ensures { result ≡ between 1 (full-chain width height) mips }
+    ensures { result ≡ between 1 (full_chain width height) mips }
 {
     if mips < 1 {
         return false;

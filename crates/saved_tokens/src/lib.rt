@@ -4,9 +4,9 @@ ghost use Rattle.rules.specs.Numbers.{no_name, most_tokens};
 ghost use Rattle.rules.specs.Lists.{lookup};
 ghost use Rattle.rules.specs.Packets.{handle_of};
 ghost use Rattle.rules.specs.declared.FileCheck.TheVariants.{Good};
-ghost use Rattle.saved_fields.specs.Judging.{judge-rules};
+ghost use Rattle.saved_fields.specs.Judging.{judge_rules};
 ghost use Rattle.saved_names.specs.Scan.{Standing, resources_of, furthest_name};
-ghost use Rattle.rules.specs.Loaded.{may_be_shared, token_rules, tokens-rules, section-4-rules};
+ghost use Rattle.rules.specs.Loaded.{may_be_shared, token_rules, tokens_rules, section_4_rules};
 ghost use Rattle.saved_tokens.specs.Tokens.{seen_long, furthest_token};
 
 use rules::FileCheck;
@@ -48,7 +48,7 @@ fn may_be_bound(file: &[u8], count: u32, name: u32) -> bool
 // The token that stands there, after the token `before`, with its name.
 fn judge_token(sofar: FileCheck, file: &[u8], count: u32, at: u32, before: u64) -> FileCheck
     requires { Standing file.now count × (at ≤ furthest_token) }
-    ensures { result ≡ judge-rules sofar (token_rules (resources_of file.now count) file.now at before) }
+    ensures { result ≡ judge_rules sofar (token_rules (resources_of file.now count) file.now at before) }
 {
     let low = must_be_there(sofar, file, at);
     let token = long_at(file, at);
@@ -61,7 +61,7 @@ fn judge_token(sofar: FileCheck, file: &[u8], count: u32, at: u32, before: u64) 
 // So many tokens, the first of which stands there.
 fn judge_tokens(file: &[u8], count: u32, first: u32, n: u32) -> FileCheck
     requires { Standing file.now count × ((first ≤ furthest_name + 4) × (n ≤ most_tokens)) }
-    ensures { result ≡ judge-rules Good (tokens-rules n (resources_of file.now count) file.now first 0) }
+    ensures { result ≡ judge_rules Good (tokens_rules n (resources_of file.now count) file.now first 0) }
 {
     let mut check = FileCheck::Good;
     let mut before: u64 = 0;
@@ -79,7 +79,7 @@ fn judge_tokens(file: &[u8], count: u32, first: u32, n: u32) -> FileCheck
 // Section 4, whose count stands there, after so many resources. Where it says too many tokens, nothing after that is looked at.
 pub fn check_tokens(file: &[u8], count: u32, at: u32) -> FileCheck
     requires { Standing file.now count × (at ≤ furthest_name) }
-    ensures { result ≡ judge-rules Good (section-4-rules (resources_of file.now count) file.now at) }
+    ensures { result ≡ judge_rules Good (section_4_rules (resources_of file.now count) file.now at) }
 {
     let n = field_at(file, at);
     let few = must_be_at_most(FileCheck::Good, file, at, MOST_SAVED_TOKENS);

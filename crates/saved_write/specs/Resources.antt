@@ -3,25 +3,25 @@ use Rattle.std.specs.Prelude.{◌≡◌, refl, List, [], ◌∷◌, ◌++◌, �
 use Rattle.std.proofs.Common.{ap, ◌∙◌, rules}
 use Rattle.rules.specs.Lists.{over}
 use Rattle.rules.specs.Registers.{high}
-use Rattle.rules.specs.Saved.{kind_fields, resource_fields, resources-fields, file-of}
+use Rattle.rules.specs.Saved.{kind_fields, resource_fields, resources_fields, file_of}
 use Rattle.rules.specs.declared.Kind.{Kind}
 use Rattle.rules.specs.declared.Kind.TheVariants.{Buffer, Texture}
 use Rattle.rules.specs.declared.Shape.{Shape}
 use Rattle.rules.specs.declared.Resource.{Resource}
 use Rattle.saved_write.specs.Fields.{length-file}
-use Rattle.saved_write.specs.Items.{Wide, all-fields, writing_items}
+use Rattle.saved_write.specs.Items.{Wide, all_fields, writing_items}
 
 -- ---- put_resource
 
 module _ (r : Resource) (at : ℕ) (l m : List ℕ) where
   pub buffer-written : (size₀ size₁ : ℕ)
-      → m ≡ over at (file-of (r.handle ∷ 1 ∷ size₀ ∷ size₁ ∷ 0 ∷ 0 ∷ 0 ∷ 0 ∷ 0 ∷ r.pitch ∷ r.backing ∷ r.offset ∷ [])) l
-      → r.kind ≡ Buffer → size₀ ≡ r.bytes % 4294967296 → size₁ ≡ high r.bytes → m ≡ over at (file-of (resource_fields r)) l
+      → m ≡ over at (file_of (r.handle ∷ 1 ∷ size₀ ∷ size₁ ∷ 0 ∷ 0 ∷ 0 ∷ 0 ∷ 0 ∷ r.pitch ∷ r.backing ∷ r.offset ∷ [])) l
+      → r.kind ≡ Buffer → size₀ ≡ r.bytes % 4294967296 → size₁ ≡ high r.bytes → m ≡ over at (file_of (resource_fields r)) l
   buffer-written size₀ size₁ is k a b = rw (is, k, a, b)
 
   pub texture-written : (s : Shape)
-      → m ≡ over at (file-of (r.handle ∷ 2 ∷ 0 ∷ 0 ∷ s.format ∷ s.width ∷ s.height ∷ s.mips ∷ s.layers ∷ r.pitch ∷ r.backing ∷ r.offset ∷ [])) l
-      → r.kind ≡ Texture s → m ≡ over at (file-of (resource_fields r)) l
+      → m ≡ over at (file_of (r.handle ∷ 2 ∷ 0 ∷ 0 ∷ s.format ∷ s.width ∷ s.height ∷ s.mips ∷ s.layers ∷ r.pitch ∷ r.backing ∷ r.offset ∷ [])) l
+      → r.kind ≡ Texture s → m ≡ over at (file_of (resource_fields r)) l
   texture-written s is k = rw (is, k)
 
 pub ruleset writing_resource = (buffer-written, texture-written, rules)
@@ -39,7 +39,7 @@ resource-wide = record { wide = λ r. length-file (resource_fields r) ∙ ap (λ
 pub ruleset writing_resources = (resource-wide, writing_items)
 
 -- the fields of all are the rules' own
-pub resources-all : (rs : List Resource) → all-fields resource_fields rs ≡ resources-fields rs
-unfolding all-fields resources-fields
+pub resources-all : (rs : List Resource) → all_fields resource_fields rs ≡ resources_fields rs
+unfolding all_fields resources_fields
 resources-all [] = refl
 resources-all (r ∷ rs) = ap (λ x. resource_fields r ++ x) (resources-all rs)

@@ -3,7 +3,7 @@ pub mod resources;
 
 ghost use Rattle.std.specs.Prelude.{◌≡◌, ◌+◌, ◌*◌, ◌≤◌, length};
 ghost use Rattle.rules.specs.Lists.{over};
-ghost use Rattle.rules.specs.Saved.{file-of};
+ghost use Rattle.rules.specs.Saved.{file_of};
 
 use words::stores::put_u32;
 
@@ -13,7 +13,7 @@ const FIELD: usize = 4;
 // Writes some fields from a place on.
 pub fn put_fields(buffer: &mut [u8], at: usize, fields: &[u32])
     requires { at + 4 * length fields.now ≤ length buffer.old }
-    ensures { buffer.new ≡ over at (file-of fields.now) buffer.old }
+    ensures { buffer.new ≡ over at (file_of fields.now) buffer.old }
 {
     let mut i: usize = 0;
     while i < fields.len() {

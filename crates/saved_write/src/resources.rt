@@ -2,9 +2,9 @@
 ghost use Rattle.std.specs.Prelude.{◌≡◌, ◌+◌, ◌*◌, ◌≤◌, length};
 ghost use Rattle.rules.specs.Lists.{over};
 ghost use Rattle.rules.specs.Numbers.{most};
-ghost use Rattle.rules.specs.Saved.{resource_bytes, resource_fields, file-of};
+ghost use Rattle.rules.specs.Saved.{resource_bytes, resource_fields, file_of};
 ghost use Rattle.saved_order.specs.Orders.{Rows, resources_listed};
-ghost use Rattle.saved_write.specs.Items.{all-fields};
+ghost use Rattle.saved_write.specs.Items.{all_fields};
 
 use crate::put_fields;
 use kept_resources::resources::{Resources, resource_row};
@@ -20,7 +20,7 @@ pub const RESOURCE_BYTES: usize = 48;
 // Writes the fields of a resource from a place on; those that mean nothing for its kind are 0.
 fn put_resource(buffer: &mut [u8], at: usize, r: Resource)
     requires { at + resource_bytes ≤ length buffer.old }
-    ensures { buffer.new ≡ over at (file-of (resource_fields r)) buffer.old }
+    ensures { buffer.new ≡ over at (file_of (resource_fields r)) buffer.old }
 {
     let kind = r.kind;
     let lower = low32(r.bytes);
@@ -72,7 +72,7 @@ pub fn put_resources(
     count: usize,
 )
     requires { Rows most order.now count × (at + resource_bytes * count ≤ length buffer.old) }
-    ensures { buffer.new ≡ over at (file-of (all-fields resource_fields (resources_listed count resources.now order.now))) buffer.old }
+    ensures { buffer.new ≡ over at (file_of (all_fields resource_fields (resources_listed count resources.now order.now))) buffer.old }
 {
     let mut i: usize = 0;
     while i < count {

@@ -2,7 +2,7 @@
 ghost use Rattle.std.specs.Prelude.{◌≡◌, ◌+◌, ◌*◌, ◌≤◌, length};
 ghost use Rattle.rules.specs.Numbers.{most, most_tokens};
 ghost use Rattle.rules.specs.Lists.{over};
-ghost use Rattle.rules.specs.Saved.{file-of, number_bytes};
+ghost use Rattle.rules.specs.Saved.{file_of, number_bytes};
 ghost use Rattle.rules.specs.Loaded.{names_place};
 ghost use Rattle.saved_order.specs.Orders.{Rows, resources_listed, tokens_listed};
 ghost use Rattle.saved_write_forms.specs.Sections.{front_fields, back_fields};
@@ -28,7 +28,7 @@ pub fn put_front(
     count: usize,
 )
     requires { Rows most order.now count × (number_bytes + names_place form count ≤ length buffer.old) }
-    ensures { buffer.new ≡ over 0 (file-of (front_fields form words.now count (resources_listed count resources.now order.now))) buffer.old }
+    ensures { buffer.new ≡ over 0 (file_of (front_fields form words.now count (resources_listed count resources.now order.now))) buffer.old }
 {
     put_head(buffer, words, form, count as u32);
     put_resources(buffer, head_end(form), resources, order, count);
@@ -46,7 +46,7 @@ pub fn put_back(
     used: usize,
 )
     requires { Rows most others.now count × Rows most_tokens order.now used × (at + 8 + 8 * count + 12 * used ≤ length buffer.old) }
-    ensures { buffer.new ≡ over at (file-of (back_fields count (resources_listed count resources.now others.now) used (tokens_listed used tokens.now order.now))) buffer.old }
+    ensures { buffer.new ≡ over at (file_of (back_fields count (resources_listed count resources.now others.now) used (tokens_listed used tokens.now order.now))) buffer.old }
 {
     put_name_section(buffer, at, resources, others, count);
     put_token_section(buffer, at + 4 + NAME_BYTES * count, tokens, order, used);

@@ -1,7 +1,7 @@
 // The front of a saved desk: its form's number, section 1, and section 2's count.
 ghost use Rattle.std.specs.Prelude.{◌≡◌, ◌∷◌, ◌+◌, ◌≤◌, length};
 ghost use Rattle.rules.specs.Lists.{over};
-ghost use Rattle.rules.specs.Saved.{file-of, number_of, number_bytes, head_bytes};
+ghost use Rattle.rules.specs.Saved.{file_of, number_of, number_bytes, head_bytes};
 ghost use Rattle.saved_write_head.specs.Head.{register_fields, memory_fields, head_in};
 
 use registers::{bit, high, status};
@@ -33,7 +33,7 @@ pub fn head_end(form: Form) -> usize
 // Writes the form's number, how many numbers section 1 has, and the registers that both forms have.
 fn put_registers(buffer: &mut [u8], words: &Words, number: u32, numbers: u32)
     requires { 80 ≤ length buffer.old }
-    ensures { buffer.new ≡ over 0 (file-of (register_fields number numbers words.now)) buffer.old }
+    ensures { buffer.new ≡ over 0 (file_of (register_fields number numbers words.now)) buffer.old }
 {
     let fields: [u32; 20] = [
         number,
@@ -63,7 +63,7 @@ fn put_registers(buffer: &mut [u8], words: &Words, number: u32, numbers: u32)
 // Writes the memory's length, the doorbell flag and section 2's count.
 fn put_memory(buffer: &mut [u8], at: usize, words: &Words, count: u32)
     requires { at + 16 ≤ length buffer.old }
-    ensures { buffer.new ≡ over at (file-of (memory_fields words.now count)) buffer.old }
+    ensures { buffer.new ≡ over at (file_of (memory_fields words.now count)) buffer.old }
 {
     let fields: [u32; 4] = [
         low32(words[MEMORY]),
@@ -77,7 +77,7 @@ fn put_memory(buffer: &mut [u8], at: usize, words: &Words, count: u32)
 // Writes all fields of a device's words in a form, before `count` resources.
 pub fn put_head(buffer: &mut [u8], words: &Words, form: Form, count: u32)
     requires { number_bytes + head_bytes form ≤ length buffer.old }
-    ensures { buffer.new ≡ over 0 (file-of (number_of form ∷ head_in form words.now count)) buffer.old }
+    ensures { buffer.new ≡ over 0 (file_of (number_of form ∷ head_in form words.now count)) buffer.old }
 {
     match form {
         Form::One => {

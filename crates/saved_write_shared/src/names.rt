@@ -2,9 +2,9 @@
 ghost use Rattle.std.specs.Prelude.{◌≡◌, ◌∷◌, ◌+◌, ◌*◌, ◌≤◌, length};
 ghost use Rattle.rules.specs.Numbers.{most};
 ghost use Rattle.rules.specs.Lists.{over};
-ghost use Rattle.rules.specs.Saved.{file-of, name_bytes};
+ghost use Rattle.rules.specs.Saved.{file_of, name_bytes};
 ghost use Rattle.saved_order.specs.Orders.{Rows, resources_listed};
-ghost use Rattle.saved_write.specs.Items.{all-fields};
+ghost use Rattle.saved_write.specs.Items.{all_fields};
 ghost use Rattle.saved_write_shared.specs.Shared.{name_fields};
 
 use kept_resources::resources::{Resources, resource_row};
@@ -18,7 +18,7 @@ pub const NAME_BYTES: usize = 8;
 // Writes a name and its resource's lowest name from a place on.
 fn put_name(buffer: &mut [u8], at: usize, r: Resource)
     requires { at + name_bytes ≤ length buffer.old }
-    ensures { buffer.new ≡ over at (file-of (name_fields r)) buffer.old }
+    ensures { buffer.new ≡ over at (file_of (name_fields r)) buffer.old }
 {
     let fields: [u32; 2] = [r.handle, r.lowest];
     put_fields(buffer, at, &fields);
@@ -27,7 +27,7 @@ fn put_name(buffer: &mut [u8], at: usize, r: Resource)
 // Writes the names of some rows, in this order.
 fn put_names(buffer: &mut [u8], at: usize, resources: &Resources, order: &Order, count: usize)
     requires { Rows most order.now count × (at + name_bytes * count ≤ length buffer.old) }
-    ensures { buffer.new ≡ over at (file-of (all-fields name_fields (resources_listed count resources.now order.now))) buffer.old }
+    ensures { buffer.new ≡ over at (file_of (all_fields name_fields (resources_listed count resources.now order.now))) buffer.old }
 {
     let mut i: usize = 0;
     while i < count {
@@ -47,7 +47,7 @@ pub fn put_name_section(
     count: usize,
 )
     requires { Rows most order.now count × (at + 4 + name_bytes * count ≤ length buffer.old) }
-    ensures { buffer.new ≡ over at (file-of (count ∷ all-fields name_fields (resources_listed count resources.now order.now))) buffer.old }
+    ensures { buffer.new ≡ over at (file_of (count ∷ all_fields name_fields (resources_listed count resources.now order.now))) buffer.old }
 {
     let counts: [u32; 1] = [count as u32];
     put_fields(buffer, at, &counts);

@@ -12,22 +12,22 @@ use Rattle.words.specs.Fields.{length-bytes_of, put-part, length-put}
 use Rattle.rules.specs.Numbers.{page_magic, version}
 use Rattle.rules.specs.Bytes.{bytes_of}
 use Rattle.rules.specs.Lists.{over}
-use Rattle.rules.specs.Layouts.{head_offset, page-bytes}
-use Rattle.rules.specs.Settle.{written, next_head, head-written, page-written, marked}
+use Rattle.rules.specs.Layouts.{head_offset, page_bytes}
+use Rattle.rules.specs.Settle.{written, next_head, head_written, page_written, marked}
 use Rattle.rules.specs.declared.Registers.{Registers}
 use Rattle.rules.specs.declared.Job.{Job}
 use Rattle.settle.specs.Settling.{head_size, head_end, page_size, page_put}
 
 -- ---- put_page
 
-pub length-page-bytes : (completed : ℕ) → length (page-bytes completed) ≡ page_size
-unfolding page-bytes
+pub length-page-bytes : (completed : ℕ) → length (page_bytes completed) ≡ page_size
+unfolding page_bytes
 length-page-bytes completed = simp (length-append, length-bytes_of)
 
 -- three fields written side by side are the page
 pub page-fields : (completed : ℕ) (p : List ℕ) → page_size ≤ length p
-    → over 8 (bytes_of 8 completed) (over 4 (bytes_of 4 version) (over 0 (bytes_of 4 page_magic) p)) ≡ over 0 (page-bytes completed) p
-unfolding page-bytes
+    → over 8 (bytes_of 8 completed) (over 4 (bytes_of 4 version) (over 0 (bytes_of 4 page_magic) p)) ≡ over 0 (page_bytes completed) p
+unfolding page_bytes
 page-fields completed p h =
     let two : over 4 (bytes_of 4 version) (over 0 (bytes_of 4 page_magic) p) ≡ over 0 (bytes_of 4 page_magic ++ bytes_of 4 version) p =
     over-over 0 4 (bytes_of 4 page_magic) (bytes_of 4 version) p (simp length-bytes_of (omega arith)) (simp length-bytes_of (omega arith)) in
@@ -43,7 +43,7 @@ put_back at n b m = take at m ++ (b ++ drop n (drop at m))
 pub page-puts : (completed : ℕ) (l p q s : List ℕ) → page_size ≤ length l → p ≡ over 0 (bytes_of 4 page_magic) (take 4 l)
     → q ≡ over 0 (bytes_of 4 version) (take 4 (drop 4 (p ++ drop 4 l)))
     → s ≡ over 0 (bytes_of 8 completed) (take 8 (drop 8 (put_back 4 4 q (p ++ drop 4 l))))
-    → put_back 8 8 s (put_back 4 4 q (p ++ drop 4 l)) ≡ over 0 (page-bytes completed) l
+    → put_back 8 8 s (put_back 4 4 q (p ++ drop 4 l)) ≡ over 0 (page_bytes completed) l
 page-puts completed l p q s h a b d =
     let first : p ++ drop 4 l ≡ over 0 (bytes_of 4 page_magic) l = put-part 4 0 4 page_magic l p refl (omega arith) a in
     let n : length (p ++ drop 4 l) ≡ length l = rw first (length-put 4 0 page_magic l (omega arith)) in
@@ -69,8 +69,8 @@ place-fits n at p k d b same is t memory h = record { fits = omega (arith, ltb-f
 
 module _ (j : Job) (m : List ℕ) (n ring : ℕ) (memory : (n ≡ length m) × (n < 18446744073709551616)) (same : ring ≡ j.ring)
     (b : Bool) (is : b ≡ nat_lt n (j.ring + head_end)) where
-  pub head-past : b ≡ true → m ≡ head-written j m
-  unfolding head-written
+  pub head-past : b ≡ true → m ≡ head_written j m
+  unfolding head_written
   head-past t =
       sym (written-past (j.ring + head_offset) (bytes_of head_size (next_head j.head)) m (rw length-bytes_of (omega (arith, ltb-true n (j.ring + head_end) (sym is ∙ t)))))
 
@@ -79,8 +79,8 @@ module _ (j : Job) (m : List ℕ) (n ring : ℕ) (memory : (n ≡ length m) × (
     head-within = omega (arith, ltb-false n (j.ring + head_end) (sym is ∙ t))
 
     pub head_in : (next at end : ℕ) (last : List ℕ) → next ≡ next_head j.head → at ≡ ring + head_offset → end ≡ ring + head_end
-        → last ≡ over 0 (bytes_of head_size next) (take (end - at) (drop at m)) → take at m ++ (last ++ drop (end - at) (drop at m)) ≡ head-written j m
-    unfolding head-written
+        → last ≡ over 0 (bytes_of head_size next) (take (end - at) (drop at m)) → take at m ++ (last ++ drop (end - at) (drop at m)) ≡ head_written j m
+    unfolding head_written
     head_in next at end last n a e l =
         let there : at ≡ j.ring + head_offset = omega arith in
         put-part head_size at end next m last (omega arith) (omega (arith, head-within)) l
@@ -93,7 +93,7 @@ module _ (gpa completed : ℕ) (m : List ℕ) (page : ℕ) (same : page ≡ gpa)
   module _ (n : ℕ) (memory : (n ≡ length m) × (n < 18446744073709551616)) (b : Bool) (is : b ≡ nat_lt n (gpa + page_size)) where
     pub page-past : b ≡ true → m ≡ page_put gpa completed m
     page-past t =
-        rw (written-past gpa (page-bytes completed) m (rw length-page-bytes (omega (arith, ltb-true n (gpa + page_size) (sym is ∙ t))))) (either (gpa == 0))
+        rw (written-past gpa (page_bytes completed) m (rw length-page-bytes (omega (arith, ltb-true n (gpa + page_size) (sym is ∙ t))))) (either (gpa == 0))
       where
         either : (x : Bool) → m ≡ pick x m m
         either true = refl
@@ -104,22 +104,22 @@ module _ (gpa completed : ℕ) (m : List ℕ) (page : ℕ) (same : page ≡ gpa)
       page-within = omega (arith, ltb-false n (gpa + page_size) (sym is ∙ t))
 
       pub page-in : (end : ℕ) (last : List ℕ) → (page ≢ 0) → end ≡ page + page_size
-          → last ≡ over 0 (page-bytes completed) (take (end - page) (drop page m)) → take page m ++ (last ++ drop (end - page) (drop page m)) ≡ page_put gpa completed m
+          → last ≡ over 0 (page_bytes completed) (take (end - page) (drop page m)) → take page m ++ (last ++ drop (end - page) (drop page m)) ≡ page_put gpa completed m
       page-in end last some e l =
-          part-over page end m last (page-bytes completed) (rw length-page-bytes e) (omega (arith, page-within)) l
-          ∙ rw (ne_eqb gpa 0 (λ z. some (same ∙ z)), same) (sym (written-within gpa (page-bytes completed) m (rw length-page-bytes (omega (arith, page-within)))))
+          part-over page end m last (page_bytes completed) (rw length-page-bytes e) (omega (arith, page-within)) l
+          ∙ rw (ne_eqb gpa 0 (λ z. some (same ∙ z)), same) (sym (written-within gpa (page_bytes completed) m (rw length-page-bytes (omega (arith, page-within)))))
 
 pub ruleset writing =
     (page-puts, place-fits, head-past, head-within, head_in, page-none, page-past, page-within, page-in, rules)
 
 -- ---- mark
 
-pub marks : (gpa completed : ℕ) (j : Job) (m m₁ m₂ : List ℕ) → m₁ ≡ head-written j m → m₂ ≡ page_put gpa completed m₁ → m₂ ≡ page_put gpa completed (head-written j m)
+pub marks : (gpa completed : ℕ) (j : Job) (m m₁ m₂ : List ℕ) → m₁ ≡ head_written j m → m₂ ≡ page_put gpa completed m₁ → m₂ ≡ page_put gpa completed (head_written j m)
 marks gpa completed j m m₁ m₂ b c = c ∙ ap (page_put gpa completed) b
 
 -- and with the numbers of some registers it is what the rules write
-pub marks-as : (r : Registers) (j : Job) (m : List ℕ) → page_put r.fencepage r.completed (head-written j m) ≡ marked j r m
-unfolding marked page-written
+pub marks-as : (r : Registers) (j : Job) (m : List ℕ) → page_put r.fencepage r.completed (head_written j m) ≡ marked j r m
+unfolding marked page_written
 marks-as r j m = refl
 
 pub ruleset marking = (marks, rules)

@@ -11,12 +11,12 @@ use Rattle.rules.specs.Bytes.{le, bytes_of}
 use Rattle.rules.specs.Lists.{over}
 use Rattle.rules.specs.Judging.{Finding}
 use Rattle.rules.specs.Judging.Finding.{fine, broken}
-use Rattle.rules.specs.Layouts.{word, head_offset, page-bytes}
+use Rattle.rules.specs.Layouts.{word, head_offset, page_bytes}
 use Rattle.rules.specs.State.{Work, World}
 use Rattle.rules.specs.State.Work.{resting, entries, packets, waiting}
 use Rattle.rules.specs.Steps.{answer_on, answered}
 use Rattle.rules.specs.Calls.{lent_another}
-use Rattle.rules.specs.Settle.{faulted, signalled, faulted_by, ended_by, written, next_head, head-written, page-written, marked, settled}
+use Rattle.rules.specs.Settle.{faulted, signalled, faulted_by, ended_by, written, next_head, head_written, page_written, marked, settled}
 use Rattle.rules.specs.declared.Registers.{Registers}
 use Rattle.rules.specs.declared.Job.{Job}
 use Rattle.rules.specs.declared.Fault.{Fault}
@@ -68,72 +68,72 @@ module _ (at : ℕ) (b m : List ℕ) where
 -- ---- the head and the page, each by itself
 
 module _ (j : Job) (m : List ℕ) where
-  pub head-length : length (head-written j m) ≡ length m
-  unfolding head-written
+  pub head-length : length (head_written j m) ≡ length m
+  unfolding head_written
   head-length = written-length (head_at j) (bytes_of head_size (next_head j.head)) m
 
-  head-part : (w i : ℕ) → Apart i w (head_at j) head_size → take w (drop i (head-written j m)) ≡ take w (drop i m)
-  unfolding head-written
+  head-part : (w i : ℕ) → Apart i w (head_at j) head_size → take w (drop i (head_written j m)) ≡ take w (drop i m)
+  unfolding head_written
   head-part w i h = written-part (head_at j) (bytes_of head_size (next_head j.head)) m w i (rw length-bytes_of h)
 
-  head_byte : (i : ℕ) → Apart i 1 (head_at j) head_size → slice_index (head-written j m) i ≡ slice_index m i
-  unfolding head-written
+  head_byte : (i : ℕ) → Apart i 1 (head_at j) head_size → slice_index (head_written j m) i ≡ slice_index m i
+  unfolding head_written
   head_byte i h = written_byte (head_at j) (bytes_of head_size (next_head j.head)) m i (rw length-bytes_of h)
 
-  head-there : head_at j + head_size ≤ length m → take head_size (drop (head_at j) (head-written j m)) ≡ bytes_of head_size (next_head j.head)
-  unfolding head-written
+  head-there : head_at j + head_size ≤ length m → take head_size (drop (head_at j) (head_written j m)) ≡ bytes_of head_size (next_head j.head)
+  unfolding head_written
   head-there h = written_stands (head_at j) (bytes_of head_size (next_head j.head)) m head_size (length-bytes_of head_size (next_head j.head)) h
 
 module _ (r : Registers) (m : List ℕ) where
-  by-page : (P : List ℕ → Type 0) → P m → P (written r.fencepage (page-bytes r.completed) m) → P (page-written r m)
-  unfolding page-written
+  by-page : (P : List ℕ → Type 0) → P m → P (written r.fencepage (page_bytes r.completed) m) → P (page_written r m)
+  unfolding page_written
   by-page P none there = by_test (r.fencepage == 0)
     where
-      by_test : (t : Bool) → P (pick t m (written r.fencepage (page-bytes r.completed) m))
+      by_test : (t : Bool) → P (pick t m (written r.fencepage (page_bytes r.completed) m))
       by_test true = none
       by_test false = there
 
-  pub page-length : length (page-written r m) ≡ length m
-  page-length = by-page (λ x. length x ≡ length m) refl (written-length r.fencepage (page-bytes r.completed) m)
+  pub page-length : length (page_written r m) ≡ length m
+  page-length = by-page (λ x. length x ≡ length m) refl (written-length r.fencepage (page_bytes r.completed) m)
 
-  page-part : (w i : ℕ) → Apart i w r.fencepage page_size → take w (drop i (page-written r m)) ≡ take w (drop i m)
+  page-part : (w i : ℕ) → Apart i w r.fencepage page_size → take w (drop i (page_written r m)) ≡ take w (drop i m)
   page-part w i h =
-      by-page (λ x. take w (drop i x) ≡ take w (drop i m)) refl (written-part r.fencepage (page-bytes r.completed) m w i (rw length-page-bytes h))
+      by-page (λ x. take w (drop i x) ≡ take w (drop i m)) refl (written-part r.fencepage (page_bytes r.completed) m w i (rw length-page-bytes h))
 
-  page-byte : (i : ℕ) → Apart i 1 r.fencepage page_size → slice_index (page-written r m) i ≡ slice_index m i
-  page-byte i h = by-page (λ x. slice_index x i ≡ slice_index m i) refl (written_byte r.fencepage (page-bytes r.completed) m i (rw length-page-bytes h))
+  page-byte : (i : ℕ) → Apart i 1 r.fencepage page_size → slice_index (page_written r m) i ≡ slice_index m i
+  page-byte i h = by-page (λ x. slice_index x i ≡ slice_index m i) refl (written_byte r.fencepage (page_bytes r.completed) m i (rw length-page-bytes h))
 
-  page-there : (r.fencepage ≢ 0) → r.fencepage + page_size ≤ length m → take page_size (drop r.fencepage (page-written r m)) ≡ page-bytes r.completed
-  unfolding page-written
-  page-there some h = rw (ne_eqb r.fencepage 0 some) (written_stands r.fencepage (page-bytes r.completed) m page_size (length-page-bytes r.completed) h)
+  page-there : (r.fencepage ≢ 0) → r.fencepage + page_size ≤ length m → take page_size (drop r.fencepage (page_written r m)) ≡ page_bytes r.completed
+  unfolding page_written
+  page-there some h = rw (ne_eqb r.fencepage 0 some) (written_stands r.fencepage (page_bytes r.completed) m page_size (length-page-bytes r.completed) h)
 
 -- ---- both
 
 module _ (j : Job) (r : Registers) (m : List ℕ) where
   pub marked-length : length (marked j r m) ≡ length m
   unfolding marked
-  marked-length = page-length r (head-written j m) ∙ head-length j m
+  marked-length = page-length r (head_written j m) ∙ head-length j m
 
   -- a byte outside the head and the page stays
   pub only-head-and-page : (i : ℕ) → Apart i 1 (head_at j) head_size → Apart i 1 r.fencepage page_size → slice_index (marked j r m) i ≡ slice_index m i
   unfolding marked
-  only-head-and-page i h p = page-byte r (head-written j m) i p ∙ head_byte j m i h
+  only-head-and-page i h p = page-byte r (head_written j m) i p ∙ head_byte j m i h
 
   -- and so do bytes side by side: what is read outside the head and the page is read as before
   pub only-head-and-page-part : (w i : ℕ) → Apart i w (head_at j) head_size → Apart i w r.fencepage page_size → take w (drop i (marked j r m)) ≡ take w (drop i m)
   unfolding marked
-  only-head-and-page-part w i h p = page-part r (head-written j m) w i p ∙ head-part j m w i h
+  only-head-and-page-part w i h p = page-part r (head_written j m) w i p ∙ head-part j m w i h
 
   -- where the page fits, it stands there whole: it is written last
-  pub page-stands : (r.fencepage ≢ 0) → r.fencepage + page_size ≤ length m → take page_size (drop r.fencepage (marked j r m)) ≡ page-bytes r.completed
+  pub page-stands : (r.fencepage ≢ 0) → r.fencepage + page_size ≤ length m → take page_size (drop r.fencepage (marked j r m)) ≡ page_bytes r.completed
   unfolding marked
-  page-stands some h = page-there r (head-written j m) some (rw (head-length j m) h)
+  page-stands some h = page-there r (head_written j m) some (rw (head-length j m) h)
 
   -- where the head fits and the page does not lie over it, the head has moved on by one
   pub head-stands : head_at j + head_size ≤ length m → Apart (head_at j) head_size r.fencepage page_size
       → take head_size (drop (head_at j) (marked j r m)) ≡ bytes_of head_size (next_head j.head)
   unfolding marked
-  head-stands h p = page-part r (head-written j m) head_size (head_at j) p ∙ head-there j m h
+  head-stands h p = page-part r (head_written j m) head_size (head_at j) p ∙ head-there j m h
 
   -- and is read as the next one
   pub head-reads : head_at j + head_size ≤ length m → Apart (head_at j) head_size r.fencepage page_size → word (marked j r m) (head_at j) ≡ next_head j.head

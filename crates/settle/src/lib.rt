@@ -1,8 +1,8 @@
 // What settling writes to guest memory: the head of the opened ring, then the fence page, and no byte more.
 ghost use Rattle.std.specs.Prelude.{◌≡◌, ◌≤◌, length};
 ghost use Rattle.rules.specs.Lists.{over};
-ghost use Rattle.rules.specs.Layouts.{page-bytes};
-ghost use Rattle.rules.specs.Settle.{head-written};
+ghost use Rattle.rules.specs.Layouts.{page_bytes};
+ghost use Rattle.rules.specs.Settle.{head_written};
 ghost use Rattle.settle.specs.Settling.{page_size, page_put};
 
 use rules::Job;
@@ -26,7 +26,7 @@ const PAGE_SIZE: usize = 16;
 // Writes the fence page into the bytes that were lent for it.
 fn put_page(page: &mut [u8], completed: u64)
     requires { page_size ≤ length page.old }
-    ensures { page.new ≡ over 0 (page-bytes completed) page.old }
+    ensures { page.new ≡ over 0 (page_bytes completed) page.old }
 {
     words::stores::put_u32(&mut page[MAGIC_OFFSET..VERSION_OFFSET], PAGE_MAGIC);
     words::stores::put_u32(&mut page[VERSION_OFFSET..COMPLETED_OFFSET], VERSION);
@@ -35,7 +35,7 @@ fn put_page(page: &mut [u8], completed: u64)
 
 // Moves the head of the opened ring on by one; where the ring does not lie within memory, nothing is written.
 pub fn write_head(mem: &mut [u8], job: Job)
-    ensures { mem.new ≡ head-written job mem.old }
+    ensures { mem.new ≡ head_written job mem.old }
 {
     let memory = usize_to_word(mem.len());
     let ring = word_to_usize(job.ring);
@@ -66,7 +66,7 @@ pub fn write_page(mem: &mut [u8], gpa: u64, completed: u64)
 
 // The head, then the page, with the completed fence as it now is.
 pub fn mark(mem: &mut [u8], job: Job, gpa: u64, completed: u64)
-    ensures { mem.new ≡ page_put gpa completed (head-written job mem.old) }
+    ensures { mem.new ≡ page_put gpa completed (head_written job mem.old) }
 {
     write_head(mem, job);
     write_page(mem, gpa, completed);

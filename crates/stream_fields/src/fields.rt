@@ -2,7 +2,7 @@
 ghost use Rattle.std.specs.Prelude.{◌≡◌, ◌≤◌, length, [], ◌∷◌};
 ghost use Rattle.rules.specs.Numbers.{create_buffer_size, create_texture_size, destroy_size, dirty_range_size, copy_buffer_size, set_target_size, set_viewport_size, set_scissor_size, clear_size, export_surface_size, import_surface_size, release_token_size};
 ghost use Rattle.rules.specs.Floats.{nan_among};
-ghost use Rattle.rules.specs.Layouts.{buffer-fields, texture-fields, destroy-fields, dirty-fields, copy-fields, target-fields, viewport_floats, viewport-fields, scissor-fields, clear_floats, clear-fields, export-fields, import-fields, release-fields};
+ghost use Rattle.rules.specs.Layouts.{buffer_fields, texture_fields, destroy_fields, dirty_fields, copy_fields, target_fields, viewport_floats, viewport_fields, scissor_fields, clear_floats, clear_fields, export_fields, import_fields, release_fields};
 ghost use Rattle.rules.specs.Stream.{unless_nan};
 ghost use Rattle.rules.specs.declared.Packet.TheVariants.{Viewport, Clear};
 
@@ -17,7 +17,7 @@ use words::{u32_at, u64_at};
 // A create of a buffer.
 pub fn buffer_fields(part: &[u8]) -> CreateBuffer
     requires { create_buffer_size ≤ length part.now }
-    ensures { result ≡ buffer-fields part.now }
+    ensures { result ≡ buffer_fields part.now }
 {
     CreateBuffer {
         handle: u32_at(part, 8),
@@ -29,7 +29,7 @@ pub fn buffer_fields(part: &[u8]) -> CreateBuffer
 
 fn texture_shape(part: &[u8]) -> Shape
     requires { create_texture_size ≤ length part.now }
-    ensures { result ≡ (texture-fields part.now).shape }
+    ensures { result ≡ (texture_fields part.now).shape }
 {
     Shape {
         format: u32_at(part, 16),
@@ -43,7 +43,7 @@ fn texture_shape(part: &[u8]) -> Shape
 // A create of a texture.
 pub fn texture_fields(part: &[u8]) -> CreateTexture
     requires { create_texture_size ≤ length part.now }
-    ensures { result ≡ texture-fields part.now }
+    ensures { result ≡ texture_fields part.now }
 {
     CreateTexture {
         handle: u32_at(part, 8),
@@ -57,7 +57,7 @@ pub fn texture_fields(part: &[u8]) -> CreateTexture
 // A destroy.
 pub fn destroy_fields(part: &[u8]) -> DestroyResource
     requires { destroy_size ≤ length part.now }
-    ensures { result ≡ destroy-fields part.now }
+    ensures { result ≡ destroy_fields part.now }
 {
     DestroyResource {
         handle: u32_at(part, 8),
@@ -67,7 +67,7 @@ pub fn destroy_fields(part: &[u8]) -> DestroyResource
 // A dirty range.
 pub fn dirty_fields(part: &[u8]) -> DirtyRange
     requires { dirty_range_size ≤ length part.now }
-    ensures { result ≡ dirty-fields part.now }
+    ensures { result ≡ dirty_fields part.now }
 {
     DirtyRange {
         handle: u32_at(part, 8),
@@ -79,7 +79,7 @@ pub fn dirty_fields(part: &[u8]) -> DirtyRange
 // A copy of a buffer.
 pub fn copy_fields(part: &[u8]) -> CopyBuffer
     requires { copy_buffer_size ≤ length part.now }
-    ensures { result ≡ copy-fields part.now }
+    ensures { result ≡ copy_fields part.now }
 {
     CopyBuffer {
         dst: u32_at(part, 8),
@@ -94,7 +94,7 @@ pub fn copy_fields(part: &[u8]) -> CopyBuffer
 // A render target.
 pub fn target_fields(part: &[u8]) -> SetTarget
     requires { set_target_size ≤ length part.now }
-    ensures { result ≡ target-fields part.now }
+    ensures { result ≡ target_fields part.now }
 {
     SetTarget {
         handle: u32_at(part, 8),
@@ -104,7 +104,7 @@ pub fn target_fields(part: &[u8]) -> SetTarget
 // A scissor.
 pub fn scissor_fields(part: &[u8]) -> SetScissor
     requires { set_scissor_size ≤ length part.now }
-    ensures { result ≡ scissor-fields part.now }
+    ensures { result ≡ scissor_fields part.now }
 {
     SetScissor {
         x: signed_of(u32_at(part, 8)),
@@ -117,7 +117,7 @@ pub fn scissor_fields(part: &[u8]) -> SetScissor
 // An export.
 pub fn export_fields(part: &[u8]) -> ExportSurface
     requires { export_surface_size ≤ length part.now }
-    ensures { result ≡ export-fields part.now }
+    ensures { result ≡ export_fields part.now }
 {
     ExportSurface {
         handle: u32_at(part, 8),
@@ -128,7 +128,7 @@ pub fn export_fields(part: &[u8]) -> ExportSurface
 // An import.
 pub fn import_fields(part: &[u8]) -> ImportSurface
     requires { import_surface_size ≤ length part.now }
-    ensures { result ≡ import-fields part.now }
+    ensures { result ≡ import_fields part.now }
 {
     ImportSurface {
         handle: u32_at(part, 8),
@@ -139,7 +139,7 @@ pub fn import_fields(part: &[u8]) -> ImportSurface
 // A release.
 pub fn release_fields(part: &[u8]) -> ReleaseToken
     requires { release_token_size ≤ length part.now }
-    ensures { result ≡ release-fields part.now }
+    ensures { result ≡ release_fields part.now }
 {
     ReleaseToken {
         token: u64_at(part, 8),
@@ -168,7 +168,7 @@ fn any_nan(a: u32, b: u32, c: u32, d: u32, e: u32) -> bool
 // A viewport, or that one of its floats is a NaN.
 pub fn viewport_packet(part: &[u8]) -> Packet
     requires { set_viewport_size ≤ length part.now }
-    ensures { result ≡ unless_nan (viewport_floats part.now) (Viewport (viewport-fields part.now)) }
+    ensures { result ≡ unless_nan (viewport_floats part.now) (Viewport (viewport_fields part.now)) }
 {
     let x = u32_at(part, 8);
     let y = u32_at(part, 12);
@@ -195,7 +195,7 @@ pub fn viewport_packet(part: &[u8]) -> Packet
 // A clear, or that one of its floats is a NaN.
 pub fn clear_packet(part: &[u8]) -> Packet
     requires { clear_size ≤ length part.now }
-    ensures { result ≡ unless_nan (clear_floats part.now) (Clear (clear-fields part.now)) }
+    ensures { result ≡ unless_nan (clear_floats part.now) (Clear (clear_fields part.now)) }
 {
     let flags = u32_at(part, 8);
     let red = u32_at(part, 12);

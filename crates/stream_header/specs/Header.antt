@@ -3,9 +3,9 @@ use Rattle.std.specs.Prelude.{◌≡◌, refl, ℕ, ◌+◌, ◌≤◌, ◌<◌,
 use Rattle.std.proofs.Common.{arith, rules, lt-ltb}
 use Rattle.rules.specs.Numbers.{bad_stream, stream_magic}
 use Rattle.rules.specs.Judging.{refusal}
-use Rattle.rules.specs.Layouts.{word, stream-header, stream_header_size}
-use Rattle.rules.specs.Headers.{wrong-header}
-use Rattle.rules.specs.Stream.{stream-rules, stream_of}
+use Rattle.rules.specs.Layouts.{word, stream_header, stream_header_size}
+use Rattle.rules.specs.Headers.{wrong_header}
+use Rattle.rules.specs.Stream.{stream_rules, stream_of}
 use Rattle.rules.specs.declared.Refusal.{Refusal}
 use Rattle.rules.specs.declared.Stream.{Stream}
 use Rattle.rules.specs.declared.StreamHeader.{StreamHeader}
@@ -24,38 +24,38 @@ begun (Broken r) s = Bad r
 -- ---- header_at
 
 pub header_is : (m : List ℕ) (at k v s : ℕ) → k ≡ word m at → v ≡ word m (at + 4) → s ≡ word m (at + 8)
-    → ◌≡◌ {A = StreamHeader} (record { magic = k; version = v; size = s }) (stream-header m at)
-unfolding stream-header
+    → ◌≡◌ {A = StreamHeader} (record { magic = k; version = v; size = s }) (stream_header m at)
+unfolding stream_header
 header_is m at k v s p q r = rw (p, q, r)
 
 -- ---- header_verdict
 
 module _ (cmdsize : ℕ) (h : StreamHeader) where
-  pub range-short : cmdsize < stream_header_size → Broken (refusal bad_stream) ≡ stream-rules cmdsize h
-  unfolding stream-rules wrong-header
+  pub range-short : cmdsize < stream_header_size → Broken (refusal bad_stream) ≡ stream_rules cmdsize h
+  unfolding stream_rules wrong_header
   range-short p = rw (lt-ltb cmdsize stream_header_size p)
 
-  module _ (wrong : Bool) (front : wrong ≡ wrong-header stream_magic stream_header_size cmdsize h.magic h.version h.size) where
-    pub stream-wrong : wrong ≡ true → Broken (refusal bad_stream) ≡ stream-rules cmdsize h
-    unfolding stream-rules
+  module _ (wrong : Bool) (front : wrong ≡ wrong_header stream_magic stream_header_size cmdsize h.magic h.version h.size) where
+    pub stream-wrong : wrong ≡ true → Broken (refusal bad_stream) ≡ stream_rules cmdsize h
+    unfolding stream_rules
     stream-wrong p = rw (← front, p)
 
-    pub stream-good : wrong ≡ false → Fine ≡ stream-rules cmdsize h
-    unfolding stream-rules
+    pub stream-good : wrong ≡ false → Fine ≡ stream_rules cmdsize h
+    unfolding stream_rules
     stream-good p = rw (← front, p)
 
 -- ---- check_header
 
 module _ (cmdsize : ℕ) (s : Stream) where
-  pub begins-short : (h : StreamHeader) → cmdsize < stream_header_size → Bad (refusal bad_stream) ≡ begun (stream-rules cmdsize h) s
+  pub begins-short : (h : StreamHeader) → cmdsize < stream_header_size → Bad (refusal bad_stream) ≡ begun (stream_rules cmdsize h) s
   begins-short h p = rw (← range-short cmdsize h p)
 
-pub begins-good : (cmdsize at gpa : ℕ) (v : Verdict) (h h' : StreamHeader) → h ≡ h' → gpa ≡ at → v ≡ stream-rules cmdsize h → v ≡ Fine
-    → Good (record { gpa = gpa; size = h.size }) ≡ begun (stream-rules cmdsize h') (stream_of at h')
+pub begins-good : (cmdsize at gpa : ℕ) (v : Verdict) (h h' : StreamHeader) → h ≡ h' → gpa ≡ at → v ≡ stream_rules cmdsize h → v ≡ Fine
+    → Good (record { gpa = gpa; size = h.size }) ≡ begun (stream_rules cmdsize h') (stream_of at h')
 begins-good cmdsize at gpa v h h' e g r f = rw (← e, ← r, f, g)
 
-pub begins-bad : (cmdsize : ℕ) (s : Stream) (v : Verdict) (q : Refusal) (h h' : StreamHeader) → h ≡ h' → v ≡ stream-rules cmdsize h → v ≡ Broken q
-    → Bad q ≡ begun (stream-rules cmdsize h') s
+pub begins-bad : (cmdsize : ℕ) (s : Stream) (v : Verdict) (q : Refusal) (h h' : StreamHeader) → h ≡ h' → v ≡ stream_rules cmdsize h → v ≡ Broken q
+    → Bad q ≡ begun (stream_rules cmdsize h') s
 begins-bad cmdsize s v q h h' e r f = rw (← e, ← r, f)
 
 pub ruleset heading = (header_is, stream-wrong, stream-good, begins-short, begins-good, begins-bad, rules)
@@ -65,8 +65,8 @@ pub ruleset heading = (header_is, stream-wrong, stream-good, begins-short, begin
 abbrev pub GoodStreamHeader : ℕ → StreamHeader → Type 0
 GoodStreamHeader cmdsize h = GoodHeader stream_magic stream_header_size cmdsize h.magic h.version h.size
 
-pub stream-sound : (cmdsize : ℕ) (h : StreamHeader) → stream-rules cmdsize h ≡ Fine → GoodStreamHeader cmdsize h
-unfolding stream-rules
+pub stream-sound : (cmdsize : ℕ) (h : StreamHeader) → stream_rules cmdsize h ≡ Fine → GoodStreamHeader cmdsize h
+unfolding stream_rules
 stream-sound cmdsize h e = header-good stream_magic stream_header_size cmdsize h.magic h.version h.size (kept_rule bad_stream _ e)
 
 begun-good : (v : Verdict) (s s' : Stream) → begun v s ≡ Good s' → (v ≡ Fine) × (s ≡ s')
@@ -75,14 +75,14 @@ begun-good (Broken r) s s' e = let z : ◌≡◌ {A = ℕ} 0 1 = cc in absurd (o
 
 -- a stream that was begun lies in memory, header and all, where the command range does
 module _ (m : List ℕ) (at cmdsize : ℕ) (s : Stream) (room : at + cmdsize ≤ length m)
-    (good : begun (stream-rules cmdsize (stream-header m at)) (stream_of at (stream-header m at)) ≡ Good s) where
+    (good : begun (stream_rules cmdsize (stream_header m at)) (stream_of at (stream_header m at)) ≡ Good s) where
   pub begun-inside : s.gpa + s.size ≤ length m
   begun-inside =
-      let g = begun-good (stream-rules cmdsize (stream-header m at)) (stream_of at (stream-header m at)) s good in
-      let i : (stream-header m at).size ≤ cmdsize = (stream-sound cmdsize (stream-header m at) g.0).inside in
+      let g = begun-good (stream_rules cmdsize (stream_header m at)) (stream_of at (stream_header m at)) s good in
+      let i : (stream_header m at).size ≤ cmdsize = (stream-sound cmdsize (stream_header m at) g.0).inside in
       rw (← g.1) (omega arith)
 
   pub begun-header : stream_header_size ≤ s.size
   begun-header =
-      let g = begun-good (stream-rules cmdsize (stream-header m at)) (stream_of at (stream-header m at)) s good in
-      rw (← g.1) (stream-sound cmdsize (stream-header m at) g.0).header
+      let g = begun-good (stream_rules cmdsize (stream_header m at)) (stream_of at (stream_header m at)) s good in
+      rw (← g.1) (stream-sound cmdsize (stream_header m at) g.0).header

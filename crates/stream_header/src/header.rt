@@ -1,8 +1,8 @@
 // The stream's header: read once, judged as a struct, and kept as two numbers.
 // The caller has seen that the command range lies in memory.
 ghost use Rattle.std.specs.Prelude.{◌≡◌, ◌+◌, ◌≤◌, length};
-ghost use Rattle.rules.specs.Layouts.{stream-header, stream_header_size};
-ghost use Rattle.rules.specs.Stream.{stream-rules, stream_of};
+ghost use Rattle.rules.specs.Layouts.{stream_header, stream_header_size};
+ghost use Rattle.rules.specs.Stream.{stream_rules, stream_of};
 ghost use Rattle.stream_header.specs.Header.{begun};
 
 use headers::wrong_header;
@@ -23,7 +23,7 @@ pub enum CheckedStream {
 // The header's fields, each read once.
 fn header_at(mem: &[u8], at: usize) -> StreamHeader
     requires { at + stream_header_size ≤ length mem.now }
-    ensures { result ≡ stream-header mem.now at }
+    ensures { result ≡ stream_header mem.now at }
 {
     StreamHeader {
         magic: u32_at(mem, at),
@@ -34,7 +34,7 @@ fn header_at(mem: &[u8], at: usize) -> StreamHeader
 
 // Judges a header that was read, for a command range of so many bytes.
 pub fn header_verdict(cmdsize: u64, h: StreamHeader) -> Verdict
-    ensures { result ≡ stream-rules cmdsize h }
+    ensures { result ≡ stream_rules cmdsize h }
 {
     if wrong_header(
         STREAM_MAGIC,
@@ -52,7 +52,7 @@ pub fn header_verdict(cmdsize: u64, h: StreamHeader) -> Verdict
 // Checks the header at the start of the command range. Too short a range is not read.
 pub fn check_header(mem: &[u8], at: usize, cmdsize: u64) -> CheckedStream
     requires { at + cmdsize ≤ length mem.now }
-    ensures { result ≡ begun (stream-rules cmdsize (stream-header mem.now at)) (stream_of at (stream-header mem.now at)) }
+    ensures { result ≡ begun (stream_rules cmdsize (stream_header mem.now at)) (stream_of at (stream_header mem.now at)) }
 {
     if cmdsize < STREAM_HEADER_SIZE {
         return CheckedStream::Bad(Refusal { code: BAD_STREAM });

@@ -3,9 +3,9 @@ use Rattle.std.specs.Prelude.{◌≡◌, refl, Bool, List, ℕ, ◌-◌, ◌≤�
 use Rattle.std.proofs.Common.{sym, ap, ◌∙◌, arith, length-drop}
 use Rattle.std.proofs.Math.ListN.{length}
 use Rattle.std.proofs.Math.Seq.{length-take-le}
-use Rattle.rules.specs.Layouts.{stream-header, stream_header_size}
-use Rattle.rules.specs.Stream.{stream-rules, stream_of}
-use Rattle.rules.specs.Dump.{ends, dump-of}
+use Rattle.rules.specs.Layouts.{stream_header, stream_header_size}
+use Rattle.rules.specs.Stream.{stream_rules, stream_of}
+use Rattle.rules.specs.Dump.{ends, dump_of}
 use Rattle.rules.specs.Dump.Ending.{refused}
 use Rattle.rules.specs.declared.Refusal.{Refusal}
 use Rattle.rules.specs.declared.Stream.{Stream}
@@ -14,11 +14,11 @@ use Rattle.rules.specs.declared.Verdict.TheVariants.{Fine, Broken}
 use Rattle.stream_header.specs.Header.{begun, stream-sound}
 use Rattle.stream_header.specs.declared.header.CheckedStream.{CheckedStream}
 use Rattle.stream_header.specs.declared.header.CheckedStream.TheVariants.{Good, Bad}
-use Rattle.stream_listing.specs.Walk.{listed-from, listed-fuel}
+use Rattle.stream_listing.specs.Walk.{listed_from, listed-fuel}
 
 -- `x` is what the check of the header gave
 module _ (strict : Bool) (s : List ℕ) (n : ℕ) (all_of : n ≡ length s) (x : CheckedStream)
-    (is : x ≡ begun (stream-rules n (stream-header s 0)) (stream_of 0 (stream-header s 0))) where
+    (is : x ≡ begun (stream_rules n (stream_header s 0)) (stream_of 0 (stream_header s 0))) where
   by-bad : (v : Verdict) (st : Stream) (r : Refusal) → begun v st ≡ Bad r → v ≡ Broken r
   by-bad Fine st r e = absurd (let z : ◌≡◌ {A = ℕ} 0 1 = cc in omega arith)
   by-bad (Broken q) st r e = let p : q ≡ r = cc in rw p
@@ -27,27 +27,27 @@ module _ (strict : Bool) (s : List ℕ) (n : ℕ) (all_of : n ≡ length s) (x :
   by_good Fine st st' e = (refl, cc)
   by_good (Broken r) st st' e = absurd (let z : ◌≡◌ {A = ℕ} 0 1 = cc in omega arith)
 
-  pub begins-bad : (r : Refusal) → x ≡ Bad r → dump-of strict s ≡ ends (refused r)
-  unfolding dump-of
+  pub begins-bad : (r : Refusal) → x ≡ Bad r → dump_of strict s ≡ ends (refused r)
+  unfolding dump_of
   begins-bad r e =
-      let v : stream-rules (length s) (stream-header s 0) ≡ Broken r = rw all_of at (by-bad (stream-rules n (stream-header s 0)) (stream_of 0 (stream-header s 0)) r (sym is ∙ e)) in
+      let v : stream_rules (length s) (stream_header s 0) ≡ Broken r = rw all_of at (by-bad (stream_rules n (stream_header s 0)) (stream_of 0 (stream_header s 0)) r (sym is ∙ e)) in
       rw v
 
   module _ (st : Stream) (e : x ≡ Good st) (size : ℕ) (z : size ≡ st.size) where
-    fine : stream-rules (length s) (stream-header s 0) ≡ Fine
-    fine = rw all_of at (by_good (stream-rules n (stream-header s 0)) (stream_of 0 (stream-header s 0)) st (sym is ∙ e)).0
+    fine : stream_rules (length s) (stream_header s 0) ≡ Fine
+    fine = rw all_of at (by_good (stream_rules n (stream_header s 0)) (stream_of 0 (stream_header s 0)) st (sym is ∙ e)).0
 
-    kept : (stream-header s 0).size ≡ size
-    kept = ap (λ (t : Stream). t.size) (by_good (stream-rules n (stream-header s 0)) (stream_of 0 (stream-header s 0)) st (sym is ∙ e)).1 ∙ sym z
+    kept : (stream_header s 0).size ≡ size
+    kept = ap (λ (t : Stream). t.size) (by_good (stream_rules n (stream_header s 0)) (stream_of 0 (stream_header s 0)) st (sym is ∙ e)).1 ∙ sym z
 
     pub size-inside : size ≤ length s
-    size-inside = rw kept at (stream-sound (length s) (stream-header s 0) fine).inside
+    size-inside = rw kept at (stream-sound (length s) (stream_header s 0) fine).inside
 
     pub size-there : size ≡ length (take size s)
     size-there = sym (length-take-le size s size-inside)
 
-    pub begins-good : dump-of strict s ≡ listed-from strict (take size s) stream_header_size
-    unfolding dump-of listed-from
+    pub begins-good : dump_of strict s ≡ listed_from strict (take size s) stream_header_size
+    unfolding dump_of listed_from
     begins-good =
         let t : length (take size s) ≡ size = length-take-le size s size-inside in
         rw (fine, kept, t)

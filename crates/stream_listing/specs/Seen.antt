@@ -5,12 +5,12 @@ use Rattle.std.proofs.Common.{sym, ap, ◌∙◌, add-zero, arith, rules, length
 use Rattle.machine.specs.Machine.{pick}
 use Rattle.rules.specs.Judging.{refusal}
 use Rattle.rules.specs.Layouts.{word}
-use Rattle.rules.specs.Stream.{frame-of, packet-of}
+use Rattle.rules.specs.Stream.{frame_of, packet_of}
 use Rattle.rules.specs.declared.Refusal.{Refusal}
 use Rattle.rules.specs.declared.Packet.{Packet}
 use Rattle.rules.specs.declared.Frame.{Frame}
 use Rattle.rules.specs.declared.Frame.TheVariants.{Whole, Misframed}
-use Rattle.stream_packets.specs.Framing.{packetAt, WasWhole, was-whole, was-misframed, frame-sound}
+use Rattle.stream_packets.specs.Framing.{packet_read_at, WasWhole, was-whole, was-misframed, frame-sound}
 use Rattle.stream_packets.specs.declared.framing.PacketRead.{PacketRead}
 use Rattle.stream_packets.specs.declared.framing.PacketRead.TheVariants.{Whole as WholePacket, Misframed as NoPacket}
 use Rattle.rules.specs.Dump.{is_unknown}
@@ -18,14 +18,14 @@ use Rattle.stream_listing.specs.declared.Seen.{Seen}
 use Rattle.stream_listing.specs.declared.Seen.TheVariants.{Known, Unknown, Bad}
 
 abbrev pub seen_in : Frame → List ℕ → Seen
-seen_in (Whole op size) b = pick (is_unknown (packet-of op (take size b))) (Unknown op size) (Known op size)
+seen_in (Whole op size) b = pick (is_unknown (packet_of op (take size b))) (Unknown op size) (Known op size)
 seen_in (Misframed r) b = Bad r.code
 
 -- what the bytes left of a stream begin with
 unfoldable pub seen : List ℕ → Seen
-seen b = seen_in (frame-of b) b
+seen b = seen_in (frame_of b) b
 
-module _ (m : List ℕ) (at : ℕ) (x : PacketRead) (is : x ≡ packetAt (drop at m)) where
+module _ (m : List ℕ) (at : ℕ) (x : PacketRead) (is : x ≡ packet_read_at (drop at m)) where
   pub seen-bad : (r : Refusal) → x ≡ NoPacket r → Bad r.code ≡ seen (drop at m)
   unfolding seen
   seen-bad r e = rw (was-misframed (drop at m) x is r e)
@@ -45,11 +45,11 @@ module _ (m : List ℕ) (at : ℕ) (x : PacketRead) (is : x ≡ packetAt (drop a
       same : was.opcode ≡ op
       same = (frame-sound (drop at m) was.opcode size was.frame).opcode ∙ (rw (drop-drop, add-zero) refl ∙ sym opcode)
 
-      whole : frame-of (drop at m) ≡ Whole op size
+      whole : frame_of (drop at m) ≡ Whole op size
       whole = was.frame ∙ ap (λ o. Whole o size) same
 
-      told : is_unknown (packet-of op (take size (drop at m))) ≡ u
-      told = ap (λ o. is_unknown (packet-of o (take size (drop at m)))) (sym same) ∙ (ap is_unknown (sym was.says) ∙ sym tells)
+      told : is_unknown (packet_of op (take size (drop at m))) ≡ u
+      told = ap (λ o. is_unknown (packet_of o (take size (drop at m)))) (sym same) ∙ (ap is_unknown (sym was.says) ∙ sym tells)
 
       pub seen-unknown : u ≡ true → Unknown op size ≡ seen (drop at m)
       unfolding seen
@@ -64,52 +64,52 @@ pub ruleset seeing = (seen-bad, header-there, seen-unknown, seen-known, rules)
 -- ---- what is known of a packet that was seen
 
 pub record SeenPacket (b : List ℕ) (op size : ℕ) (u : Bool) : Type 0 where
-  pub frame : frame-of b ≡ Whole op size
-  pub tells : is_unknown (packet-of op (take size b)) ≡ u
+  pub frame : frame_of b ≡ Whole op size
+  pub tells : is_unknown (packet_of op (take size b)) ≡ u
 
 module _ (b : List ℕ) where
   abbrev by_test : Bool → ℕ → ℕ → Seen
   by_test u op size = pick u (Unknown op size) (Known op size)
 
-  known-whole : (o n : ℕ) (u : Bool) → frame-of b ≡ Whole o n → is_unknown (packet-of o (take n b)) ≡ u → (op size : ℕ) → by_test u o n ≡ Known op size → SeenPacket b op size false
+  known-whole : (o n : ℕ) (u : Bool) → frame_of b ≡ Whole o n → is_unknown (packet_of o (take n b)) ≡ u → (op size : ℕ) → by_test u o n ≡ Known op size → SeenPacket b op size false
   known-whole o n true f t op size e = absurd (let z : ◌≡◌ {A = ℕ} 0 1 = cc in omega arith)
   known-whole o n false f t op size e =
       let p : o ≡ op = cc in
       let q : n ≡ size = cc in
       record { frame = rw (p, q) at f; tells = rw (p, q) at t }
 
-  by-known : (f : Frame) → frame-of b ≡ f → (op size : ℕ) → seen_in f b ≡ Known op size → SeenPacket b op size false
-  by-known (Whole o n) f op size e = known-whole o n (is_unknown (packet-of o (take n b))) f refl op size e
+  by-known : (f : Frame) → frame_of b ≡ f → (op size : ℕ) → seen_in f b ≡ Known op size → SeenPacket b op size false
+  by-known (Whole o n) f op size e = known-whole o n (is_unknown (packet_of o (take n b))) f refl op size e
   by-known (Misframed r) f op size e = absurd (let z : ◌≡◌ {A = ℕ} 0 1 = cc in omega arith)
 
-  unknown-whole : (o n : ℕ) (u : Bool) → frame-of b ≡ Whole o n → is_unknown (packet-of o (take n b)) ≡ u → (op size : ℕ) → by_test u o n ≡ Unknown op size → SeenPacket b op size true
+  unknown-whole : (o n : ℕ) (u : Bool) → frame_of b ≡ Whole o n → is_unknown (packet_of o (take n b)) ≡ u → (op size : ℕ) → by_test u o n ≡ Unknown op size → SeenPacket b op size true
   unknown-whole o n false f t op size e = absurd (let z : ◌≡◌ {A = ℕ} 0 1 = cc in omega arith)
   unknown-whole o n true f t op size e =
       let p : o ≡ op = cc in
       let q : n ≡ size = cc in
       record { frame = rw (p, q) at f; tells = rw (p, q) at t }
 
-  by-unknown : (f : Frame) → frame-of b ≡ f → (op size : ℕ) → seen_in f b ≡ Unknown op size → SeenPacket b op size true
-  by-unknown (Whole o n) f op size e = unknown-whole o n (is_unknown (packet-of o (take n b))) f refl op size e
+  by-unknown : (f : Frame) → frame_of b ≡ f → (op size : ℕ) → seen_in f b ≡ Unknown op size → SeenPacket b op size true
+  by-unknown (Whole o n) f op size e = unknown-whole o n (is_unknown (packet_of o (take n b))) f refl op size e
   by-unknown (Misframed r) f op size e = absurd (let z : ◌≡◌ {A = ℕ} 0 1 = cc in omega arith)
 
   bad-whole : (o n : ℕ) (u : Bool) (code : ℕ) → by_test u o n ≡ Bad code → ⊥
   bad-whole o n true code e = let z : ◌≡◌ {A = ℕ} 0 1 = cc in omega arith
   bad-whole o n false code e = let z : ◌≡◌ {A = ℕ} 0 1 = cc in omega arith
 
-  by-bad : (f : Frame) → frame-of b ≡ f → (code : ℕ) → seen_in f b ≡ Bad code → frame-of b ≡ Misframed (refusal code)
-  by-bad (Whole o n) f code e = absurd (bad-whole o n (is_unknown (packet-of o (take n b))) code e)
+  by-bad : (f : Frame) → frame_of b ≡ f → (code : ℕ) → seen_in f b ≡ Bad code → frame_of b ≡ Misframed (refusal code)
+  by-bad (Whole o n) f code e = absurd (bad-whole o n (is_unknown (packet_of o (take n b))) code e)
   by-bad (Misframed r) f code e = let p : r.code ≡ code = cc in f ∙ ap (λ c. Misframed (refusal c)) p
 
   module _ (x : Seen) (is : x ≡ seen b) where
     pub was-known : (op size : ℕ) → x ≡ Known op size → SeenPacket b op size false
     unfolding seen
-    was-known op size e = by-known (frame-of b) refl op size (sym is ∙ e)
+    was-known op size e = by-known (frame_of b) refl op size (sym is ∙ e)
 
     pub was-unknown : (op size : ℕ) → x ≡ Unknown op size → SeenPacket b op size true
     unfolding seen
-    was-unknown op size e = by-unknown (frame-of b) refl op size (sym is ∙ e)
+    was-unknown op size e = by-unknown (frame_of b) refl op size (sym is ∙ e)
 
-    pub was-bad : (code : ℕ) → x ≡ Bad code → frame-of b ≡ Misframed (refusal code)
+    pub was-bad : (code : ℕ) → x ≡ Bad code → frame_of b ≡ Misframed (refusal code)
     unfolding seen
-    was-bad code e = by-bad (frame-of b) refl code (sym is ∙ e)
+    was-bad code e = by-bad (frame_of b) refl code (sym is ∙ e)

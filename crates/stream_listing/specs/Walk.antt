@@ -6,7 +6,7 @@ use Prim.Native.Nat.{ℕ, zero, suc, ◌+◌, ◌-◌, ◌≤◌, ◌<◌}
 use native.Mathlib.Omega.{arith}
 use Rattle.std.proofs.Math.ListN.{length, length-drop}
 use Rattle.words.specs.Over.{below_or_not}
-use Rattle.rules.specs.Stream.{frame-of, size_of, packet-of}
+use Rattle.rules.specs.Stream.{frame_of, size_of, packet_of}
 use Rattle.rules.specs.Dump.{Dump, ends, first_then, stops, listed_at, listed_before, listed}
 use Rattle.rules.specs.Dump.Ending.{complete, stopped, refused}
 use Rattle.rules.specs.declared.Refusal.{Refusal}
@@ -23,7 +23,7 @@ module _ (strict : Bool) where
   listed-end (suc k) at b h = rw (eq-eqb (length b) 0 h)
 
   pub listed-packet : (k at : ℕ) (b : List ℕ) → 0 < length b
-      → listed strict (suc k) at b ≡ listed_before strict at (frame-of b) b (listed strict k (at + size_of (frame-of b)) (drop (size_of (frame-of b)) b))
+      → listed strict (suc k) at b ≡ listed_before strict at (frame_of b) b (listed strict k (at + size_of (frame_of b)) (drop (size_of (frame_of b)) b))
   unfolding listed
   listed-packet k at b h = rw (ne_eqb (length b) 0 (λ z. omega arith))
 
@@ -39,7 +39,7 @@ module _ (strict : Bool) where
   listed-fuel (suc k) (suc k') at b h h' =
       ⊎_elim
       (λ some. rw (listed-packet k at b some, listed-packet k' at b some)
-      (before_same at (frame-of b) b _ _
+      (before_same at (frame_of b) b _ _
       (λ op size e.
       let head : 8 ≤ size = (frame-sound b op size e).header in
       rw e (listed-fuel k k' (at + size) (drop size b) (rw length-drop (omega arith)) (rw length-drop (omega arith))))))
@@ -48,39 +48,39 @@ module _ (strict : Bool) where
 
   -- ---- from a place on
 
-  unfoldable pub listed-from : List ℕ → ℕ → Dump
-  listed-from s at = listed strict (length s - at) at (drop at s)
+  unfoldable pub listed_from : List ℕ → ℕ → Dump
+  listed_from s at = listed strict (length s - at) at (drop at s)
 
   module _ (s : List ℕ) (at : ℕ) where
-    pub from-none : length s ≤ at → listed-from s at ≡ ends complete
-    unfolding listed-from
+    pub from-none : length s ≤ at → listed_from s at ≡ ends complete
+    unfolding listed_from
     from-none h = listed-end (length s - at) at (drop at s) (rw length-drop (omega arith))
 
     module _ (here : at < length s) where
-      from_is : listed-from s at ≡ listed_before strict at (frame-of (drop at s)) (drop at s)
-          (listed strict (length s - at - 1) (at + size_of (frame-of (drop at s))) (drop (at + size_of (frame-of (drop at s))) s))
-      unfolding listed-from
+      from_is : listed_from s at ≡ listed_before strict at (frame_of (drop at s)) (drop at s)
+          (listed strict (length s - at - 1) (at + size_of (frame_of (drop at s))) (drop (at + size_of (frame_of (drop at s))) s))
+      unfolding listed_from
       from_is =
           let k : length s - at ≡ suc (length s - at - 1) = omega arith in
           ap (λ n. listed strict n at (drop at s)) k
           ∙ (listed-packet (length s - at - 1) at (drop at s) (rw length-drop (omega arith)) ∙ rw drop-drop)
 
-      pub from-bad : (r : Refusal) → frame-of (drop at s) ≡ Misframed r → listed-from s at ≡ ends (refused r)
+      pub from-bad : (r : Refusal) → frame_of (drop at s) ≡ Misframed r → listed_from s at ≡ ends (refused r)
       from-bad r e = from_is ∙ rw e
 
-      module _ (op size : ℕ) (e : frame-of (drop at s) ≡ Whole op size) where
+      module _ (op size : ℕ) (e : frame_of (drop at s) ≡ Whole op size) where
         pub further : at < at + size
         further = omega (arith, (frame-sound (drop at s) op size e).header)
 
         pub inside : at + size ≤ length s
         inside = let i : size ≤ length s - at = rw length-drop at (frame-sound (drop at s) op size e).inside in omega arith
 
-        pub from-stopped : stops strict (packet-of op (take size (drop at s))) ≡ true → listed-from s at ≡ ends (stopped (listed_at at op size (drop at s)))
+        pub from-stopped : stops strict (packet_of op (take size (drop at s))) ≡ true → listed_from s at ≡ ends (stopped (listed_at at op size (drop at s)))
         from-stopped h = from_is ∙ rw (e, h)
 
-        pub from_on : stops strict (packet-of op (take size (drop at s))) ≡ false
-            → listed-from s at ≡ first_then (listed_at at op size (drop at s)) (listed-from s (at + size))
-        unfolding listed-from
+        pub from_on : stops strict (packet_of op (take size (drop at s))) ≡ false
+            → listed_from s at ≡ first_then (listed_at at op size (drop at s)) (listed_from s (at + size))
+        unfolding listed_from
         from_on h =
             let same : listed strict (length s - at - 1) (at + size) (drop (at + size) s) ≡ listed strict (length s - (at + size)) (at + size) (drop (at + size) s) =
             listed-fuel (length s - at - 1) (length s - (at + size)) (at + size) (drop (at + size) s) (rw length-drop (omega (arith, further))) (rw length-drop (omega arith)) in

@@ -6,8 +6,8 @@ use Rattle.std.proofs.Math.Bool.{true, false}
 use borrow.Author.Tests.{ne_eqb, lt-ltb, le-ltb}
 use Rattle.machine.specs.Machine.{pick}
 use Rattle.rules.specs.Numbers.{create_buffer, create_texture, destroy, dirty_range, copy_buffer, set_target, set_viewport, set_scissor, clear, export_surface, import_surface, release_token, create_buffer_size, create_texture_size, destroy_size, dirty_range_size, copy_buffer_size, set_target_size, set_viewport_size, set_scissor_size, clear_size, export_surface_size, import_surface_size, release_token_size}
-use Rattle.rules.specs.Layouts.{long, buffer-fields, texture-fields, destroy-fields, dirty-fields, copy-fields, target-fields, viewport_floats, viewport-fields, scissor-fields, clear_floats, clear-fields, export-fields, import-fields, release-fields}
-use Rattle.rules.specs.Stream.{unless_nan, known, least_size, packet-of}
+use Rattle.rules.specs.Layouts.{long, buffer_fields, texture_fields, destroy_fields, dirty_fields, copy_fields, target_fields, viewport_floats, viewport_fields, scissor_fields, clear_floats, clear_fields, export_fields, import_fields, release_fields}
+use Rattle.rules.specs.Stream.{unless_nan, known, least_size, packet_of}
 use Rattle.rules.specs.Lists.Found.{none}
 use Rattle.rules.specs.declared.CreateBuffer.{CreateBuffer}
 use Rattle.rules.specs.declared.CreateTexture.{CreateTexture}
@@ -28,7 +28,7 @@ use Rattle.rules.specs.declared.Packet.TheVariants.{Buffer, Texture, Destroy, Di
 
 -- what a packet's own bytes say, if they are no fewer than its opcode asks for
 unfoldable pub reading : ℕ → List ℕ → Reading
-reading op b = pick (ltb (length b) (least_size op)) TooShort (Says (packet-of op b))
+reading op b = pick (ltb (length b) (least_size op)) TooShort (Says (packet_of op b))
 
 -- an opcode that is in none of its rows
 module _ (op : ℕ) (n₁ : op ≡ create_buffer → ⊥) (n₂ : op ≡ create_texture → ⊥) (n₃ : op ≡ destroy → ⊥) (n₄ : op ≡ dirty_range → ⊥)
@@ -57,8 +57,8 @@ module _ (op : ℕ) (unknown : known op ≡ none) where
   unfolding least_size
   known-none = rw unknown
 
-  pub says_nothing : (b : List ℕ) → Unknown ≡ packet-of op b
-  unfolding packet-of
+  pub says_nothing : (b : List ℕ) → Unknown ≡ packet_of op b
+  unfolding packet_of
   says_nothing b = rw unknown
 
 module _ (op : ℕ) where
@@ -111,52 +111,52 @@ module _ (op : ℕ) where
   known-release p = rw p
 
   module _ (b : List ℕ) where
-    pub says-buffer : op ≡ create_buffer → (f : CreateBuffer) → f ≡ buffer-fields b → Buffer f ≡ packet-of op b
-    unfolding packet-of known
+    pub says-buffer : op ≡ create_buffer → (f : CreateBuffer) → f ≡ buffer_fields b → Buffer f ≡ packet_of op b
+    unfolding packet_of known
     says-buffer p f q = rw (p, q)
 
-    pub says-texture : op ≡ create_texture → (f : CreateTexture) → f ≡ texture-fields b → Texture f ≡ packet-of op b
-    unfolding packet-of known
+    pub says-texture : op ≡ create_texture → (f : CreateTexture) → f ≡ texture_fields b → Texture f ≡ packet_of op b
+    unfolding packet_of known
     says-texture p f q = rw (p, q)
 
-    pub says-destroy : op ≡ destroy → (f : DestroyResource) → f ≡ destroy-fields b → Destroy f ≡ packet-of op b
-    unfolding packet-of known
+    pub says-destroy : op ≡ destroy → (f : DestroyResource) → f ≡ destroy_fields b → Destroy f ≡ packet_of op b
+    unfolding packet_of known
     says-destroy p f q = rw (p, q)
 
-    pub says-dirty : op ≡ dirty_range → (f : DirtyRange) → f ≡ dirty-fields b → Dirty f ≡ packet-of op b
-    unfolding packet-of known
+    pub says-dirty : op ≡ dirty_range → (f : DirtyRange) → f ≡ dirty_fields b → Dirty f ≡ packet_of op b
+    unfolding packet_of known
     says-dirty p f q = rw (p, q)
 
-    pub says-copy : op ≡ copy_buffer → (f : CopyBuffer) → f ≡ copy-fields b → Copy f ≡ packet-of op b
-    unfolding packet-of known
+    pub says-copy : op ≡ copy_buffer → (f : CopyBuffer) → f ≡ copy_fields b → Copy f ≡ packet_of op b
+    unfolding packet_of known
     says-copy p f q = rw (p, q)
 
-    pub says-target : op ≡ set_target → (f : SetTarget) → f ≡ target-fields b → Target f ≡ packet-of op b
-    unfolding packet-of known
+    pub says-target : op ≡ set_target → (f : SetTarget) → f ≡ target_fields b → Target f ≡ packet_of op b
+    unfolding packet_of known
     says-target p f q = rw (p, q)
 
-    pub says-viewport : op ≡ set_viewport → (f : Packet) → f ≡ unless_nan (viewport_floats b) (Viewport (viewport-fields b)) → f ≡ packet-of op b
-    unfolding packet-of known
+    pub says-viewport : op ≡ set_viewport → (f : Packet) → f ≡ unless_nan (viewport_floats b) (Viewport (viewport_fields b)) → f ≡ packet_of op b
+    unfolding packet_of known
     says-viewport p f q = rw p q
 
-    pub says-scissor : op ≡ set_scissor → (f : SetScissor) → f ≡ scissor-fields b → Scissor f ≡ packet-of op b
-    unfolding packet-of known
+    pub says-scissor : op ≡ set_scissor → (f : SetScissor) → f ≡ scissor_fields b → Scissor f ≡ packet_of op b
+    unfolding packet_of known
     says-scissor p f q = rw (p, q)
 
-    pub says-clear : op ≡ clear → (f : Packet) → f ≡ unless_nan (clear_floats b) (Clear (clear-fields b)) → f ≡ packet-of op b
-    unfolding packet-of known
+    pub says-clear : op ≡ clear → (f : Packet) → f ≡ unless_nan (clear_floats b) (Clear (clear_fields b)) → f ≡ packet_of op b
+    unfolding packet_of known
     says-clear p f q = rw p q
 
-    pub says-export : op ≡ export_surface → (f : ExportSurface) → f ≡ export-fields b → Export f ≡ packet-of op b
-    unfolding packet-of known
+    pub says-export : op ≡ export_surface → (f : ExportSurface) → f ≡ export_fields b → Export f ≡ packet_of op b
+    unfolding packet_of known
     says-export p f q = rw (p, q)
 
-    pub says-import : op ≡ import_surface → (f : ImportSurface) → f ≡ import-fields b → Import f ≡ packet-of op b
-    unfolding packet-of known
+    pub says-import : op ≡ import_surface → (f : ImportSurface) → f ≡ import_fields b → Import f ≡ packet_of op b
+    unfolding packet_of known
     says-import p f q = rw (p, q)
 
-    pub says-release : op ≡ release_token → (f : ReleaseToken) → f ≡ release-fields b → Release f ≡ packet-of op b
-    unfolding packet-of known
+    pub says-release : op ≡ release_token → (f : ReleaseToken) → f ≡ release_fields b → Release f ≡ packet_of op b
+    unfolding packet_of known
     says-release p f q = rw (p, q)
 
     -- a known packet that is too short says nothing; one from its own size upward, and an unknown one, say what stands there
@@ -164,11 +164,11 @@ module _ (op : ℕ) where
     unfolding reading
     short-part size is short = rw (← is, lt-ltb (length b) size short)
 
-    pub long-part : (size : ℕ) → size ≡ least_size op → size ≤ length b → (p : Packet) → p ≡ packet-of op b → Says p ≡ reading op b
+    pub long-part : (size : ℕ) → size ≡ least_size op → size ≤ length b → (p : Packet) → p ≡ packet_of op b → Says p ≡ reading op b
     unfolding reading
     long-part size is long p says = rw (← is, le-ltb (length b) size long, says)
 
-    pub any_part : 0 ≡ least_size op → (p : Packet) → p ≡ packet-of op b → Says p ≡ reading op b
+    pub any_part : 0 ≡ least_size op → (p : Packet) → p ≡ packet_of op b → Says p ≡ reading op b
     any_part is p says = long-part 0 is (omega arith) p says
 
 pub ruleset reading_part = (
@@ -209,7 +209,7 @@ pub ruleset reading_part = (
 
 module _ (op : ℕ) (b : List ℕ) (x : Reading) (is : x ≡ reading op b) where
   abbrev by_size : Bool → Reading
-  by_size w = pick w TooShort (Says (packet-of op b))
+  by_size w = pick w TooShort (Says (packet_of op b))
 
   pub part-short : x ≡ TooShort → ltb (length b) (least_size op) ≡ true
   unfolding reading
@@ -220,10 +220,10 @@ module _ (op : ℕ) (b : List ℕ) (x : Reading) (is : x ≡ reading op b) where
       by_test false h = absurd (let z : ◌≡◌ {A = ℕ} 0 1 = cc in omega arith)
 
   module _ (p : Packet) (e : x ≡ Says p) where
-    right : (w : Bool) → by_size w ≡ Says p → (w ≡ false) × (p ≡ packet-of op b)
+    right : (w : Bool) → by_size w ≡ Says p → (w ≡ false) × (p ≡ packet_of op b)
     right true h = absurd (let z : ◌≡◌ {A = ℕ} 0 1 = cc in omega arith)
-    right false h = let same : p ≡ packet-of op b = cc in (refl, same)
+    right false h = let same : p ≡ packet_of op b = cc in (refl, same)
 
-    pub part_says : (ltb (length b) (least_size op) ≡ false) × (p ≡ packet-of op b)
+    pub part_says : (ltb (length b) (least_size op) ≡ false) × (p ≡ packet_of op b)
     unfolding reading
     part_says = right (ltb (length b) (least_size op)) (sym is ∙ e)

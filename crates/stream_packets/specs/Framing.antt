@@ -12,7 +12,7 @@ use Rattle.rule_laws.specs.Fine.{all-kept}
 use Rattle.rules.specs.Judging.{refusal, rule, ◌▹◌}
 use Rattle.rules.specs.Layouts.{word, packet_header_size}
 use Rattle.rules.specs.Lists.Found.{none}
-use Rattle.rules.specs.Stream.{known, least_size, frame-rules, framed, frame-of, packet-of}
+use Rattle.rules.specs.Stream.{known, least_size, frame_rules, framed, frame_of, packet_of}
 use Rattle.rules.specs.declared.Refusal.{Refusal}
 use Rattle.rules.specs.declared.Verdict.{Verdict}
 use Rattle.rules.specs.declared.Verdict.TheVariants.{Fine, Broken}
@@ -26,8 +26,8 @@ use Rattle.stream_packets.specs.declared.framing.PacketRead.{PacketRead}
 use Rattle.stream_packets.specs.declared.framing.PacketRead.TheVariants.{Whole as WholePacket, Misframed as NoPacket}
 
 -- the frame of a packet whose header is there, from the number of bytes left and what the header says
-unfoldable pub frame-by : ℕ → ℕ → ℕ → Frame
-frame-by left op size =
+unfoldable pub frame_by : ℕ → ℕ → ℕ → Frame
+frame_by left op size =
     framed
     (rule bad_packet (ltb size packet_header_size)
     ▹ rule bad_packet (not (eqb (size % 4) 0))
@@ -67,8 +67,8 @@ module _ (left op size : ℕ) where
   by_tests false true false w h = refl
   by_tests false false false w h = absurd (let z : ◌≡◌ {A = ℕ} 0 1 = cc in omega arith)
 
-  pub frame-bad : misframed left size ≡ true → frame-by left op size ≡ Misframed (refusal bad_packet)
-  unfolding misframed frame-by
+  pub frame-bad : misframed left size ≡ true → frame_by left op size ≡ Misframed (refusal bad_packet)
+  unfolding misframed frame_by
   frame-bad h = by_tests (ltb size packet_header_size) (ltb left size) (not (eqb (size % 4) 0)) (ltb size (least_size op)) h
 
   by-none : (a b c w : Bool) → b || (a || c) ≡ false
@@ -79,8 +79,8 @@ module _ (left op size : ℕ) where
   by-none false false true w h = absurd (let z : ◌≡◌ {A = ℕ} 0 1 = cc in omega arith)
   by-none false false false w h = refl
 
-  pub frame-rest : misframed left size ≡ false → frame-by left op size ≡ framed (rule bad_packet (ltb size (least_size op))) op size
-  unfolding misframed frame-by
+  pub frame-rest : misframed left size ≡ false → frame_by left op size ≡ framed (rule bad_packet (ltb size (least_size op))) op size
+  unfolding misframed frame_by
   frame-rest h = by-none (ltb size packet_header_size) (ltb left size) (not (eqb (size % 4) 0)) (ltb size (least_size op)) h
 
   inside_of : (b c : Bool) → b || c ≡ false → b ≡ false
@@ -94,12 +94,12 @@ module _ (left op size : ℕ) where
 -- ---- the frame of a packet whose header is there
 
 module _ (m : List ℕ) (at : ℕ) where
-  few : length m - at < packet_header_size → frame-of (drop at m) ≡ Misframed (refusal bad_packet)
-  unfolding frame-of frame-rules
+  few : length m - at < packet_header_size → frame_of (drop at m) ≡ Misframed (refusal bad_packet)
+  unfolding frame_of frame_rules
   few h = rw (length-drop, lt-ltb (length m - at) packet_header_size h)
 
-  frame-read : (op size : ℕ) → packet_header_size ≤ length m - at → op ≡ word m at → size ≡ word m (at + 4) → frame-of (drop at m) ≡ frame-by (length m - at) op size
-  unfolding frame-of frame-rules frame-by
+  frame-read : (op size : ℕ) → packet_header_size ≤ length m - at → op ≡ word m at → size ≡ word m (at + 4) → frame_of (drop at m) ≡ frame_by (length m - at) op size
+  unfolding frame_of frame_rules frame_by
   frame-read op size h po ps = rw (length-drop, le-ltb (length m - at) packet_header_size h, drop-drop, ps, po)
 
 -- ---- what a whole packet is known by
@@ -118,10 +118,10 @@ pub record FrameFits (b : List ℕ) (op size : ℕ) : Type 0 where
   pub known : least_size op ≤ size
 
 -- a whole packet has a header, ends within the bytes left, and has room for the fields of its opcode
-pub frame-sound : (b : List ℕ) (op size : ℕ) → frame-of b ≡ Whole op size → FrameFits b op size
-unfolding frame-of frame-rules
+pub frame-sound : (b : List ℕ) (op size : ℕ) → frame_of b ≡ Whole op size → FrameFits b op size
+unfolding frame_of frame_rules
 frame-sound b op size e =
-    let f = framed-fine (frame-rules b) (word b 0) (word b 4) op size e in
+    let f = framed-fine (frame_rules b) (word b 0) (word b 4) op size e in
     let k =
     all-kept bad_packet (ltb (length b) packet_header_size) (ltb (word b 4) packet_header_size) (not (eqb (word b 4 % 4) 0)) (ltb (length b) (word b 4))
     (ltb (word b 4) (least_size (word b 0))) f.0 in
@@ -145,30 +145,30 @@ part-is at size m = let n : at + size - at ≡ size = omega arith in rw n
 
 -- what the packet that some bytes begin with says
 abbrev pub packet_in : Frame → List ℕ → PacketRead
-packet_in (Whole op size) b = WholePacket size (packet-of op (take size b))
+packet_in (Whole op size) b = WholePacket size (packet_of op (take size b))
 packet_in (Misframed r) b = NoPacket r
 
-unfoldable pub packetAt : List ℕ → PacketRead
-packetAt b = packet_in (frame-of b) b
+unfoldable pub packet_read_at : List ℕ → PacketRead
+packet_read_at b = packet_in (frame_of b) b
 
 module _ (m : List ℕ) (at : ℕ) where
-  no-packet : (r : Refusal) → frame-of (drop at m) ≡ Misframed r → NoPacket r ≡ packetAt (drop at m)
-  unfolding packetAt
+  no-packet : (r : Refusal) → frame_of (drop at m) ≡ Misframed r → NoPacket r ≡ packet_read_at (drop at m)
+  unfolding packet_read_at
   no-packet r h = rw h
 
-  pub short-stream : length m < packet_header_size → NoPacket (refusal bad_packet) ≡ packetAt (drop at m)
+  pub short-stream : length m < packet_header_size → NoPacket (refusal bad_packet) ≡ packet_read_at (drop at m)
   short-stream h = no-packet (refusal bad_packet) (few m at (omega arith))
 
   module _ (long : packet_header_size ≤ length m) where
-    pub last-bytes : length m - packet_header_size < at → NoPacket (refusal bad_packet) ≡ packetAt (drop at m)
+    pub last-bytes : length m - packet_header_size < at → NoPacket (refusal bad_packet) ≡ packet_read_at (drop at m)
     last-bytes h = no-packet (refusal bad_packet) (few m at (omega arith))
 
     module _ (here : at ≤ length m - packet_header_size) (op size : ℕ) (po : op ≡ word m at) (ps : size ≡ word m (at + 4)) (bad : Bool)
         (is : bad ≡ misframed (length m - at) size) where
-      header : frame-of (drop at m) ≡ frame-by (length m - at) op size
+      header : frame_of (drop at m) ≡ frame_by (length m - at) op size
       header = frame-read m at op size (omega arith) po ps
 
-      pub bad-size : bad ≡ true → NoPacket (refusal bad_packet) ≡ packetAt (drop at m)
+      pub bad-size : bad ≡ true → NoPacket (refusal bad_packet) ≡ packet_read_at (drop at m)
       bad-size h = no-packet (refusal bad_packet) (header ∙ frame-bad (length m - at) op size (sym is ∙ h))
 
       module _ (good : bad ≡ false) (room : ℕ) (same : room ≡ size) where
@@ -182,20 +182,20 @@ module _ (m : List ℕ) (at : ℕ) where
           long_as : length p ≡ size
           long_as = rw own (length-take-le room (drop at m) (rw length-drop (omega (arith, inside)))) ∙ same
 
-          frame : frame-of (drop at m) ≡ framed (rule bad_packet (ltb size (least_size op))) op size
+          frame : frame_of (drop at m) ≡ framed (rule bad_packet (ltb size (least_size op))) op size
           frame = header ∙ frame-rest (length m - at) op size (sym is ∙ good)
 
-          pub short-packet : x ≡ TooShort → NoPacket (refusal bad_packet) ≡ packetAt (drop at m)
+          pub short-packet : x ≡ TooShort → NoPacket (refusal bad_packet) ≡ packet_read_at (drop at m)
           short-packet h =
               let short : ltb size (least_size op) ≡ true = rw long_as at (part-short op p x says h) in
               no-packet (refusal bad_packet) (rw short at frame)
 
-          pub whole-packet : (k : Packet) → x ≡ Says k → WholePacket size k ≡ packetAt (drop at m)
-          unfolding packetAt
+          pub whole-packet : (k : Packet) → x ≡ Says k → WholePacket size k ≡ packet_read_at (drop at m)
+          unfolding packet_read_at
           whole-packet k h =
-              let r : (ltb (length p) (least_size op) ≡ false) × (k ≡ packet-of op p) = part_says op p x says k h in
+              let r : (ltb (length p) (least_size op) ≡ false) × (k ≡ packet_of op p) = part_says op p x says k h in
               let right : ltb size (least_size op) ≡ false = rw long_as at r.0 in
-              let whole : frame-of (drop at m) ≡ Whole op size = rw right at frame in
+              let whole : frame_of (drop at m) ≡ Whole op size = rw right at frame in
               rw (whole, r.1, own, same)
 
 pub ruleset packet_reading = (part-is, short-stream, last-bytes, bad-size, part_room, short-packet, whole-packet, rules)
@@ -205,27 +205,27 @@ pub ruleset packet_reading = (part-is, short-stream, last-bytes, bad-size, part_
 module _ (b : List ℕ) where
   pub record WasWhole (size : ℕ) (k : Packet) : Type 0 where
     pub opcode : ℕ
-    pub frame : frame-of b ≡ Whole opcode size
-    pub says : k ≡ packet-of opcode (take size b)
+    pub frame : frame_of b ≡ Whole opcode size
+    pub says : k ≡ packet_of opcode (take size b)
 
-  by_whole : (f : Frame) → frame-of b ≡ f → (size : ℕ) (k : Packet) → packet_in f b ≡ WholePacket size k → WasWhole size k
+  by_whole : (f : Frame) → frame_of b ≡ f → (size : ℕ) (k : Packet) → packet_in f b ≡ WholePacket size k → WasWhole size k
   by_whole (Whole op n) e size k h =
       let same : n ≡ size = cc in
-      let is : packet-of op (take n b) ≡ k = cc in
+      let is : packet_of op (take n b) ≡ k = cc in
       record { opcode = op; frame = rw same at e; says = rw same at (sym is) }
   by_whole (Misframed r) e size k h = absurd (let z : ◌≡◌ {A = ℕ} 0 1 = cc in omega arith)
 
-  pub was-whole : (x : PacketRead) → x ≡ packetAt b → (size : ℕ) (k : Packet) → x ≡ WholePacket size k → WasWhole size k
-  unfolding packetAt
-  was-whole x is size k e = by_whole (frame-of b) refl size k (sym is ∙ e)
+  pub was-whole : (x : PacketRead) → x ≡ packet_read_at b → (size : ℕ) (k : Packet) → x ≡ WholePacket size k → WasWhole size k
+  unfolding packet_read_at
+  was-whole x is size k e = by_whole (frame_of b) refl size k (sym is ∙ e)
 
   by-bad : (f : Frame) (r : Refusal) → packet_in f b ≡ NoPacket r → f ≡ Misframed r
   by-bad (Whole op n) r h = absurd (let z : ◌≡◌ {A = ℕ} 0 1 = cc in omega arith)
   by-bad (Misframed q) r h = let same : q ≡ r = cc in rw same
 
-  pub was-misframed : (x : PacketRead) → x ≡ packetAt b → (r : Refusal) → x ≡ NoPacket r → frame-of b ≡ Misframed r
-  unfolding packetAt
-  was-misframed x is r e = by-bad (frame-of b) r (sym is ∙ e)
+  pub was-misframed : (x : PacketRead) → x ≡ packet_read_at b → (r : Refusal) → x ≡ NoPacket r → frame_of b ≡ Misframed r
+  unfolding packet_read_at
+  was-misframed x is r e = by-bad (frame_of b) r (sym is ∙ e)
 
 -- ---- may_be_known
 
@@ -266,8 +266,8 @@ pub ruleset finding_block = (before-all, behind-all, in-first, in-second, in-thi
 
 -- a size that is not 0 is of a whole packet of an unknown opcode, smaller than the room
 pub record Passed (b : List ℕ) (at room size : ℕ) : Type 0 where
-  pub whole : (size ≡ 0 → ⊥) → frame-of (drop at b) ≡ Whole (word b at) size
-  pub nothing : (size ≡ 0 → ⊥) → Unknown ≡ packet-of (word b at) (take size (drop at b))
+  pub whole : (size ≡ 0 → ⊥) → frame_of (drop at b) ≡ Whole (word b at) size
+  pub nothing : (size ≡ 0 → ⊥) → Unknown ≡ packet_of (word b at) (take size (drop at b))
   pub within : (size ≡ 0 → ⊥) → size < room
 
 module _ (b : List ℕ) (at room : ℕ) where
@@ -291,7 +291,7 @@ module _ (b : List ℕ) (at room : ℕ) where
         let unknown : known op ≡ none = none_of not-that in
         let no-least : 0 ≡ least_size op = known-none op unknown in
         let fits : misframed (length b - at) size ≡ false = rw (le-ltb (length b - at) size (omega arith), le-ltb size packet_header_size (omega arith), eq-eqb (size % 4) 0 fours) in
-        let is : frame-of (drop at b) ≡ framed (rule bad_packet (ltb size (least_size op))) op size = frame-read b at op size (omega arith) po ps ∙ frame-rest (length b - at) op size fits in
+        let is : frame_of (drop at b) ≡ framed (rule bad_packet (ltb size (least_size op))) op size = frame-read b at op size (omega arith) po ps ∙ frame-rest (length b - at) op size fits in
         record {
           whole = λ _. is ∙ rw (← no-least, le-ltb size 0 (omega arith), po, same);
           nothing = λ _. rw (← po) (says_nothing op unknown (take long (drop at b)));

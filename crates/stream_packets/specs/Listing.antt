@@ -5,7 +5,7 @@ use Rattle.std.proofs.Common.{◌∙◌, ⊎_elim, arith, eq-eqb, ne_eqb, lt-ltb
 use Rattle.machine.specs.Machine.{pick}
 use Rattle.words.specs.Over.{below_or_not}
 use Rattle.rules.specs.Layouts.{stream_header_size}
-use Rattle.rules.specs.Stream.{frame-of, Piece, size_of, before, cut, stream_bytes, left, packets_of}
+use Rattle.rules.specs.Stream.{frame_of, Piece, size_of, before, cut, stream_bytes, left, packets_of}
 use Rattle.rules.specs.declared.Stream.{Stream}
 use Rattle.rules.specs.declared.Frame.{Frame}
 use Rattle.rules.specs.declared.Frame.TheVariants.{Whole, Misframed}
@@ -20,14 +20,14 @@ cut-end zero at b h = refl
 cut-end (suc k) at b h = rw (eq-eqb (length b) 0 h)
 
 pub cut-packet : (k at : ℕ) (b : List ℕ) → 0 < length b
-    → cut (suc k) at b ≡ before at (frame-of b) b (cut k (at + size_of (frame-of b)) (drop (size_of (frame-of b)) b))
+    → cut (suc k) at b ≡ before at (frame_of b) b (cut k (at + size_of (frame_of b)) (drop (size_of (frame_of b)) b))
 unfolding cut
 cut-packet k at b h = rw (ne_eqb (length b) 0 (λ z. omega arith))
 
 -- the same at a place of the stream
 pub cut-next : (k : ℕ) (b : List ℕ) (at : ℕ) → at < length b
     → cut (suc k) at (drop at b)
-    ≡ before at (frame-of (drop at b)) (drop at b) (cut k (at + size_of (frame-of (drop at b))) (drop (at + size_of (frame-of (drop at b))) b))
+    ≡ before at (frame_of (drop at b)) (drop at b) (cut k (at + size_of (frame_of (drop at b))) (drop (at + size_of (frame_of (drop at b))) b))
 cut-next k b at h = cut-packet k at (drop at b) (rw length-drop (omega arith)) ∙ rw drop-drop
 
 pub cut-none : (k : ℕ) (b : List ℕ) (at : ℕ) → length b ≤ at → cut k at (drop at b) ≡ []
@@ -45,7 +45,7 @@ cut-fuel (suc k) zero at b h h' = rw (cut-end (suc k) at b (omega arith), cut-en
 cut-fuel (suc k) (suc k') at b h h' =
     ⊎_elim
     (λ some. rw (cut-packet k at b some, cut-packet k' at b some)
-    (before_same at (frame-of b) b _ _
+    (before_same at (frame_of b) b _ _
     (λ op size e.
     let head : 8 ≤ size = (frame-sound b op size e).header in
     rw e (cut-fuel k k' (at + size) (drop size b) (rw length-drop (omega arith)) (rw length-drop (omega arith))))))
@@ -55,17 +55,17 @@ cut-fuel (suc k) (suc k') at b h h' =
 -- ---- a reader
 
 -- what a reader meets that frames the packet at a place, reads it, and goes on behind it, for so many packets at most
-unfoldable pub read-from : ℕ → List ℕ → ℕ → List Piece
-read-from zero b at = []
-read-from (suc k) b at =
-    pick (ltb at (length b)) (before at (frame-of (drop at b)) (drop at b) (read-from k b (at + size_of (frame-of (drop at b))))) []
+unfoldable pub read_from : ℕ → List ℕ → ℕ → List Piece
+read_from zero b at = []
+read_from (suc k) b at =
+    pick (ltb at (length b)) (before at (frame_of (drop at b)) (drop at b) (read_from k b (at + size_of (frame_of (drop at b))))) []
 
-read-cut : (k : ℕ) (b : List ℕ) (at : ℕ) → read-from k b at ≡ cut k at (drop at b)
-unfolding read-from cut
+read-cut : (k : ℕ) (b : List ℕ) (at : ℕ) → read_from k b at ≡ cut k at (drop at b)
+unfolding read_from cut
 read-cut zero b at = refl
 read-cut (suc k) b at =
     ⊎_elim
-    (λ h. rw (lt-ltb at (length b) h, cut-next k b at h, read-cut k b (at + size_of (frame-of (drop at b)))))
+    (λ h. rw (lt-ltb at (length b) h, cut-next k b at h, read-cut k b (at + size_of (frame_of (drop at b)))))
     (λ h. rw (le-ltb at (length b) h, cut-none (suc k) b at h))
     (below_or_not at (length b))
 
@@ -81,7 +81,7 @@ module _ (m : List ℕ) (s : Stream) (room : s.gpa + s.size ≤ length m) where
 
   -- a reader of the stream's bytes meets the packets that the rule book lists, and ends at the same broken one,
   -- where it may read as many packets as there are bytes
-  pub reader-lists-packets : (k : ℕ) → s.size ≤ k → read-from k (stream_bytes m s) stream_header_size ≡ packets_of m s
+  pub reader-lists-packets : (k : ℕ) → s.size ≤ k → read_from k (stream_bytes m s) stream_header_size ≡ packets_of m s
   reader-lists-packets k h =
       let n : length (left m s stream_header_size) ≡ s.size - stream_header_size = left_over stream_header_size in
       read-cut k (stream_bytes m s) stream_header_size ∙ cut-fuel k s.size stream_header_size (left m s stream_header_size) (omega arith) (omega arith)

@@ -1,7 +1,7 @@
 // A packet of the stream: where it ends, judged from its first eight bytes, its own part of the stream, and what that says.
 // A reader goes on by the packet's size until no byte is left.
 ghost use Rattle.std.specs.Prelude.{◌≡◌, ◌+◌, ◌-◌, ◌≤◌, ◌<◌, length, take, drop};
-ghost use Rattle.stream_packets.specs.Framing.{misframed, in_blocks, packetAt, Passed};
+ghost use Rattle.stream_packets.specs.Framing.{misframed, in_blocks, packet_read_at, Passed};
 
 use rules::numbers::{BAD_PACKET, CLEAR, CREATE_BUFFER, EXPORT_SURFACE, SET_TARGET};
 use rules::{Packet, Refusal};
@@ -95,7 +95,7 @@ pub fn packet_part(stream: &[u8], at: usize, size: usize) -> &[u8]
 // The packet at a place of the stream, whatever the bytes and the place are. Past the end no byte is left. Of the stream's length alone a
 // reader's loop asks once.
 pub fn packet_at(stream: &[u8], at: usize) -> PacketRead
-    ensures { result ≡ packetAt (drop at stream.now) }
+    ensures { result ≡ packet_read_at (drop at stream.now) }
 {
     let end = stream.len();
     if end < PACKET_HEADER_SIZE {

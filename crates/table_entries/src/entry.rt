@@ -4,7 +4,7 @@ ghost use Rattle.std.specs.Prelude.{◌≡◌, ◌+◌, ◌-◌, ◌≤◌, ◌<
 ghost use Rattle.rules.specs.Layouts.{entry};
 ghost use Rattle.rules.specs.Lists.{pushed};
 ghost use Rattle.rules.specs.Numbers.{most};
-ghost use Rattle.rules.specs.Table.{entry-rules, take-entry};
+ghost use Rattle.rules.specs.Table.{entry_rules, take_entry};
 ghost use Rattle.kept_entries.specs.Views.{entries_of, taken_of};
 ghost use Rattle.table_entries.specs.Entry.{sound as sound-entry};
 
@@ -30,7 +30,7 @@ pub fn sound(memory: u64, e: Entry) -> bool
 // Judges an entry that was read, after `kept` that were kept.
 pub fn judge_entry(memory: u64, e: Entry, entries: &Entries, kept: usize) -> Verdict
     requires { kept ≤ most }
-    ensures { result ≡ entry-rules memory (entries_of kept entries.now) e }
+    ensures { result ≡ entry_rules memory (entries_of kept entries.now) e }
 {
     if !sound(memory, e) {
         return Verdict::Broken(Refusal { code: BAD_ENTRY });
@@ -61,7 +61,7 @@ fn push_entry(entries: &mut Entries, kept: usize, e: Entry)
 // One step: judges the entry after the `kept` kept ones, over the memory lent at this step, and keeps it if it is fine.
 pub fn take_entry(mem: &[u8], t: Table, entries: &mut Entries, kept: usize) -> Verdict
     requires { kept ≤ most }
-    ensures { taken_of result kept entries.new ≡ take-entry mem.now t (entries_of kept entries.old) }
+    ensures { taken_of result kept entries.new ≡ take_entry mem.now t (entries_of kept entries.old) }
 {
     let memory = mem.len() as u64;
     if kept >= MOST_ROWS {

@@ -1,8 +1,8 @@
 // The header of an allocation table: read once, judged, and the numbers kept of it.
 // Later steps go by the numbers kept, whatever the guest writes there since.
 ghost use Rattle.std.specs.Prelude.{◌≡◌, ◌+◌, ◌*◌, ◌^◌, ◌≤◌, length};
-ghost use Rattle.rules.specs.Layouts.{table-header, table_header_size};
-ghost use Rattle.rules.specs.Table.{header-rules, checked_table};
+ghost use Rattle.rules.specs.Layouts.{table_header, table_header_size};
+ghost use Rattle.rules.specs.Table.{header_rules, checked_table};
 ghost use Rattle.table_header.specs.Header.{headed};
 
 use headers::wrong_header;
@@ -24,7 +24,7 @@ pub enum CheckedTable {
 // Reads each field once: what is judged is what is kept.
 fn header_at(mem: &[u8], at: usize) -> TableHeader
     requires { at + table_header_size ≤ length mem.now }
-    ensures { result ≡ table-header mem.now at }
+    ensures { result ≡ table_header mem.now at }
 {
     TableHeader {
         magic: words::u32_at(mem, at),
@@ -44,7 +44,7 @@ pub fn entry_offset(stride: u32, i: u32) -> u64
 
 // Judges a header that was read, for a table of so many bytes.
 pub fn header_verdict(tablesize: u64, h: TableHeader) -> Verdict
-    ensures { result ≡ header-rules tablesize h }
+    ensures { result ≡ header_rules tablesize h }
 {
     if wrong_header(
         TABLE_MAGIC,
@@ -72,7 +72,7 @@ pub fn header_verdict(tablesize: u64, h: TableHeader) -> Verdict
 // Reads and judges the header of a table that lies within memory. A table too short for one is not read.
 pub fn check_header(mem: &[u8], at: usize, tablesize: u64) -> CheckedTable
     requires { at + tablesize ≤ length mem.now }
-    ensures { result ≡ headed (header-rules tablesize (table-header mem.now at)) (checked_table at (table-header mem.now at)) }
+    ensures { result ≡ headed (header_rules tablesize (table_header mem.now at)) (checked_table at (table_header mem.now at)) }
 {
     if tablesize < HEADER_SIZE {
         return CheckedTable::Bad(Refusal { code: BAD_TABLE });

@@ -8,8 +8,8 @@ use Rattle.std.proofs.Math.Nat.{add-zero}
 use Rattle.rules.specs.Numbers.{most}
 use Rattle.rules.specs.Lists.{pushed}
 use Rattle.rules.specs.Judging.Finding.{fine}
-use Rattle.rules.specs.Layouts.{entry, entry_size, table-header, table_header_size}
-use Rattle.rules.specs.Table.{Judged, keep, entry-rules, entry_place, take-entry, in_reach, entries_from, entries_of, stop_or_go, judge-entries, header-rules, checked_table, after_header, table-finding}
+use Rattle.rules.specs.Layouts.{entry, entry_size, table_header, table_header_size}
+use Rattle.rules.specs.Table.{Judged, keep, entry_rules, entry_place, take_entry, in_reach, entries_from, entries_of, stop_or_go, judge_entries, header_rules, checked_table, after_header, table_finding}
 use Rattle.rules.specs.declared.Entry.{Entry}
 use Rattle.rules.specs.declared.Table.{Table}
 use Rattle.rules.specs.declared.TableHeader.{TableHeader}
@@ -23,46 +23,46 @@ use Rattle.table_whole.specs.Whole.{entries-more, length-entries}
 -- steps one after the other, n at most: the first broken rule with its place, and how many were taken up to and with it
 unfoldable pub stepped : List ℕ → Table → ℕ → List Entry → Judged
 stepped m t zero kept = record { finding = fine; count = 0 }
-stepped m t (suc n) kept = stop_or_go (length kept) (take-entry m t kept).verdict (stepped m t n (take-entry m t kept).kept)
+stepped m t (suc n) kept = stop_or_go (length kept) (take_entry m t kept).verdict (stepped m t n (take_entry m t kept).kept)
 
 -- ---- one step
 
 -- whatever the verdict on an entry, the list goes on with what is kept
 go_on : (memory : ℕ) (kept : List Entry) (e : Entry) (es : List Entry) (v : Verdict)
-    → stop_or_go (length kept) v (judge-entries memory (pushed kept e) es) ≡ stop_or_go (length kept) (keep v kept e).verdict (judge-entries memory (keep v kept e).kept es)
+    → stop_or_go (length kept) v (judge_entries memory (pushed kept e) es) ≡ stop_or_go (length kept) (keep v kept e).verdict (judge_entries memory (keep v kept e).kept es)
 go_on memory kept e es Fine = refl
 go_on memory kept e es (Broken r) = refl
 
 -- a step judges what the list judges next, and keeps what the list goes on with
 pub step-agrees : (m : List ℕ) (t : Table) (kept : List Entry) (n : ℕ) → in_reach m t (length kept) ≡ true
-    → judge-entries (length m) kept (entries_from m t (length kept) (suc n))
-    ≡ stop_or_go (length kept) (take-entry m t kept).verdict (judge-entries (length m) (take-entry m t kept).kept (entries_from m t (suc (length kept)) n))
-unfolding judge-entries entries_from take-entry
+    → judge_entries (length m) kept (entries_from m t (length kept) (suc n))
+    ≡ stop_or_go (length kept) (take_entry m t kept).verdict (judge_entries (length m) (take_entry m t kept).kept (entries_from m t (suc (length kept)) n))
+unfolding judge_entries entries_from take_entry
 step-agrees m t kept n h =
     let e : Entry = entry m (entry_place t (length kept)) in
-    rw h (go_on (length m) kept e (entries_from m t (suc (length kept)) n) (entry-rules (length m) kept e))
+    rw h (go_on (length m) kept e (entries_from m t (suc (length kept)) n) (entry_rules (length m) kept e))
 
 -- ---- steps
 
 module _ (m : List ℕ) (t : Table) (n : ℕ) (kept : List Entry) (e : Entry)
-    (later : stepped m t n (pushed kept e) ≡ judge-entries (length m) (pushed kept e) (entries_from m t (suc (length kept)) n)) where
+    (later : stepped m t n (pushed kept e) ≡ judge_entries (length m) (pushed kept e) (entries_from m t (suc (length kept)) n)) where
   by-verdict : (v : Verdict) → stop_or_go (length kept) (keep v kept e).verdict (stepped m t n (keep v kept e).kept)
-      ≡ stop_or_go (length kept) v (judge-entries (length m) (pushed kept e) (entries_from m t (suc (length kept)) n))
+      ≡ stop_or_go (length kept) v (judge_entries (length m) (pushed kept e) (entries_from m t (suc (length kept)) n))
   by-verdict Fine = rw later
   by-verdict (Broken r) = refl
 
 -- steps find the broken rule that the list of the entries has first, and spend its count
 pub steps-agree : (m : List ℕ) (t : Table) (n : ℕ) (kept : List Entry)
     → ((k : ℕ) → length kept ≤ k → k < length kept + n → in_reach m t k ≡ true)
-    → stepped m t n kept ≡ judge-entries (length m) kept (entries_from m t (length kept) n)
-unfolding stepped judge-entries entries_from take-entry
+    → stepped m t n kept ≡ judge_entries (length m) kept (entries_from m t (length kept) n)
+unfolding stepped judge_entries entries_from take_entry
 steps-agree m t zero kept reach = refl
 steps-agree m t (suc n) kept reach =
     let e : Entry = entry m (entry_place t (length kept)) in
     let longer : length (pushed kept e) ≡ suc (length kept) = length-append kept (e ∷ []) ∙ add-one (length kept) in
-    let later : stepped m t n (pushed kept e) ≡ judge-entries (length m) (pushed kept e) (entries_from m t (length (pushed kept e)) n) =
+    let later : stepped m t n (pushed kept e) ≡ judge_entries (length m) (pushed kept e) (entries_from m t (length (pushed kept e)) n) =
     steps-agree m t n (pushed kept e) (λ k p q. reach k (omega arith) (omega arith)) in
-    rw (reach (length kept) (omega arith) (omega arith)) (by-verdict m t n kept e (rw longer at later) (entry-rules (length m) kept e))
+    rw (reach (length kept) (omega arith) (omega arith)) (by-verdict m t n kept e (rw longer at later) (entry_rules (length m) kept e))
 
 -- as long as all is fine, what is kept are the table's first entries
 module _ (m : List ℕ) (t : Table) (i : ℕ) (reach : in_reach m t i ≡ true) where
@@ -70,11 +70,11 @@ module _ (m : List ℕ) (t : Table) (i : ℕ) (reach : in_reach m t i ≡ true) 
   keeps-one kept e Fine h = refl
   keeps-one kept e (Broken r) h = let z : ◌≡◌ {A = ℕ} 0 1 = cc in absurd (omega arith)
 
-  pub steps-keep : (take-entry m t (entries_from m t 0 i)).verdict ≡ Fine → (take-entry m t (entries_from m t 0 i)).kept ≡ entries_from m t 0 (i + 1)
-  unfolding take-entry
+  pub steps-keep : (take_entry m t (entries_from m t 0 i)).verdict ≡ Fine → (take_entry m t (entries_from m t 0 i)).kept ≡ entries_from m t 0 (i + 1)
+  unfolding take_entry
   steps-keep h =
       rw (length-entries m t 0 i, reach, entries-more m t i)
-      (keeps-one (entries_from m t 0 i) (entry m (entry_place t i)) (entry-rules (length m) (entries_from m t 0 i) (entry m (entry_place t i)))
+      (keeps-one (entries_from m t 0 i) (entry m (entry_place t i)) (entry_rules (length m) (entries_from m t 0 i) (entry m (entry_place t i)))
       (rw (length-entries m t 0 i, reach) at h))
 
 -- ---- a checked table
@@ -84,7 +84,7 @@ sized-room : (tablesize : ℕ) (h : TableHeader) (i : ℕ) → Sized tablesize h
 sized-room tablesize h i s p = omega (arith, s.room, s.wide, mul-le-mul_right h.stride p, suc-mul i h.stride)
 
 -- and each is in reach of the steps
-pub checked-in-reach : (m : List ℕ) (at tablesize : ℕ) (h : TableHeader) → header-rules tablesize h ≡ Fine → at + tablesize ≤ length m
+pub checked-in-reach : (m : List ℕ) (at tablesize : ℕ) (h : TableHeader) → header_rules tablesize h ≡ Fine → at + tablesize ≤ length m
     → (i : ℕ) → i < h.count → in_reach m (checked_table at h) i ≡ true
 checked-in-reach m at tablesize h good room i p =
     let s : Sized tablesize h = fine-sized tablesize h good in
@@ -102,8 +102,8 @@ module _ (m : List ℕ) (at tablesize : ℕ) (room : at + tablesize ≤ length m
   length-bytes : length bytes ≡ tablesize
   length-bytes = length-take-le tablesize (drop at m) (simp length-drop (omega arith))
 
-  header-same : table_header_size ≤ tablesize → table-header bytes 0 ≡ table-header m at
-  unfolding table-header
+  header-same : table_header_size ≤ tablesize → table_header bytes 0 ≡ table_header m at
+  unfolding table_header
   header-same h =
       rw (
         field-part 4 0 tablesize at m (omega arith) room,
@@ -133,8 +133,8 @@ module _ (m : List ℕ) (at tablesize : ℕ) (room : at + tablesize ≤ length m
         rw (zero-add, entry-same (table_header_size + i * h.stride) (sized-room tablesize h i s (omega arith)), entries-same (suc i) n (omega arith))
 
   module _ (h : TableHeader) where
-    judged-same : (v : Verdict) → header-rules tablesize h ≡ v
-        → after_header v (judge-entries (length m) [] (entries_of bytes (checked_table 0 h))).finding ≡ after_header v (stepped m (checked_table at h) h.count []).finding
+    judged-same : (v : Verdict) → header_rules tablesize h ≡ v
+        → after_header v (judge_entries (length m) [] (entries_of bytes (checked_table 0 h))).finding ≡ after_header v (stepped m (checked_table at h) h.count []).finding
     judged-same (Broken r) e = refl
     judged-same Fine e =
         rw (
@@ -143,12 +143,12 @@ module _ (m : List ℕ) (at tablesize : ℕ) (room : at + tablesize ≤ length m
         )
 
   -- what is found in a table's bytes alone, number and place, is what its opening and its steps find in memory
-  pub first-fault-as-steps : table-finding bytes (length m)
-      ≡ after_header (header-rules tablesize (table-header m at)) (stepped m (checked_table at (table-header m at)) (table-header m at).count []).finding
-  unfolding table-finding
+  pub first-fault-as-steps : table_finding bytes (length m)
+      ≡ after_header (header_rules tablesize (table_header m at)) (stepped m (checked_table at (table_header m at)) (table_header m at).count []).finding
+  unfolding table_finding
   first-fault-as-steps =
       rw length-bytes
       (⊎_elim
-      (λ p. rw (← header-short tablesize (table-header bytes 0) p, ← header-short tablesize (table-header m at) p))
-      (λ p. rw (header-same p) (judged-same (table-header m at) (header-rules tablesize (table-header m at)) refl))
+      (λ p. rw (← header-short tablesize (table_header bytes 0) p, ← header-short tablesize (table_header m at) p))
+      (λ p. rw (header-same p) (judged-same (table_header m at) (header_rules tablesize (table_header m at)) refl))
       (below_or_not tablesize table_header_size))

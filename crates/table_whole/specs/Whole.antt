@@ -9,8 +9,8 @@ use Rattle.std.proofs.lemmas.Bool.{not-true, not-false}
 use Rattle.rules.specs.Numbers.{bad_entry, twice_in_table, most, no_place}
 use Rattle.rules.specs.Lists.{pushed}
 use Rattle.rules.specs.Judging.{Finding, rule, number, place_of}
-use Rattle.rules.specs.Layouts.{word, entry, entry_size, table-header, table_header_size}
-use Rattle.rules.specs.Table.{entry_id, matching, is_found, entry-rules, entry_place, entries_from, entries_of, stop_or_go, judge-entries, header-rules, checked_table, table-finding}
+use Rattle.rules.specs.Layouts.{word, entry, entry_size, table_header, table_header_size}
+use Rattle.rules.specs.Table.{entry_id, matching, is_found, entry_rules, entry_place, entries_from, entries_of, stop_or_go, judge_entries, header_rules, checked_table, table_finding}
 use Rattle.rules.specs.declared.Entry.{Entry}
 use Rattle.rules.specs.declared.Refusal.{Refusal}
 use Rattle.rules.specs.declared.Fault.{Fault}
@@ -82,7 +82,7 @@ module _ (b : List ℕ) (memory : ℕ) (t : Table) where
   -- what is found from entry i on is what is found in all
   abbrev pub Scanned : ℕ → Type 0
   Scanned i =
-      (judge-entries memory [] (entries_of b t)).finding ≡ (judge-entries memory (entries_from b t 0 i) (entries_from b t i (t.count - i))).finding
+      (judge_entries memory [] (entries_of b t)).finding ≡ (judge_entries memory (entries_from b t 0 i) (entries_from b t i (t.count - i))).finding
 
   -- an id is among the first i entries where it is among those from entry j to entry i
   abbrev pub Sought : ℕ → ℕ → ℕ → Type 0
@@ -92,8 +92,8 @@ module _ (b : List ℕ) (memory : ℕ) (t : Table) where
   unfolding entries_from
   scan-start = rw sub-zero
 
-  pub scan-end : (i : ℕ) → Scanned i → t.count ≤ i → record { code = 0; place = no_place } ≡ shown (judge-entries memory [] (entries_of b t)).finding
-  unfolding judge-entries
+  pub scan-end : (i : ℕ) → Scanned i → t.count ≤ i → record { code = 0; place = no_place } ≡ shown (judge_entries memory [] (entries_of b t)).finding
+  unfolding judge_entries
   scan-end i inv h = rw (inv, entries_none b t i t.count h)
 
   pub sought_start : (id i : ℕ) → Sought id i 0
@@ -104,19 +104,19 @@ module _ (b : List ℕ) (memory : ℕ) (t : Table) where
     place : entry b (entry_place t i) ≡ e
     place = sym (read ∙ ap (λ k. entry b k) (at_front b t i o w at))
 
-    here : (judge-entries memory [] (entries_of b t)).finding
-        ≡ (stop_or_go i (entry-rules memory (entries_from b t 0 i) e) (judge-entries memory (pushed (entries_from b t 0 i) e) (entries_from b t (i + 1) (t.count - (i + 1))))).finding
-    unfolding judge-entries
+    here : (judge_entries memory [] (entries_of b t)).finding
+        ≡ (stop_or_go i (entry_rules memory (entries_from b t 0 i) e) (judge_entries memory (pushed (entries_from b t 0 i) e) (entries_from b t (i + 1) (t.count - (i + 1))))).finding
+    unfolding judge_entries
     here = rw (inv, entries-first b t i t.count h, place, length-entries b t 0 i)
 
     uncut : i % 2 ^ 32 ≡ i
     uncut = mod-eq_of_lt (omega (arith, w.few))
 
-    pub scan-unsound : not good ≡ true → record { code = bad_entry; place = i } ≡ shown (judge-entries memory [] (entries_of b t)).finding
+    pub scan-unsound : not good ≡ true → record { code = bad_entry; place = i } ≡ shown (judge_entries memory [] (entries_of b t)).finding
     scan-unsound p = rw (here, unsound memory (entries_from b t 0 i) e (sym is ∙ not-true good p), uncut)
 
     module _ (p : not good ≡ false) (j : ℕ) (so_far : Sought e.id i j) where
-      once : entry-rules memory (entries_from b t 0 i) e ≡ rule twice_in_table (is_found (matching e.id (entries_from b t j (i - j))))
+      once : entry_rules memory (entries_from b t 0 i) e ≡ rule twice_in_table (is_found (matching e.id (entries_from b t j (i - j))))
       once = sound-once memory (entries_from b t 0 i) e (sym is ∙ not-false good p) ∙ rw so_far
 
       pub scan-next : i ≤ j → Scanned (i + 1)
@@ -128,7 +128,7 @@ module _ (b : List ℕ) (memory : ℕ) (t : Table) where
         unfolding entry
         id-there = sym (read' ∙ ap (λ k. word b k) (at_front b t j o' w at'))
 
-        pub scan-twice : x ≡ e.id → record { code = twice_in_table; place = i } ≡ shown (judge-entries memory [] (entries_of b t)).finding
+        pub scan-twice : x ≡ e.id → record { code = twice_in_table; place = i } ≡ shown (judge_entries memory [] (entries_of b t)).finding
         scan-twice r =
             rw (here, once, entries-first b t j i q, lookup-here entry_id e.id (entry b (entry_place t j)) (entries_from b t (j + 1) (i - (j + 1))) (id-there ∙ r), uncut)
 
@@ -150,25 +150,25 @@ good-rules : (v : Verdict) (t t' : Table) → headed v t ≡ Good t' → (v ≡ 
 good-rules Fine t t' e = (refl, cc)
 good-rules (Broken x) t t' e = let z : ◌≡◌ {A = ℕ} 0 1 = cc in absurd (omega arith)
 
-module _ (b : List ℕ) (memory : ℕ) (r : CheckedTable) (checked : r ≡ headed (header-rules (length b) (table-header b 0)) (checked_table 0 (table-header b 0))) where
-  pub first-in-header : (why : Refusal) → r ≡ Bad why → record { code = why.code; place = no_place } ≡ shown (table-finding b memory)
-  unfolding table-finding
+module _ (b : List ℕ) (memory : ℕ) (r : CheckedTable) (checked : r ≡ headed (header_rules (length b) (table_header b 0)) (checked_table 0 (table_header b 0))) where
+  pub first-in-header : (why : Refusal) → r ≡ Bad why → record { code = why.code; place = no_place } ≡ shown (table_finding b memory)
+  unfolding table_finding
   first-in-header why told =
-      let e : header-rules (length b) (table-header b 0) ≡ Broken why =
-      bad-rules (header-rules (length b) (table-header b 0)) (checked_table 0 (table-header b 0)) why (sym checked ∙ told) in
+      let e : header_rules (length b) (table_header b 0) ≡ Broken why =
+      bad-rules (header_rules (length b) (table_header b 0)) (checked_table 0 (table_header b 0)) why (sym checked ∙ told) in
       rw e
 
   module _ (t : Table) (told : r ≡ Good t) where
-    both : (header-rules (length b) (table-header b 0) ≡ Fine) × (t ≡ checked_table 0 (table-header b 0))
-    both = good-rules (header-rules (length b) (table-header b 0)) (checked_table 0 (table-header b 0)) t (sym checked ∙ told)
+    both : (header_rules (length b) (table_header b 0) ≡ Fine) × (t ≡ checked_table 0 (table_header b 0))
+    both = good-rules (header_rules (length b) (table_header b 0)) (checked_table 0 (table_header b 0)) t (sym checked ∙ told)
 
     pub within-bytes : Within b t
     within-bytes =
-        let s : Sized (length b) (table-header b 0) = fine-sized (length b) (table-header b 0) both.0 in
+        let s : Sized (length b) (table_header b 0) = fine-sized (length b) (table_header b 0) both.0 in
         rw both.1 (record { front = refl; few = s.few; wide = s.wide; room = s.room })
 
-    pub first-in-entries : (x : Fault) → x ≡ shown (judge-entries memory [] (entries_of b t)).finding → x ≡ shown (table-finding b memory)
-    unfolding table-finding
+    pub first-in-entries : (x : Fault) → x ≡ shown (judge_entries memory [] (entries_of b t)).finding → x ≡ shown (table_finding b memory)
+    unfolding table_finding
     first-in-entries x e = rw (both.0, e, both.1)
 
 pub ruleset first_fault_of = (first-in-header, first-in-entries, within-bytes, rules)

@@ -1,7 +1,7 @@
 // The whole table at once, for a host that asks what the steps would find in it: its bytes alone
 // are read, and nothing is kept.
 ghost use Rattle.std.specs.Prelude.{◌≡◌, []};
-ghost use Rattle.rules.specs.Table.{entries_of, judge-entries, table-finding};
+ghost use Rattle.rules.specs.Table.{entries_of, judge_entries, table_finding};
 ghost use Rattle.table_whole.specs.Whole.{shown, Within};
 
 use kept_entries::entry_at;
@@ -13,7 +13,7 @@ use table_header::header::{CheckedTable, check_header, entry_offset};
 // The first fault among the entries of a checked table that stands at the front of `table`: number and index, both 0 for none.
 fn entries_fault(table: &[u8], memory: u64, t: Table) -> Fault
     requires { Within table.now t }
-    ensures { result ≡ shown (judge-entries memory [] (entries_of table.now t)).finding }
+    ensures { result ≡ shown (judge_entries memory [] (entries_of table.now t)).finding }
 {
     let mut i: u32 = 0;
     'scan: loop {
@@ -48,7 +48,7 @@ fn entries_fault(table: &[u8], memory: u64, t: Table) -> Fault
 // For the emulator's host: the number of the table's first broken rule and where it broke, for a memory of so many bytes. The number
 // is 0 for none; the place is the entry's index for 14 and 15, else 0.
 pub fn first_fault(table: &[u8], memory: u64) -> Fault
-    ensures { result ≡ shown (table-finding table.now memory) }
+    ensures { result ≡ shown (table_finding table.now memory) }
 {
     match check_header(table, 0, table.len() as u64) {
         CheckedTable::Good(t) => entries_fault(table, memory, t),

@@ -38,24 +38,24 @@ filled (c ∷ cs) vs = piece c (get_or vs 0 0) ++ filled cs (drop (takes c) vs)
 
 -- ---- below_zero, put_signed
 
-unfoldable pub less-than-zero : ℕ → ℕ
-less-than-zero w = suc (4294967295 - w)
+unfoldable pub less_than_zero : ℕ → ℕ
+less_than_zero w = suc (4294967295 - w)
 
 module _ (w : ℕ) where
-  pub less-beyond : 4294967295 < w → 1 ≡ less-than-zero w
-  unfolding less-than-zero
+  pub less-beyond : 4294967295 < w → 1 ≡ less_than_zero w
+  unfolding less_than_zero
   less-beyond h = omega arith
 
-  pub less-within : w ≤ 4294967295 → 4294967295 - w + 1 ≡ less-than-zero w
-  unfolding less-than-zero
+  pub less-within : w ≤ 4294967295 → 4294967295 - w + 1 ≡ less_than_zero w
+  unfolding less_than_zero
   less-within h = omega arith
 
   not_negative : w < 2147483648 → signed_decimal (signed w) ≡ decimal w
   unfolding signed
   not_negative h = rw (lt-ltb w 2147483648 h)
 
-  negative : 2147483648 ≤ w → signed_decimal (signed w) ≡ ascii "-" ++ decimal (less-than-zero w)
-  unfolding signed less-than-zero
+  negative : 2147483648 ≤ w → signed_decimal (signed w) ≡ ascii "-" ++ decimal (less_than_zero w)
+  unfolding signed less_than_zero
   negative h = rw (le-ltb w 2147483648 h)
 
   module _ (at : ℕ) (b : List ℕ) (room : at + length (signed_decimal (signed w)) ≤ length b) where
@@ -66,16 +66,16 @@ module _ (w : ℕ) where
     plain-put h end m p = rw (not_negative h) p
 
     module _ (h : 2147483648 ≤ w) where
-      negative-room : at + suc (length (decimal (less-than-zero w))) ≤ length b
+      negative-room : at + suc (length (decimal (less_than_zero w))) ≤ length b
       negative-room = rw (negative h) at room
 
       pub sign-room : at < length b
       sign-room = omega (arith, negative-room)
 
-      pub behind-room : (n : ℕ) → n ≡ less-than-zero w → at + 1 + length (decimal n) ≤ length (set b at 45)
+      pub behind-room : (n : ℕ) → n ≡ less_than_zero w → at + 1 + length (decimal n) ≤ length (set b at 45)
       behind-room n e = rw e (simp length-set (omega (arith, negative-room)))
 
-      pub behind-put : (n : ℕ) → n ≡ less-than-zero w → (end : ℕ) (m : List ℕ) → Puts (at + 1) (decimal n) (set b at 45) end m → Puts at (signed_decimal (signed w)) b end m
+      pub behind-put : (n : ℕ) → n ≡ less_than_zero w → (end : ℕ) (m : List ℕ) → Puts (at + 1) (decimal n) (set b at 45) end m → Puts at (signed_decimal (signed w)) b end m
       behind-put n e end m p =
           rw (negative h, ← e)
           (puts-both at b (ascii "-") (at + 1) (set b at 45) (puts_one at b 45 (omega (arith, negative-room))) (decimal n) end m (rw e negative-room) p)

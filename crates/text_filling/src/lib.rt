@@ -4,7 +4,7 @@ ghost use Rattle.std.specs.Prelude.{◌≡◌, ◌+◌, ◌≤◌, suc, length, 
 ghost use Rattle.rules.specs.Layouts.{signed};
 ghost use Rattle.rules.specs.Text.{signed_decimal};
 ghost use Rattle.text_numbers.specs.Writing.{Puts};
-ghost use Rattle.text_filling.specs.Filling.{less-than-zero, takes as Takes-of, piece, filled};
+ghost use Rattle.text_filling.specs.Filling.{less_than_zero, takes as Takes-of, piece, filled};
 
 use text_numbers::{put_decimal, put_hex};
 
@@ -15,7 +15,7 @@ const LAST_WORD: u64 = 4294967295;
 
 // By how much a word from 2^31 on is below 0 as a signed number; a number beyond the last word counts as the last.
 fn below_zero(word: u64) -> u64
-    ensures { result ≡ less-than-zero word }
+    ensures { result ≡ less_than_zero word }
 {
     if word > LAST_WORD {
         return 1;

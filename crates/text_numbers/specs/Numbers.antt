@@ -8,14 +8,14 @@ use native.Mathlib.Omega.{arith}
 use Rattle.std.specs.Int.{w64}
 use Rattle.machine.specs.Machine.{pick}
 use Rattle.words.specs.Over.{below_or_not}
-use Rattle.rules.specs.Text.{digit, hex-digit, hex, decimal-in, decimal}
+use Rattle.rules.specs.Text.{digit, hex_digit, hex, decimal_in, decimal}
 use Rattle.text_numbers.specs.Writing.{Puts, Backs, backs-start, backs-end, backs-length, backs-room, backs-next}
 
 -- ---- decimal
 
 -- more digits than there are say nothing
-decimal-fuel : (k k' n : ℕ) → n < 10 ^ suc k → n < 10 ^ suc k' → decimal-in (suc k) n ≡ decimal-in (suc k') n
-unfolding decimal-in
+decimal-fuel : (k k' n : ℕ) → n < 10 ^ suc k → n < 10 ^ suc k' → decimal_in (suc k) n ≡ decimal_in (suc k') n
+unfolding decimal_in
 decimal-fuel zero zero n h h' = refl
 decimal-fuel zero (suc k') n h h' = let s : n < 10 = h in rw (lt-ltb n 10 s)
 decimal-fuel (suc k) zero n h h' = let s : n < 10 = h' in rw (lt-ltb n 10 s)
@@ -27,21 +27,21 @@ decimal-fuel (suc k) (suc k') n h h' =
 
 module _ (n : ℕ) where
   pub decimal_digit : n < 10 → decimal n ≡ digit n ∷ []
-  unfolding decimal decimal-in
+  unfolding decimal decimal_in
   decimal_digit h = rw (lt-ltb n 10 h)
 
   pub decimal-more : 10 ≤ n → n < 2 ^ 64 → decimal n ≡ decimal (n / 10) ++ (digit (n % 10) ∷ [])
-  unfolding decimal decimal-in
+  unfolding decimal decimal_in
   decimal-more h g = rw (le-ltb n 10 h) (ap (λ l. l ++ (digit (n % 10) ∷ [])) (decimal-fuel 18 19 (n / 10) (omega arith) (omega arith)))
 
 -- ---- put_decimal
 
 -- it has a digit at least
 pub decimal-some : (n : ℕ) → 1 ≤ length (decimal n)
-unfolding decimal decimal-in
+unfolding decimal decimal_in
 decimal-some n = by_test (ltb n 10)
   where
-    by_test : (t : Bool) → 1 ≤ length (pick t (digit n ∷ []) (decimal-in 19 (n / 10) ++ (digit (n % 10) ∷ [])))
+    by_test : (t : Bool) → 1 ≤ length (pick t (digit n ∷ []) (decimal_in 19 (n / 10) ++ (digit (n % 10) ∷ [])))
     by_test true = omega arith
     by_test false = rw length-append (omega arith)
 
@@ -80,12 +80,12 @@ pub ruleset writing_decimal = (decimal-start, decimal-left, decimal-kept, decima
 
 -- ---- hex_digit, put_hex
 
-pub hex-low : (d r : ℕ) → d < 10 → r ≡ 48 + d → r ≡ hex-digit d
-unfolding hex-digit
+pub hex-low : (d r : ℕ) → d < 10 → r ≡ 48 + d → r ≡ hex_digit d
+unfolding hex_digit
 hex-low d r h e = rw (lt-ltb d 10 h) e
 
-pub hex-high : (d r : ℕ) → 10 ≤ d → r ≡ 87 + d → r ≡ hex-digit d
-unfolding hex-digit
+pub hex-high : (d r : ℕ) → 10 ≤ d → r ≡ 87 + d → r ≡ hex_digit d
+unfolding hex_digit
 hex-high d r h e = rw (le-ltb d 10 h) e
 
 pub hex-length : (k n : ℕ) → length (hex k n) ≡ k
@@ -118,11 +118,11 @@ module _ (count n at : ℕ) (b : List ℕ) (room : at + count ≤ length b) wher
       pub hex-fits : length b < 2 ^ 64 → Fits w64 (at + (i - 1))
       hex-fits h = record { fits = omega (arith, hex-place, hex-kept) }
 
-      hex-more : hex i rest ≡ hex (i - 1) (rest / 16) ++ (hex-digit (rest % 16) ∷ [])
+      hex-more : hex i rest ≡ hex (i - 1) (rest / 16) ++ (hex_digit (rest % 16) ∷ [])
       unfolding hex
       hex-more = let e : i ≡ suc (i - 1) = omega arith in ap (λ k. hex k rest) e
 
-      pub hex-next : (d : ℕ) → d ≡ hex-digit (rest % 16) → Backs at (hex count n) b (hex (i - 1) (rest / 16)) (i - 1) (set m (at + (i - 1)) d)
-      hex-next d e = rw e (backs-next at (hex count n) b hex-room (hex (i - 1) (rest / 16)) (hex-digit (rest % 16)) i m (rw hex-more at w))
+      pub hex-next : (d : ℕ) → d ≡ hex_digit (rest % 16) → Backs at (hex count n) b (hex (i - 1) (rest / 16)) (i - 1) (set m (at + (i - 1)) d)
+      hex-next d e = rw e (backs-next at (hex count n) b hex-room (hex (i - 1) (rest / 16)) (hex_digit (rest % 16)) i m (rw hex-more at w))
 
 pub ruleset writing_hex = (hex-low, hex-high, hex-start, hex-kept, hex-whole, hex-place, hex-fits, rules)

@@ -7,7 +7,7 @@ use Rattle.std.proofs.Common.{arith, lit≤}
 use Rattle.std.proofs.Math.Dec.{eqb}
 use borrow.Author.Tests.{eqb-true, eqb-false, ne_eqb, lt-ltb, le-ltb}
 use Rattle.machine.specs.Machine.{pick}
-use Rattle.rules.specs.Shapes.{larger, block-bytes, block-side, blocks, tight}
+use Rattle.rules.specs.Shapes.{larger, block_bytes, block_side, blocks, tight}
 use Rattle.rules.specs.declared.Shape.{Shape}
 
 pub pick-le : (t : Bool) (x y k : ℕ) → x ≤ k → y ≤ k → pick t x y ≤ k
@@ -25,51 +25,51 @@ pub ruleset comparing = (left-larger, right-larger)
 -- ---- units
 
 module _ (f : ℕ) where
-  pub pixel-unit : 1 ≤ f → f < 4 → 4 ≡ block-bytes f
-  unfolding block-bytes
+  pub pixel-unit : 1 ≤ f → f < 4 → 4 ≡ block_bytes f
+  unfolding block_bytes
   pixel-unit lo hi = by_first (eqb f 1) refl
     where
-      by-second : (v : Bool) → eqb f 2 ≡ v → (f ≡ 1 → ⊥) → 4 ≡ block-bytes f
+      by-second : (v : Bool) → eqb f 2 ≡ v → (f ≡ 1 → ⊥) → 4 ≡ block_bytes f
       by-second true e n = rw (eqb-true f 2 e)
       by-second false e n =
           let three : f ≡ 3 = omega (arith, n, eqb-false f 2 e) in
           rw three
 
-      by_first : (v : Bool) → eqb f 1 ≡ v → 4 ≡ block-bytes f
+      by_first : (v : Bool) → eqb f 1 ≡ v → 4 ≡ block_bytes f
       by_first true e = rw (eqb-true f 1 e)
       by_first false e = by-second (eqb f 2) refl (eqb-false f 1 e)
 
-  pub small-block-unit : f ≡ 64 → 8 ≡ block-bytes f
-  unfolding block-bytes
+  pub small-block-unit : f ≡ 64 → 8 ≡ block_bytes f
+  unfolding block_bytes
   small-block-unit e = rw e
 
-  pub large-block-unit : 64 ≤ f → f < 67 → (f ≡ 64 → ⊥) → 16 ≡ block-bytes f
-  unfolding block-bytes
+  pub large-block-unit : 64 ≤ f → f < 67 → (f ≡ 64 → ⊥) → 16 ≡ block_bytes f
+  unfolding block_bytes
   large-block-unit lo hi n = by (eqb f 65) refl
     where
-      by : (v : Bool) → eqb f 65 ≡ v → 16 ≡ block-bytes f
+      by : (v : Bool) → eqb f 65 ≡ v → 16 ≡ block_bytes f
       by true e = rw (eqb-true f 65 e)
       by false e =
           let last : f ≡ 66 = omega (arith, n, eqb-false f 65 e) in
           rw last
 
-  other : (f ≡ 1 → ⊥) → (f ≡ 2 → ⊥) → (f ≡ 3 → ⊥) → (f ≡ 64 → ⊥) → (f ≡ 65 → ⊥) → (f ≡ 66 → ⊥) → 0 ≡ block-bytes f
-  unfolding block-bytes
+  other : (f ≡ 1 → ⊥) → (f ≡ 2 → ⊥) → (f ≡ 3 → ⊥) → (f ≡ 64 → ⊥) → (f ≡ 65 → ⊥) → (f ≡ 66 → ⊥) → 0 ≡ block_bytes f
+  unfolding block_bytes
   other a b c d e g = rw (ne_eqb f 1 a, ne_eqb f 2 b, ne_eqb f 3 c, ne_eqb f 64 d, ne_eqb f 65 e, ne_eqb f 66 g)
 
-  pub below-pixels : f < 1 → 0 ≡ block-bytes f
+  pub below-pixels : f < 1 → 0 ≡ block_bytes f
   below-pixels h = other (λ e. omega arith) (λ e. omega arith) (λ e. omega arith) (λ e. omega arith) (λ e. omega arith) (λ e. omega arith)
 
-  pub between-units : 4 ≤ f → f < 64 → 0 ≡ block-bytes f
+  pub between-units : 4 ≤ f → f < 64 → 0 ≡ block_bytes f
   between-units g h = other (λ e. omega arith) (λ e. omega arith) (λ e. omega arith) (λ e. omega arith) (λ e. omega arith) (λ e. omega arith)
 
-  pub above-blocks : 67 ≤ f → 0 ≡ block-bytes f
+  pub above-blocks : 67 ≤ f → 0 ≡ block_bytes f
   above-blocks h = other (λ e. omega arith) (λ e. omega arith) (λ e. omega arith) (λ e. omega arith) (λ e. omega arith) (λ e. omega arith)
 
 pub ruleset units = (pixel-unit, small-block-unit, large-block-unit, below-pixels, between-units, above-blocks)
 
-pub unit-le : (f : ℕ) → block-bytes f ≤ 16
-unfolding block-bytes
+pub unit-le : (f : ℕ) → block_bytes f ≤ 16
+unfolding block_bytes
 unit-le f =
     let large : pick (eqb f 65 || eqb f 66) 16 0 ≤ 16 = pick-le (eqb f 65 || eqb f 66) 16 0 16 (lit≤ tt) (lit≤ tt) in
     pick-le (eqb f 1 || (eqb f 2 || eqb f 3)) 4 _ 16 (lit≤ tt) (pick-le (eqb f 64) 8 _ 16 (lit≤ tt) large)
@@ -78,7 +78,7 @@ unit-le f =
 
 module _ (f n : ℕ) where
   pub block-format : 64 ≤ f → f < 67 → (n + 3) / 4 ≡ blocks f n
-  unfolding blocks block-side
+  unfolding blocks block_side
   block-format lo hi = by_first (eqb f 64) refl
     where
       by-second : (v : Bool) → eqb f 65 ≡ v → (f ≡ 64 → ⊥) → (n + 3) / 4 ≡ blocks f n
@@ -92,7 +92,7 @@ module _ (f n : ℕ) where
       by_first false e = by-second (eqb f 65) refl (eqb-false f 64 e)
 
   pixel-format : (f ≡ 64 → ⊥) → (f ≡ 65 → ⊥) → (f ≡ 66 → ⊥) → n ≡ blocks f n
-  unfolding blocks block-side
+  unfolding blocks block_side
   pixel-format a b c = rw (ne_eqb f 64 a, ne_eqb f 65 b, ne_eqb f 66 c) (omega arith)
 
   pub below-block-formats : f < 64 → n ≡ blocks f n
@@ -108,7 +108,7 @@ per-side true n = omega arith
 per-side false n = omega arith
 
 pub blocks-le : (f n : ℕ) → blocks f n ≤ n
-unfolding blocks block-side
+unfolding blocks block_side
 blocks-le f n = per-side (eqb f 64 || (eqb f 65 || eqb f 66)) n
 
 some-per-side : (t : Bool) (n : ℕ) → 0 < n → 0 < (n + (pick t 4 1 - 1)) / pick t 4 1
@@ -116,7 +116,7 @@ some-per-side true n h = omega arith
 some-per-side false n h = omega arith
 
 pub blocks-positive : (f n : ℕ) → 0 < n → 0 < blocks f n
-unfolding blocks block-side
+unfolding blocks block_side
 blocks-positive f n h = some-per-side (eqb f 64 || (eqb f 65 || eqb f 66)) n h
 
 -- ---- the least pitch

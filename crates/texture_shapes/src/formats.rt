@@ -1,13 +1,13 @@
 // What a texture's format decides: blocks, the sides of a mip, and the bytes of a row.
 ghost use Rattle.std.specs.Prelude.{◌≡◌, ◌<◌, ◌^◌};
-ghost use Rattle.rules.specs.Shapes.{block-bytes, mip-side, blocks, larger, tight};
+ghost use Rattle.rules.specs.Shapes.{block_bytes, mip_side, blocks, larger, tight};
 ghost use Rattle.texture_shapes.specs.Formats.{minimum};
 
 use rules::Shape;
 
 // The bytes of a pixel or of a block, 0 where the format is none of ours.
 pub fn unit_of(format: u32) -> u32
-    ensures { result ≡ block-bytes format }
+    ensures { result ≡ block_bytes format }
 {
     match format {
         1 | 2 | 3 => 4,
@@ -38,7 +38,7 @@ pub fn larger_of(a: u32, b: u32) -> u32
 // A side of a mip: halved for each mip below it, and never 0.
 pub fn side_at(pixels: u32, mip: u32) -> u64
     requires { mip < 32 }
-    ensures { result ≡ mip-side pixels mip }
+    ensures { result ≡ mip_side pixels mip }
 {
     larger_of(1, pixels >> mip) as u64
 }

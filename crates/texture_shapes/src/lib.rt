@@ -2,7 +2,7 @@
 pub mod formats;
 
 ghost use Rattle.std.specs.Prelude.{◌≡◌, ◌<◌, leb};
-ghost use Rattle.rules.specs.Shapes.{full-chain, good-shape, good-backed, larger};
+ghost use Rattle.rules.specs.Shapes.{full_chain, good_shape, good_backed, larger};
 ghost use Rattle.texture_shapes.specs.Good.{good_side};
 
 use crate::formats::{larger_of, minimum_pitch, unit_of};
@@ -14,7 +14,7 @@ const LONGEST_CHAIN: u32 = 15;
 
 // Whether the larger side halves often enough for so many mips.
 pub fn chain_reaches(width: u32, height: u32, mips: u32) -> bool
-    ensures { result ≡ leb mips (full-chain width height) }
+    ensures { result ≡ leb mips (full_chain width height) }
 {
     if mips <= 1 {
         return true;
@@ -37,7 +37,7 @@ pub fn good_side_of(pixels: u32) -> bool
 
 // Whether a texture may have this shape. A host-backed one asks no more: its pitch is ignored.
 pub fn good_shape(s: Shape) -> bool
-    ensures { result ≡ good-shape s }
+    ensures { result ≡ good_shape s }
 {
     if unit_of(s.format) == 0 {
         return false;
@@ -62,7 +62,7 @@ pub fn good_shape(s: Shape) -> bool
 
 // Whether a texture in guest memory may have this shape and pitch.
 pub fn good_backed(s: Shape, pitch: u32) -> bool
-    ensures { result ≡ good-backed s pitch }
+    ensures { result ≡ good_backed s pitch }
 {
     if !good_shape(s) {
         return false;

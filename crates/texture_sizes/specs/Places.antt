@@ -6,7 +6,7 @@ use Rattle.std.proofs.Math.Bool.{and-false}
 use Rattle.std.proofs.Math.Nat.{div-le_of_le-mul}
 use borrow.Author.Tests.{not-true, not-false, lt-ltb, le-ltb}
 use Rattle.rules.specs.Numbers.{most_layers}
-use Rattle.rules.specs.Shapes.{offset-of, subresources, good-backed, texture-bytes, packed-size, start_of}
+use Rattle.rules.specs.Shapes.{offset_of, subresources, good_backed, texture_bytes, packed_size, start_of}
 use Rattle.rules.specs.declared.Shape.{Shape}
 use Rattle.rules.specs.declared.Start.TheVariants.{At, Nowhere}
 use Rattle.texture_shapes.specs.Bounds.{Bounded, longest_chain, most_of_mip, few-subresources}
@@ -18,11 +18,11 @@ module _ (s : Shape) (p : ℕ) where
   unfolding start_of
   past-is-nowhere i h = rw (le-ltb i (subresources s) h, and-false)
 
-  split-place : (i o q : ℕ) → o ≡ offset-of s p s.mips → q ≡ offset-of s p (i % s.mips) → offset-of s p i ≡ o * (i / s.mips) + q
-  split-place i o q f g = ap (offset-of s p) (sym (div-add-mod' i s.mips)) ∙ (offset-of-mip s p (i / s.mips) (i % s.mips) ∙ rw (f, g, mul_comm))
+  split-place : (i o q : ℕ) → o ≡ offset_of s p s.mips → q ≡ offset_of s p (i % s.mips) → offset_of s p i ≡ o * (i / s.mips) + q
+  split-place i o q f g = ap (offset_of s p) (sym (div-add-mod' i s.mips)) ∙ (offset-of-mip s p (i / s.mips) (i % s.mips) ∙ rw (f, g, mul_comm))
 
-  module _ (b : Bool) (e : b ≡ good-backed s p) where
-    pub bad-is-nothing : not b ≡ true → 0 ≡ packed-size s p
+  module _ (b : Bool) (e : b ≡ good_backed s p) where
+    pub bad-is-nothing : not b ≡ true → 0 ≡ packed_size s p
     bad-is-nothing n = sym (packed-bad s p (sym e ∙ not-true b n))
 
     pub bad-is-nowhere : (i : ℕ) → not b ≡ true → Nowhere ≡ start_of s p i
@@ -42,12 +42,12 @@ module _ (s : Shape) (p : ℕ) where
       pub mip-within : (i : ℕ) → i % s.mips ≤ s.mips
       mip-within i = omega (arith, mod-lt i some-mips)
 
-      module _ (o : ℕ) (f : o ≡ offset-of s p s.mips) where
-        pub all-layers : o * s.layers ≡ packed-size s p
-        unfolding texture-bytes
+      module _ (o : ℕ) (f : o ≡ offset_of s p s.mips) where
+        pub all-layers : o * s.layers ≡ packed_size s p
+        unfolding texture_bytes
         all-layers = rw (packed-good s p (sym e ∙ not-false b n), offset-of-layer s p s.layers, f, mul_comm)
 
-        pub start-found : (i q : ℕ) → q ≡ offset-of s p (i % s.mips) → i < subresources s → At (o * (i / s.mips) + q) ≡ start_of s p i
+        pub start-found : (i q : ℕ) → q ≡ offset_of s p (i % s.mips) → i < subresources s → At (o * (i / s.mips) + q) ≡ start_of s p i
         unfolding start_of
         start-found i q g k = rw (← e, not-false b n, lt-ltb i (subresources s) k, split-place i o q f g)
 

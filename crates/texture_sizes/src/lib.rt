@@ -1,7 +1,7 @@
 // Where the bytes of a texture stand. One layer is worked out mip by mip, and multiplied: a caller pays for at most 15 mips, whatever
 // the layers.
 ghost use Rattle.std.specs.Prelude.{◌≡◌, ◌*◌, ◌≤◌, ◌<◌};
-ghost use Rattle.rules.specs.Shapes.{mip-bytes, offset-of, packed-size, start_of};
+ghost use Rattle.rules.specs.Shapes.{mip_bytes, offset_of, packed_size, start_of};
 ghost use Rattle.texture_shapes.specs.Bounds.{Bounded, most_of_mip};
 
 use rules::{Shape, Start};
@@ -11,7 +11,7 @@ use texture_shapes::good_backed;
 // The bytes of one mip: only mip 0 has the guest's pitch.
 fn bytes_of_mip(s: Shape, pitch: u32, mip: u32) -> u64
     requires { Bounded s × (mip < s.mips) }
-    ensures { (result ≡ mip-bytes s pitch mip) × (result ≤ most_of_mip) }
+    ensures { (result ≡ mip_bytes s pitch mip) × (result ≤ most_of_mip) }
 {
     let rows = blocks_of(s.format, side_at(s.height, mip));
     if mip == 0 {
@@ -23,7 +23,7 @@ fn bytes_of_mip(s: Shape, pitch: u32, mip: u32) -> u64
 // The bytes of a layer's mips below `end`: where that mip starts in its layer.
 fn bytes_below(s: Shape, pitch: u32, end: u32) -> u64
     requires { Bounded s × (end ≤ s.mips) }
-    ensures { (result ≡ offset-of s pitch end) × (result ≤ end * most_of_mip) }
+    ensures { (result ≡ offset_of s pitch end) × (result ≤ end * most_of_mip) }
 {
     let mut sum: u64 = 0;
     let mut mip: u32 = 0;
@@ -36,7 +36,7 @@ fn bytes_below(s: Shape, pitch: u32, end: u32) -> u64
 
 // The bytes that a backed texture takes in guest memory, 0 for a bad shape or pitch.
 pub fn packed_size_of(s: Shape, pitch: u32) -> u64
-    ensures { result ≡ packed-size s pitch }
+    ensures { result ≡ packed_size s pitch }
 {
     if !good_backed(s, pitch) {
         return 0;
@@ -46,7 +46,7 @@ pub fn packed_size_of(s: Shape, pitch: u32) -> u64
 
 // The same from plain numbers, for a caller that has no `Shape`.
 pub fn packed_size(format: u32, width: u32, height: u32, mips: u32, layers: u32, pitch: u32) -> u64
-    ensures { result ≡ packed-size (record { format = format; width = width; height = height; mips = mips; layers = layers }) pitch }
+    ensures { result ≡ packed_size (record { format = format; width = width; height = height; mips = mips; layers = layers }) pitch }
 {
     let s = Shape {
         format,

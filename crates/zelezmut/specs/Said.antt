@@ -1,19 +1,19 @@
 -- What the exports say: the values of the rules' own call.
 use Rattle.std.specs.Prelude.{◌≡◌, Bool, List, ℕ}
 use Rattle.rules.specs.Numbers.{done}
-use Rattle.rules.specs.Calls.{Ran, call-read, call-run, call-record, call-answer}
-use Rattle.rules.specs.Saved.{call-save}
-use Rattle.rules.specs.Loaded.{call-load, call-move}
+use Rattle.rules.specs.Calls.{Ran, call_read, call_run, call_record, call_answer}
+use Rattle.rules.specs.Saved.{call_save}
+use Rattle.rules.specs.Loaded.{call_load, call_move}
 use Rattle.rules.specs.declared.Form.{Form}
 use Rattle.run_state.specs.Views.{state_in, Lent, desk_of, Refused, Rests}
 use Rattle.export_numbers.specs.Numbers.{said_beside, said_long, said_value, said_run, record_words}
-use Rattle.dump_listing.specs.Views.{call-dump}
+use Rattle.dump_listing.specs.Views.{call_dump}
 
 -- ---- the calls
 
 -- the rules' read, of the device in the words
 pub record SaysValue (s : List ℕ) (offset said : ℕ) : Type 0 where
-  pub value : (e a b ft st c : List ℕ) → said ≡ said_value (call-read (state_in s e a b ft st c) offset)
+  pub value : (e a b ft st c : List ℕ) → said ≡ said_value (call_read (state_in s e a b ft st c) offset)
 
 -- what the rules' call comes to, of the device in the words and tables
 pub record SaysSpent (r : Ran) (l : Lent) (said : ℕ) (l' : Lent) : Type 0 where
@@ -23,36 +23,36 @@ pub record SaysSpent (r : Ran) (l : Lent) (said : ℕ) (l' : Lent) : Type 0 wher
 
 -- the rules' run
 abbrev pub SaysRun : ℕ → Lent → ℕ → Lent → Type 0
-SaysRun allowance l = SaysSpent (call-run (desk_of l) allowance) l
+SaysRun allowance l = SaysSpent (call_run (desk_of l) allowance) l
 
 -- the rules' answer and run
 abbrev pub SaysAnswer : Bool → ℕ → Lent → ℕ → Lent → Type 0
-SaysAnswer good allowance l = SaysSpent (call-answer (desk_of l) good allowance) l
+SaysAnswer good allowance l = SaysSpent (call_answer (desk_of l) good allowance) l
 
 -- the rules' record, of the device in the words
 pub record SaysRecord (s c : List ℕ) (i n : ℕ) (said : List ℕ) : Type 0 where
-  pub answer : (e a b ft st : List ℕ) → n ≡ (call-record (state_in s e a b ft st c) i).answer
-  pub range : (e a b ft st : List ℕ) → said ≡ record_words (call-record (state_in s e a b ft st c) i).range
+  pub answer : (e a b ft st : List ℕ) → n ≡ (call_record (state_in s e a b ft st c) i).answer
+  pub range : (e a b ft st : List ℕ) → said ≡ record_words (call_record (state_in s e a b ft st c) i).range
 
 -- the rules' save in a form, of the device in the words and in its tables of resources and of tokens
 pub record SaysSaved (f : Form) (s a b ft st buffer : List ℕ) (said : ℕ) (buffer' : List ℕ) : Type 0 where
-  pub length : (e c : List ℕ) → said ≡ said_beside (call-save f (state_in s e a b ft st c) buffer).length (call-save f (state_in s e a b ft st c) buffer).answer
-  pub bytes : (e c : List ℕ) → buffer' ≡ (call-save f (state_in s e a b ft st c) buffer).buffer
+  pub length : (e c : List ℕ) → said ≡ said_beside (call_save f (state_in s e a b ft st c) buffer).length (call_save f (state_in s e a b ft st c) buffer).answer
+  pub bytes : (e c : List ℕ) → buffer' ≡ (call_save f (state_in s e a b ft st c) buffer).buffer
 
 -- the rules' load, over the device in the words and tables; one that is refused leaves each word
 pub record SaysLoaded (s a ft file : List ℕ) (said : ℕ) (s' a' ft' : List ℕ) : Type 0 where
-  pub place : (e b st c : List ℕ) → said ≡ said_beside (call-load (state_in s e a b ft st c) file).place (call-load (state_in s e a b ft st c) file).answer
-  pub state : (e b st c : List ℕ) → state_in s' e a' b ft' st c ≡ (call-load (state_in s e a b ft st c) file).state
-  pub still : (e b st c : List ℕ) → Refused (call-load (state_in s e a b ft st c) file).answer → (s' ≡ s) × ((a' ≡ a) × (ft' ≡ ft))
+  pub place : (e b st c : List ℕ) → said ≡ said_beside (call_load (state_in s e a b ft st c) file).place (call_load (state_in s e a b ft st c) file).answer
+  pub state : (e b st c : List ℕ) → state_in s' e a' b ft' st c ≡ (call_load (state_in s e a b ft st c) file).state
+  pub still : (e b st c : List ℕ) → Refused (call_load (state_in s e a b ft st c) file).answer → (s' ≡ s) × ((a' ≡ a) × (ft' ≡ ft))
   -- done, no word is left of what was in work
-  pub rests : (e b st c : List ℕ) → (call-load (state_in s e a b ft st c) file).answer ≡ done → Rests s'
+  pub rests : (e b st c : List ℕ) → (call_load (state_in s e a b ft st c) file).answer ≡ done → Rests s'
 
 -- the rules' move of a file
 pub record SaysMoved (file buffer : List ℕ) (said : ℕ) (buffer' : List ℕ) : Type 0 where
-  pub length : said ≡ said_beside (call-move file buffer).length (call-move file buffer).answer
-  pub bytes : buffer' ≡ (call-move file buffer).buffer
+  pub length : said ≡ said_beside (call_move file buffer).length (call_move file buffer).answer
+  pub bytes : buffer' ≡ (call_move file buffer).buffer
 
 -- the text of a dump in the buffer
 pub record SaysDumped (strict : Bool) (stream buffer : List ℕ) (said : ℕ) (buffer' : List ℕ) : Type 0 where
-  pub length : said ≡ said_long (call-dump strict stream buffer).length (call-dump strict stream buffer).answer
-  pub bytes : buffer' ≡ (call-dump strict stream buffer).buffer
+  pub length : said ≡ said_long (call_dump strict stream buffer).length (call_dump strict stream buffer).answer
+  pub bytes : buffer' ≡ (call_dump strict stream buffer).buffer

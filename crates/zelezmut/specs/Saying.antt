@@ -1,10 +1,10 @@
 -- What the saying of a call's values asks. Assumes nothing.
 use Rattle.std.specs.Prelude.{◌≡◌, Bool, List, ℕ, ◌<◌}
 use Rattle.std.proofs.Common.{sym, ap, subst, ◌∙◌, arith, rules}
-use Rattle.rules.specs.Calls.{RecordRead as RecordReadBy, Ran, call-run, call-answer}
+use Rattle.rules.specs.Calls.{RecordRead as RecordReadBy, Ran, call_run, call_answer}
 use Rattle.run_state.specs.Views.{set_in, desk_in, lent, Refused}
 use Rattle.rules.specs.Saved.{Saved}
-use Rattle.rules.specs.Loaded.{Loaded, call-move}
+use Rattle.rules.specs.Loaded.{Loaded, call_move}
 use Rattle.rules.specs.declared.Form.{Form}
 use Rattle.saved_save.specs.Views.{saved_of, Saves}
 use Rattle.saved_save.specs.declared.FileSaved.{FileSaved}
@@ -15,12 +15,12 @@ use Rattle.device_calls.specs.declared.ValueRead.{ValueRead}
 use Rattle.device_calls.specs.declared.RecordRead.{RecordRead}
 use Rattle.device_memory_calls.specs.Views.{ran_of, Runs, Answers}
 use Rattle.device_memory_calls.specs.declared.Spent.{Spent}
-use Rattle.dump_listing.specs.Views.{Dumped, call-dump, dumped_of, Dumps}
+use Rattle.dump_listing.specs.Views.{Dumped, call_dump, dumped_of, Dumps}
 use Rattle.dump_listing.specs.Packets.{answer-small}
 use Rattle.dump_listing.specs.declared.DumpListed.{DumpListed}
 use Rattle.export_numbers.specs.Numbers.{said_beside, said_long, said_value, said_run, said_spent, record_words}
 use Rattle.zelezmut.specs.Said.{SaysValue, SaysSpent, SaysRun, SaysAnswer, SaysRecord, SaysSaved, SaysLoaded, SaysMoved, SaysDumped}
-use Rattle.rules.specs.Table.{table-finding, table-error, table-place}
+use Rattle.rules.specs.Table.{table_finding, table_error, table_place}
 use Rattle.rules.specs.declared.Fault.{Fault}
 use Rattle.table_whole.specs.Whole.{shown}
 
@@ -51,7 +51,7 @@ says-loaded s a ft file s' a' ft' n x k p =
       rests = λ e b st c d. k.rests (ap (λ (y : Loaded). y.answer) (k.loads e b st c) ∙ d);
     }
 
-pub says-moved : (file buffer buffer' : List ℕ) (n : ℕ) (x : FileSaved) → saved_of x buffer' ≡ call-move file buffer → n ≡ said_beside x.length x.answer → SaysMoved file buffer n buffer'
+pub says-moved : (file buffer buffer' : List ℕ) (n : ℕ) (x : FileSaved) → saved_of x buffer' ≡ call_move file buffer → n ≡ said_beside x.length x.answer → SaysMoved file buffer n buffer'
 says-moved file buffer buffer' n x k p =
     record {
       length = p ∙ ap (λ (y : Saved). said_beside y.length y.answer) k;
@@ -68,7 +68,7 @@ module _ (strict w : ℕ) (g : Bool) (p : (w ≡ strict) × (w < 4294967296)) (q
 
   pub says-dumped : (n : ℕ) → n ≡ said_long x.length x.answer → SaysDumped (set_in strict) stream buffer n buffer'
   says-dumped n e =
-      let d : dumped_of x buffer' ≡ call-dump (set_in strict) stream buffer = k.dumps ∙ ap (λ y. call-dump y stream buffer) same-setting in
+      let d : dumped_of x buffer' ≡ call_dump (set_in strict) stream buffer = k.dumps ∙ ap (λ y. call_dump y stream buffer) same-setting in
       record {
         length = e ∙ ap (λ (y : Dumped). said_long y.length y.answer) d;
         bytes = ap (λ (y : Dumped). y.buffer) d;
@@ -93,13 +93,13 @@ module _ (s e a b ft st c m s' e' a' b' ft' st' c' m' : List ℕ) (x : Spent) (n
       }
 
   pub says-run : (allowance : ℕ) → Runs allowance (lent s e a b ft st c m) x (lent s' e' a' b' ft' st' c' m') → SaysRun allowance (lent s e a b ft st c m) n (lent s' e' a' b' ft' st' c' m')
-  says-run allowance k = says-spent (call-run (desk_in s e a b ft st c m) allowance) k.ran k.still
+  says-run allowance k = says-spent (call_run (desk_in s e a b ft st c m) allowance) k.ran k.still
 
   pub says-answer : (good w allowance : ℕ) (g : Bool) → (w ≡ good) × (w < 4294967296) → g ≡ set_in w → Answers g allowance (lent s e a b ft st c m) x (lent s' e' a' b' ft' st' c' m')
       → SaysAnswer (set_in good) allowance (lent s e a b ft st c m) n (lent s' e' a' b' ft' st' c' m')
   says-answer good w allowance g p q k =
       let same : g ≡ set_in good = q ∙ ap set_in p.0 in
-      says-spent (call-answer (desk_in s e a b ft st c m) (set_in good) allowance) (k.ran ∙ ap (λ y. call-answer (desk_in s e a b ft st c m) y allowance) same) k.still
+      says-spent (call_answer (desk_in s e a b ft st c m) (set_in good) allowance) (k.ran ∙ ap (λ y. call_answer (desk_in s e a b ft st c m) y allowance) same) k.still
 
 pub ruleset saying_run = (says-run, says-answer, rules)
 
@@ -123,13 +123,13 @@ pub ruleset handing_on = (made_at, rules)
 
 -- ---- zelezmut_table_error, zelezmut_table_place
 
-module _ (b : List ℕ) (memory : ℕ) (f : Fault) (found : f ≡ shown (table-finding b memory)) where
-  pub says-error : f.code ≡ table-error b memory
-  unfolding table-error
+module _ (b : List ℕ) (memory : ℕ) (f : Fault) (found : f ≡ shown (table_finding b memory)) where
+  pub says-error : f.code ≡ table_error b memory
+  unfolding table_error
   says-error = rw found
 
-  pub says-place : f.place ≡ table-place b memory
-  unfolding table-place
+  pub says-place : f.place ≡ table_place b memory
+  unfolding table_place
   says-place = rw found
 
 pub ruleset saying_fault = (says-error, says-place, rules)

@@ -7,16 +7,16 @@ pub mod month;
 pub mod saved;
 
 ghost use Rattle.std.specs.Prelude.{◌≡◌};
-ghost use Rattle.rules.specs.Shapes.{packed-size};
-ghost use Rattle.rules.specs.Table.{table-error, table-place};
-ghost use Rattle.export_numbers.specs.Layout.{layout-number};
+ghost use Rattle.rules.specs.Shapes.{packed_size};
+ghost use Rattle.rules.specs.Table.{table_error, table_place};
+ghost use Rattle.export_numbers.specs.Layout.{layout_number};
 
 // For a host, before its first call: what the words and rows that it lends mean and how many there are, in one number. From the lowest digit
 // up, each of 4,096: words of records, of one table of tokens, of one of resources, of entries, of numbers; above these the version, which moves
 // with what they mean.
 #[unsafe(no_mangle)]
 pub extern "C" fn zelezmut_layout() -> u64
-    ensures { result ≡ layout-number }
+    ensures { result ≡ layout_number }
 {
     export_numbers::layout()
 }
@@ -31,7 +31,7 @@ pub extern "C" fn zelezmut_packed_size(
     layers: u32,
     pitch: u32,
 ) -> u64
-    ensures { result ≡ packed-size (record { format = format; width = width; height = height; mips = mips; layers = layers }) pitch }
+    ensures { result ≡ packed_size (record { format = format; width = width; height = height; mips = mips; layers = layers }) pitch }
 {
     texture_sizes::packed_size(format, width, height, mips, layers, pitch)
 }
@@ -40,7 +40,7 @@ pub extern "C" fn zelezmut_packed_size(
 // steps would find it, or 0.
 #[unsafe(no_mangle)]
 pub extern "C" fn zelezmut_table_error(table: &[u8], memory: u64) -> u32
-    ensures { result ≡ table-error table.now memory }
+    ensures { result ≡ table_error table.now memory }
 {
     let fault = table_whole::whole::first_fault(table, memory);
     fault.code
@@ -49,7 +49,7 @@ pub extern "C" fn zelezmut_table_error(table: &[u8], memory: u64) -> u32
 // Where that error stands: the index of the entry for 14 and 15, else 0.
 #[unsafe(no_mangle)]
 pub extern "C" fn zelezmut_table_place(table: &[u8], memory: u64) -> u32
-    ensures { result ≡ table-place table.now memory }
+    ensures { result ≡ table_place table.now memory }
 {
     let found = table_whole::whole::first_fault(table, memory);
     found.place

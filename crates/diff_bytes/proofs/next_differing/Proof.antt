@@ -1,13 +1,13 @@
 -- `next_differing` meets its contract. The invariant: what is sought is sought from the present offset on. Assumes nothing.
 use mathlib.Core.Path.{◌≡◌}
 use Prim.Native.Nat.{◌-◌}
-use Rattle.rules.specs.Difference.{differing, next-from}
+use Rattle.rules.specs.Difference.{differing, next_from}
 use Rattle.diff_bytes.specs.Differing.{first_of, from_offset, seeking}
 use Rattle.diff_bytes.proofs.next_differing.Statement.{statement}
 use Rattle.diff_bytes.proofs.next_differing.Tie as tie
 
 abbrev invariant-loop : tie.invariant-loop
-invariant-loop a b from end i₀ i = next-from from (differing a b) ≡ first_of (from_offset a b i)
+invariant-loop a b from end i₀ i = next_from from (differing a b) ≡ first_of (from_offset a b i)
 
 abbrev decreases-loop : tie.decreases-loop
 decreases-loop a b from end i₀ i = end - i

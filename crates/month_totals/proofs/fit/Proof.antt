@@ -2,12 +2,12 @@
 use mathlib.Core.Path.{◌≡◌}
 use Prim.Native.Nat.{◌-◌, ◌≤◌}
 use native.Mathlib.Omega.{arith}
-use Rattle.month_totals.specs.Merging.{fitting, fit-from}
+use Rattle.month_totals.specs.Merging.{fitting, fit_from}
 use Rattle.month_totals.proofs.fit.Statement.{statement}
 use Rattle.month_totals.proofs.fit.Tie as tie
 
 abbrev invariant-loop : tie.invariant-loop
-invariant-loop a b i₀ i = (i ≤ 25) × (fit-from a b 0 ≡ fit-from a b i)
+invariant-loop a b i₀ i = (i ≤ 25) × (fit_from a b 0 ≡ fit_from a b i)
 
 abbrev decreases-loop : tie.decreases-loop
 decreases-loop a b i₀ i = 25 - i

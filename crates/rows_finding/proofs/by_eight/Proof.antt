@@ -5,13 +5,13 @@ use Prim.Native.Nat.{◌≤◌, ◌-◌, ◌+◌, ◌%◌}
 use native.Mathlib.Omega.{arith}
 use borrow.Author.Rules.{rules}
 use Rattle.rules.specs.Lists.{index_of}
-use Rattle.rows.specs.Rows.{tableFrom, first_word}
+use Rattle.rows.specs.Rows.{table_from, first_word}
 use Rattle.rows_finding.specs.Finding.{scanning}
 use Rattle.rows_finding.proofs.by_eight.Statement.{statement}
 use Rattle.rows_finding.proofs.by_eight.Tie as tie
 
 abbrev invariant-loop : tie.invariant-loop
-invariant-loop rows width from count key i₀ i = ((i ≤ count) × ((count - i) % 8 ≡ 0)) × (from + index_of first_word key (tableFrom (λ r. r) width from count rows) ≡ i + index_of first_word key (tableFrom (λ r. r) width i count rows))
+invariant-loop rows width from count key i₀ i = ((i ≤ count) × ((count - i) % 8 ≡ 0)) × (from + index_of first_word key (table_from (λ r. r) width from count rows) ≡ i + index_of first_word key (table_from (λ r. r) width i count rows))
 
 abbrev decreases-loop : tie.decreases-loop
 decreases-loop rows width from count key i₀ i = count - i

@@ -4,13 +4,13 @@ use mathlib.Core.Path.{◌≡◌}
 use Prim.Native.Nat.{◌≤◌, ◌-◌, ◌+◌}
 use native.Mathlib.Omega.{arith}
 use Rattle.rules.specs.Lists.{index_of}
-use Rattle.rows.specs.Rows.{table, tableFrom, first_word}
+use Rattle.rows.specs.Rows.{table, table_from, first_word}
 use Rattle.rows_finding.specs.Finding.{scanning}
 use Rattle.rows_finding.proofs.find_row.Statement.{statement}
 use Rattle.rows_finding.proofs.find_row.Tie as tie
 
 abbrev invariant-loop : tie.invariant-loop
-invariant-loop rows width count key few i₀ i = (i ≤ few) × (index_of first_word key (table (λ r. r) width count rows) ≡ i + index_of first_word key (tableFrom (λ r. r) width i count rows))
+invariant-loop rows width count key few i₀ i = (i ≤ few) × (index_of first_word key (table (λ r. r) width count rows) ≡ i + index_of first_word key (table_from (λ r. r) width i count rows))
 
 abbrev decreases-loop : tie.decreases-loop
 decreases-loop rows width count key few i₀ i = few - i

@@ -2,12 +2,12 @@
 use mathlib.Core.Path.{◌≡◌}
 use Prim.Native.Nat.{◌≤◌, ◌-◌}
 use native.Mathlib.Omega.{arith}
-use Rattle.rows_renaming.specs.Renaming.{rowsRenamed, renaming_rows}
+use Rattle.rows_renaming.specs.Renaming.{rows_renamed, renaming_rows}
 use Rattle.rows_renaming.proofs.rename_rows.Statement.{statement}
 use Rattle.rows_renaming.proofs.rename_rows.Tie as tie
 
 abbrev invariant-loop : tie.invariant-loop
-invariant-loop rows₀ width at count old new word i₀ rows i = (i ≤ count) × (rows ≡ rowsRenamed width at old new i rows₀)
+invariant-loop rows₀ width at count old new word i₀ rows i = (i ≤ count) × (rows ≡ rows_renamed width at old new i rows₀)
 
 abbrev decreases-loop : tie.decreases-loop
 decreases-loop rows₀ width at count old new word i₀ rows i = count - i

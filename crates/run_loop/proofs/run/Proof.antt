@@ -7,7 +7,7 @@ use lib.ListN.{length}
 use Rattle.machine.specs.Machine.{spent}
 use Rattle.rules.specs.Steps.{run_for}
 use Rattle.run_state.specs.Views.{sides_in}
-use Rattle.run_turns.specs.Views.{tables, worldWith}
+use Rattle.run_turns.specs.Views.{tables, world_with}
 use Rattle.run_loop.specs.Turning.{advancing, run-stops}
 use Rattle.run_loop.proofs.run.Statement.{statement}
 use Rattle.run_loop.proofs.run.Tie as tie
@@ -16,8 +16,8 @@ abbrev invariant-loop : tie.invariant-loop
 invariant-loop words₀ entries₀ resources own₀ firsttokens₀ secondtokens₀ records₀ mem₀ allowance units₀ words entries own firsttokens secondtokens records mem units =
     (units ≤ allowance)
     × (length mem ≡ length mem₀)
-    × (run_for allowance (worldWith words₀ (tables entries₀ resources own₀ firsttokens₀ secondtokens₀ records₀) mem₀)
-    ≡ spent units (run_for (allowance - units) (worldWith words (tables entries resources own firsttokens secondtokens records) mem)))
+    × (run_for allowance (world_with words₀ (tables entries₀ resources own₀ firsttokens₀ secondtokens₀ records₀) mem₀)
+    ≡ spent units (run_for (allowance - units) (world_with words (tables entries resources own firsttokens secondtokens records) mem)))
     × (sides_in words ≡ sides_in words₀)
 
 abbrev decreases-loop : tie.decreases-loop

@@ -3,15 +3,15 @@
 use mathlib.Core.Path.{◌≡◌}
 use Prim.Native.Nat.{◌≤◌, ◌-◌, ◌+◌, ◌*◌}
 use native.Mathlib.Omega.{arith}
-use Rattle.rules.specs.Loaded.{resources-rules}
-use Rattle.saved_fields.specs.Judging.{judge-rules}
+use Rattle.rules.specs.Loaded.{resources_rules}
+use Rattle.saved_fields.specs.Judging.{judge_rules}
 use Rattle.saved_check.specs.Whole.{judging_resources}
 use Rattle.saved_check.proofs.check_resources.Statement.{statement}
 use Rattle.saved_check.proofs.check_resources.Tie as tie
 
 abbrev invariant-loop : tie.invariant-loop
 invariant-loop file first count check₀ before₀ at₀ i₀ check before at i =
-    (i ≤ count) × ((at ≡ first + 48 * i) × (judge-rules check₀ (resources-rules count file first 0) ≡ judge-rules check (resources-rules (count - i) file at before)))
+    (i ≤ count) × ((at ≡ first + 48 * i) × (judge_rules check₀ (resources_rules count file first 0) ≡ judge_rules check (resources_rules (count - i) file at before)))
 
 abbrev decreases-loop : tie.decreases-loop
 decreases-loop file first count check₀ before₀ at₀ i₀ check before at i = count - i

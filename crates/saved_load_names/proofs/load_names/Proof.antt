@@ -5,7 +5,7 @@ use mathlib.Core.List.{◌++◌}
 use Prim.Native.Nat.{◌≤◌, ◌-◌, ◌+◌, ◌*◌}
 use native.Mathlib.Omega.{arith}
 use Rattle.kept_resources.specs.Views.{resources_of}
-use Rattle.rules.specs.Loaded.{loaded-names}
+use Rattle.rules.specs.Loaded.{loaded_names}
 use Rattle.saved_load_names.specs.Loading.{loading_names}
 use Rattle.saved_load_names.proofs.load_names.Statement.{statement}
 use Rattle.saved_load_names.proofs.load_names.Tie as tie
@@ -14,7 +14,7 @@ abbrev invariant-loop : tie.invariant-loop
 invariant-loop resources₀ live file start count at₀ i₀ resources at i =
     (i ≤ count)
     × ((at ≡ start + 8 * i)
-    × (resources_of (live + i) resources ≡ resources_of live resources₀ ++ loaded-names i (resources_of live resources₀) file start))
+    × (resources_of (live + i) resources ≡ resources_of live resources₀ ++ loaded_names i (resources_of live resources₀) file start))
 
 abbrev decreases-loop : tie.decreases-loop
 decreases-loop resources₀ live file start count at₀ i₀ resources at i = count - i

@@ -3,7 +3,7 @@
 use mathlib.Core.Path.{◌≡◌}
 use Prim.Native.Nat.{◌≤◌, ◌-◌, ◌+◌, ◌*◌}
 use native.Mathlib.Omega.{arith}
-use Rattle.rules.specs.Loaded.{loaded-resources}
+use Rattle.rules.specs.Loaded.{loaded_resources}
 use Rattle.kept_resources.specs.Views.{resources_of}
 use Rattle.saved_load_resources.specs.Loading.{loading_rows}
 use Rattle.saved_load_resources.proofs.load_resources.Statement.{statement}
@@ -11,7 +11,7 @@ use Rattle.saved_load_resources.proofs.load_resources.Tie as tie
 
 abbrev invariant-loop : tie.invariant-loop
 invariant-loop resources₀ file start count at₀ i₀ resources at i =
-    (i ≤ count) × ((at ≡ start + 48 * i) × (resources_of i resources ≡ loaded-resources i file start))
+    (i ≤ count) × ((at ≡ start + 48 * i) × (resources_of i resources ≡ loaded_resources i file start))
 
 abbrev decreases-loop : tie.decreases-loop
 decreases-loop resources₀ file start count at₀ i₀ resources at i = count - i

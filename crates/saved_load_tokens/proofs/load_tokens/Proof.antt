@@ -4,14 +4,14 @@ use mathlib.Core.Path.{◌≡◌}
 use Prim.Native.Nat.{◌≤◌, ◌-◌, ◌+◌, ◌*◌}
 use native.Mathlib.Omega.{arith}
 use Rattle.kept_tokens.specs.Views.{tokens_of}
-use Rattle.rules.specs.Loaded.{loaded-tokens}
+use Rattle.rules.specs.Loaded.{loaded_tokens}
 use Rattle.saved_load_tokens.specs.Loading.{loading_rows}
 use Rattle.saved_load_tokens.proofs.load_tokens.Statement.{statement}
 use Rattle.saved_load_tokens.proofs.load_tokens.Tie as tie
 
 abbrev invariant-loop : tie.invariant-loop
 invariant-loop tokens₀ file start count at₀ i₀ tokens at i =
-    (i ≤ count) × ((at ≡ start + 12 * i) × (tokens_of i tokens ≡ loaded-tokens i file start))
+    (i ≤ count) × ((at ≡ start + 12 * i) × (tokens_of i tokens ≡ loaded_tokens i file start))
 
 abbrev decreases-loop : tie.decreases-loop
 decreases-loop tokens₀ file start count at₀ i₀ tokens at i = count - i

@@ -4,8 +4,8 @@ use mathlib.Core.Path.{◌≡◌}
 use Prim.Native.Nat.{◌≤◌, ◌-◌, ◌+◌, ◌*◌}
 use native.Mathlib.Omega.{arith}
 use Rattle.rules.specs.declared.FileCheck.TheVariants.{Good}
-use Rattle.saved_fields.specs.Judging.{judge-rules}
-use Rattle.rules.specs.Loaded.{names-rules}
+use Rattle.saved_fields.specs.Judging.{judge_rules}
+use Rattle.rules.specs.Loaded.{names_rules}
 use Rattle.saved_names.specs.Scan.{resources_of}
 use Rattle.saved_names.specs.Names.{judging_names}
 use Rattle.saved_names.proofs.judge_names.Statement.{statement}
@@ -13,7 +13,7 @@ use Rattle.saved_names.proofs.judge_names.Tie as tie
 
 abbrev invariant-loop : tie.invariant-loop
 invariant-loop file count first n check₀ before₀ at₀ i₀ check before at i =
-    (i ≤ n) × ((at ≡ first + 8 * i) × (judge-rules Good (names-rules n (resources_of file count) file first 0) ≡ judge-rules check (names-rules (n - i) (resources_of file count) file at before)))
+    (i ≤ n) × ((at ≡ first + 8 * i) × (judge_rules Good (names_rules n (resources_of file count) file first 0) ≡ judge_rules check (names_rules (n - i) (resources_of file count) file at before)))
 
 abbrev decreases-loop : tie.decreases-loop
 decreases-loop file count first n check₀ before₀ at₀ i₀ check before at i = n - i

@@ -5,14 +5,14 @@ use Prim.Native.Nat.{◌≤◌, ◌-◌, ◌+◌, ◌*◌}
 use native.Mathlib.Omega.{arith}
 use Rattle.rules.specs.Lists.{lookup}
 use Rattle.rules.specs.Packets.{handle_of}
-use Rattle.rules.specs.Loaded.{loaded-resources}
+use Rattle.rules.specs.Loaded.{loaded_resources}
 use Rattle.saved_names.specs.Scan.{resources_of, scanning}
 use Rattle.saved_names.proofs.place_of.Statement.{statement}
 use Rattle.saved_names.proofs.place_of.Tie as tie
 
 abbrev invariant-loop : tie.invariant-loop
 invariant-loop file count name at₀ i₀ at i =
-    (i ≤ count) × ((at ≡ 96 + 48 * i) × (lookup handle_of name (resources_of file count) ≡ lookup handle_of name (loaded-resources (count - i) file at)))
+    (i ≤ count) × ((at ≡ 96 + 48 * i) × (lookup handle_of name (resources_of file count) ≡ lookup handle_of name (loaded_resources (count - i) file at)))
 
 abbrev decreases-loop : tie.decreases-loop
 decreases-loop file count name at₀ i₀ at i = count - i

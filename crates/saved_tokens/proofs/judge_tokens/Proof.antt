@@ -4,16 +4,16 @@ use mathlib.Core.Path.{◌≡◌}
 use Prim.Native.Nat.{◌≤◌, ◌-◌, ◌+◌, ◌*◌}
 use native.Mathlib.Omega.{arith}
 use Rattle.rules.specs.declared.FileCheck.TheVariants.{Good}
-use Rattle.saved_fields.specs.Judging.{judge-rules}
+use Rattle.saved_fields.specs.Judging.{judge_rules}
 use Rattle.saved_names.specs.Scan.{resources_of}
-use Rattle.rules.specs.Loaded.{tokens-rules}
+use Rattle.rules.specs.Loaded.{tokens_rules}
 use Rattle.saved_tokens.specs.Tokens.{judging_tokens}
 use Rattle.saved_tokens.proofs.judge_tokens.Statement.{statement}
 use Rattle.saved_tokens.proofs.judge_tokens.Tie as tie
 
 abbrev invariant-loop : tie.invariant-loop
 invariant-loop file count first n check₀ before₀ at₀ i₀ check before at i =
-    (i ≤ n) × ((at ≡ first + 12 * i) × (judge-rules Good (tokens-rules n (resources_of file count) file first 0) ≡ judge-rules check (tokens-rules (n - i) (resources_of file count) file at before)))
+    (i ≤ n) × ((at ≡ first + 12 * i) × (judge_rules Good (tokens_rules n (resources_of file count) file first 0) ≡ judge_rules check (tokens_rules (n - i) (resources_of file count) file at before)))
 
 abbrev decreases-loop : tie.decreases-loop
 decreases-loop file count first n check₀ before₀ at₀ i₀ check before at i = n - i

@@ -4,13 +4,13 @@ use Prim.Native.Nat.{◌≤◌, ◌-◌}
 use native.Mathlib.Omega.{arith}
 use lib.ListN.{length, take}
 use Rattle.rules.specs.Lists.{over}
-use Rattle.rules.specs.Saved.{file-of}
+use Rattle.rules.specs.Saved.{file_of}
 use Rattle.saved_write.specs.Fields.{writing_fields}
 use Rattle.saved_write.proofs.put_fields.Statement.{statement}
 use Rattle.saved_write.proofs.put_fields.Tie as tie
 
 abbrev invariant-loop : tie.invariant-loop
-invariant-loop buffer₀ at fields i₀ buffer i = (i ≤ length fields) × (buffer ≡ over at (file-of (take i fields)) buffer₀)
+invariant-loop buffer₀ at fields i₀ buffer i = (i ≤ length fields) × (buffer ≡ over at (file_of (take i fields)) buffer₀)
 
 abbrev decreases-loop : tie.decreases-loop
 decreases-loop buffer₀ at fields i₀ buffer i = length fields - i

@@ -4,14 +4,14 @@ use mathlib.Core.Path.{◌≡◌}
 use Prim.Native.Nat.{◌≤◌, ◌-◌, ◌*◌}
 use native.Mathlib.Omega.{arith}
 use borrow.Author.Rules.{rules}
-use Rattle.rules.specs.Shapes.{offset-of}
+use Rattle.rules.specs.Shapes.{offset_of}
 use Rattle.texture_shapes.specs.Bounds.{most_of_mip}
 use Rattle.texture_sizes.specs.Layers.{summing}
 use Rattle.texture_sizes.proofs.bytes_below.Statement.{statement}
 use Rattle.texture_sizes.proofs.bytes_below.Tie as tie
 
 abbrev invariant-loop : tie.invariant-loop
-invariant-loop s pitch end sum₀ mip₀ sum mip = (mip ≤ end) × ((sum ≡ offset-of s pitch mip) × (sum ≤ mip * most_of_mip))
+invariant-loop s pitch end sum₀ mip₀ sum mip = (mip ≤ end) × ((sum ≡ offset_of s pitch mip) × (sum ≤ mip * most_of_mip))
 
 abbrev decreases-loop : tie.decreases-loop
 decreases-loop s pitch end sum₀ mip₀ sum mip = end - mip

@@ -2,15 +2,15 @@
 use mathlib.Core.Path.{◌≡◌}
 use Prim.Native.Nat.{◌≤◌}
 use native.Mathlib.Omega.{arith}
-use Rattle.rules.specs.Names.{lowest-left}
-use Rattle.rows.specs.Rows.{tableFrom}
+use Rattle.rules.specs.Names.{lowest_left}
+use Rattle.rows.specs.Rows.{table_from}
 use Rattle.kept_resources.specs.Views.{resource_of_row}
 use Rattle.kept_names.specs.Naming.{lowest_naming}
 use Rattle.kept_names.proofs.naming.lowest_left.Statement.{statement}
 use Rattle.kept_names.proofs.naming.lowest_left.Tie as tie
 
 abbrev invariant-loop : tie.invariant-loop
-invariant-loop resources live low best₀ i₀ best i = (i ≤ live) × (best ≡ lowest-left low (tableFrom resource_of_row 12 i live resources))
+invariant-loop resources live low best₀ i₀ best i = (i ≤ live) × (best ≡ lowest_left low (table_from resource_of_row 12 i live resources))
 
 abbrev decreases-loop : tie.decreases-loop
 decreases-loop resources live low best₀ i₀ best i = i

@@ -6,14 +6,14 @@ use native.Mathlib.Omega.{arith}
 use borrow.Author.Rules.{rules}
 use Rattle.rules.specs.Lists.{index_of}
 use Rattle.rules.specs.Names.{token_of}
-use Rattle.rows.specs.Rows.{tableFrom}
+use Rattle.rows.specs.Rows.{table_from}
 use Rattle.kept_tokens.specs.Views.{token_of_row}
 use Rattle.kept_tokens.specs.Tokens.{scanning_tokens}
 use Rattle.kept_tokens.proofs.finding.by_eight.Statement.{statement}
 use Rattle.kept_tokens.proofs.finding.by_eight.Tie as tie
 
 abbrev invariant-loop : tie.invariant-loop
-invariant-loop tokens from used token i₀ i = ((i ≤ used) × ((used - i) % 8 ≡ 0)) × (from + index_of token_of token (tableFrom token_of_row 2 from used tokens) ≡ i + index_of token_of token (tableFrom token_of_row 2 i used tokens))
+invariant-loop tokens from used token i₀ i = ((i ≤ used) × ((used - i) % 8 ≡ 0)) × (from + index_of token_of token (table_from token_of_row 2 from used tokens) ≡ i + index_of token_of token (table_from token_of_row 2 i used tokens))
 
 abbrev decreases-loop : tie.decreases-loop
 decreases-loop tokens from used token i₀ i = used - i

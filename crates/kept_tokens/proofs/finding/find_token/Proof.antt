@@ -5,14 +5,14 @@ use Prim.Native.Nat.{◌≤◌, ◌-◌, ◌+◌}
 use native.Mathlib.Omega.{arith}
 use Rattle.rules.specs.Lists.{index_of}
 use Rattle.rules.specs.Names.{token_of}
-use Rattle.rows.specs.Rows.{tableFrom}
+use Rattle.rows.specs.Rows.{table_from}
 use Rattle.kept_tokens.specs.Views.{token_of_row, tokens_of}
 use Rattle.kept_tokens.specs.Tokens.{scanning_tokens}
 use Rattle.kept_tokens.proofs.finding.find_token.Statement.{statement}
 use Rattle.kept_tokens.proofs.finding.find_token.Tie as tie
 
 abbrev invariant-loop : tie.invariant-loop
-invariant-loop tokens used token few i₀ i = (i ≤ few) × (index_of token_of token (tokens_of used tokens) ≡ i + index_of token_of token (tableFrom token_of_row 2 i used tokens))
+invariant-loop tokens used token few i₀ i = (i ≤ few) × (index_of token_of token (tokens_of used tokens) ≡ i + index_of token_of token (table_from token_of_row 2 i used tokens))
 
 abbrev decreases-loop : tie.decreases-loop
 decreases-loop tokens used token few i₀ i = few - i

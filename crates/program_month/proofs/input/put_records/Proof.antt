@@ -3,12 +3,12 @@ use mathlib.Core.Path.{◌≡◌}
 use Prim.Native.Nat.{◌-◌, ◌≤◌}
 use native.Mathlib.Omega.{arith}
 use Rattle.kept_resources.specs.Views.{records_of}
-use Rattle.program_month.specs.Input.{inputting, records-in}
+use Rattle.program_month.specs.Input.{inputting, records_in}
 use Rattle.program_month.proofs.input.put_records.Statement.{statement}
 use Rattle.program_month.proofs.input.put_records.Tie as tie
 
 abbrev invariant-loop : tie.invariant-loop
-invariant-loop bytes count records₀ i₀ records i = (i ≤ count) × (records_of i records ≡ records-in bytes i)
+invariant-loop bytes count records₀ i₀ records i = (i ≤ count) × (records_of i records ≡ records_in bytes i)
 
 abbrev decreases-loop : tie.decreases-loop
 decreases-loop bytes count records₀ i₀ records i = count - i

@@ -3,7 +3,7 @@
 use mathlib.Core.Path.{◌≡◌}
 use Prim.Native.Nat.{◌≤◌, ◌-◌}
 use native.Mathlib.Omega.{arith}
-use Rattle.machine.specs.Machine.{spent, runFor}
+use Rattle.machine.specs.Machine.{spent, run_while}
 use Rattle.rules.specs.Numbers.{most}
 use Rattle.run_entries.specs.Entries.{reading_goes, read_step, reading_of, from_row, reading_on}
 use Rattle.run_entries.proofs.entries.read_entries.Statement.{statement}
@@ -14,7 +14,7 @@ invariant-loop mem t kept₀ n allowance p₀ units₀ kept p units =
     (units ≤ allowance)
     × (p.ending ≡ 0)
     × (p.kept ≤ most)
-    × (runFor reading_goes (read_step mem t) allowance (from_row n kept₀) ≡ spent units (runFor reading_goes (read_step mem t) (allowance - units) (reading_of p kept)))
+    × (run_while reading_goes (read_step mem t) allowance (from_row n kept₀) ≡ spent units (run_while reading_goes (read_step mem t) (allowance - units) (reading_of p kept)))
 
 abbrev decreases-loop : tie.decreases-loop
 decreases-loop mem t kept₀ n allowance p₀ units₀ kept p units = allowance - units
