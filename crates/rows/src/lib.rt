@@ -1,5 +1,7 @@
 // Rows of words in a flat list: moved, copied, and counted out in a guest's table.
 
+#![tactic(auto)]
+
 ghost use Rattle.std.specs.Prelude.{◌≡◌, ◌+◌, ◌*◌, ◌≤◌, length, take};
 ghost use Rattle.rules.specs.Lists.{over};
 ghost use Rattle.rows.specs.Rows.{row_at};

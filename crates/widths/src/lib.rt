@@ -1,4 +1,6 @@
 // Numbers alone: the same number in another width, which changes none, and a sum held against a bound without being made.
+#![tactic(auto)]
+
 ghost use Rattle.std.specs.Prelude.{◌≡◌, ◌+◌, ◌<◌, ltb};
 
 // A small number in a word, known to be one of four bytes.

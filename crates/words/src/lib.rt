@@ -1,4 +1,6 @@
 // Little-endian words read from a slice of bytes, each by one load: what every other crate reads its numbers with.
+#![tactic(auto)]
+
 pub mod stores;
 
 ghost use Rattle.std.specs.Prelude.{◌≡◌, ◌+◌, ◌/◌, ◌%◌, ◌≤◌, ◌<◌, length};

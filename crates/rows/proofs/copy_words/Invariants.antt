@@ -1,0 +1,11 @@
+-- `copy_words` meets its contract. The invariant: the first k words are copied. The measure is the words that are left.
+-- Assumes nothing.
+use Rattle.std.proofs.Common.{◌≡◌, ◌≤◌, ◌-◌}
+use Rattle.rows.specs.Rows.{copied_words}
+use Rattle.rows.proofs.copy_words.Given as goal
+
+abbrev pub invariant-loop-done : goal.invariant-loop-done
+invariant-loop-done l = (l.done ≤ l.n) × (l.to ≡ copied_words l.n l.from l.initial.to l.done)
+
+abbrev pub decreases-loop-done : goal.decreases-loop-done
+decreases-loop-done l = l.n - l.done

@@ -1,0 +1,12 @@
+use Rattle.std.proofs.Common.{arith}
+use Rattle.rows.specs.Rows.{moving}
+use Rattle.rows.proofs.move_row.Goals as goal
+
+pub loop-k-init : goal.loop-k-init
+loop-k-init c = (omega arith, search moving)
+
+pub loop-k-preserved : goal.loop-k-preserved
+loop-k-preserved c = (omega arith, search moving)
+
+pub returns : goal.returns
+returns c = search moving
