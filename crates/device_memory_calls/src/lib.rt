@@ -47,7 +47,7 @@ pub fn run(
 ) -> Spent
     ensures { Runs allowance
         (record {
-          words = words.entry.now;
+          words = words.old;
           entries = entries.old;
           first = first.old;
           second = second.old;
@@ -58,7 +58,7 @@ pub fn run(
         })
         result
         (record {
-          words = words.exit.now;
+          words = words.new;
           entries = entries.new;
           first = first.new;
           second = second.new;
@@ -107,7 +107,7 @@ pub fn answer(
 ) -> Spent
     ensures { Answers good allowance
         (record {
-          words = words.entry.now;
+          words = words.old;
           entries = entries.old;
           first = first.old;
           second = second.old;
@@ -118,7 +118,7 @@ pub fn answer(
         })
         result
         (record {
-          words = words.exit.now;
+          words = words.new;
           entries = entries.new;
           first = first.new;
           second = second.new;

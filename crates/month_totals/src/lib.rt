@@ -1,5 +1,7 @@
 // The totals of a month (02, wish 13) as 26 words, in the published order: accepted, refused with 10 to 30, units, bytes read and bytes
 // written, which are sums, and the largest write. Any 26 words are some totals.
+#![tactic(auto)]
+
 ghost use Rattle.std.specs.Prelude.{◌≡◌, true, not, ◌+◌, take, get_or};
 ghost use Rattle.rules.specs.Lists.{over};
 ghost use Rattle.rules.specs.Month.{small, below, joined, added};

@@ -26,9 +26,9 @@ fn turn_once(
 ) -> u16
     requires { 0 < left }
     ensures { TurnOf left words.old
-        (record { entries = entries.entry.now; resources = resources.now; own = own.old; first_tokens = firsttokens.old; second_tokens = secondtokens.old; records = records.old })
+        (record { entries = entries.old; resources = resources.now; own = own.old; first_tokens = firsttokens.old; second_tokens = secondtokens.old; records = records.old })
         mem.old result words.new
-        (record { entries = entries.exit.now; resources = resources.now; own = own.new; first_tokens = firsttokens.new; second_tokens = secondtokens.new; records = records.new })
+        (record { entries = entries.new; resources = resources.now; own = own.new; first_tokens = firsttokens.new; second_tokens = secondtokens.new; records = records.new })
         mem.new }
 {
     if words[ENABLED] == 0 {
@@ -75,9 +75,9 @@ pub fn run(
     allowance: u16,
 ) -> u16
     ensures { RanFor allowance words.old
-        (record { entries = entries.entry.now; resources = resources.now; own = own.old; first_tokens = firsttokens.old; second_tokens = secondtokens.old; records = records.old })
+        (record { entries = entries.old; resources = resources.now; own = own.old; first_tokens = firsttokens.old; second_tokens = secondtokens.old; records = records.old })
         mem.old result words.new
-        (record { entries = entries.exit.now; resources = resources.now; own = own.new; first_tokens = firsttokens.new; second_tokens = secondtokens.new; records = records.new })
+        (record { entries = entries.new; resources = resources.now; own = own.new; first_tokens = firsttokens.new; second_tokens = secondtokens.new; records = records.new })
         mem.new }
 {
     let mut units: u16 = 0;

@@ -104,9 +104,9 @@ fn take_packet(
 ) -> Stepped
     requires { RowsExist kept h.live h.made }
     ensures { PacketTook end kept
-        (record { entries = entries.entry.now; resources = resources.now; own = own.old; records = records.old })
+        (record { entries = entries.now; resources = resources.now; own = own.old; records = records.old })
         at next h packet result.place result.left
-        (record { entries = entries.entry.now; resources = resources.now; own = own.new; records = records.new }) }
+        (record { entries = entries.now; resources = resources.now; own = own.new; records = records.new }) }
 {
     let t = apply_packet(entries, kept, resources, own, records, h, packet);
     let x = t.changed;
@@ -144,9 +144,9 @@ fn step_packet(
 ) -> Stepped
     requires { RowsExist kept p.held.live p.held.made }
     ensures { PacketStepped stream.now end kept
-        (record { entries = entries.entry.now; resources = resources.now; own = own.old; records = records.old })
+        (record { entries = entries.now; resources = resources.now; own = own.old; records = records.old })
         p result.place result.left
-        (record { entries = entries.entry.now; resources = resources.now; own = own.new; records = records.new }) }
+        (record { entries = entries.now; resources = resources.now; own = own.new; records = records.new }) }
 {
     let at = p.at;
     let held = p.held;
@@ -231,9 +231,9 @@ pub fn read_packets(
 ) -> PacketsRun
     requires { RowsExist kept from.held.live from.held.made × (from.ending ≡ 0) }
     ensures { PacketsRan stream.now end kept
-        (record { entries = entries.entry.now; resources = resources.now; own = own.old; records = records.old })
+        (record { entries = entries.now; resources = resources.now; own = own.old; records = records.old })
         from allowance result
-        (record { entries = entries.entry.now; resources = resources.now; own = own.new; records = records.new }) }
+        (record { entries = entries.now; resources = resources.now; own = own.new; records = records.new }) }
 {
     let bound = inner_bound(stream, end);
     let mut p = from;

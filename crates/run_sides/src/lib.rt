@@ -21,7 +21,7 @@ pub fn run_on(
 ) -> u16
     ensures { RanOn allowance
         (record {
-          words = words.entry.now;
+          words = words.old;
           entries = entries.old;
           first = first.old;
           second = second.old;
@@ -32,7 +32,7 @@ pub fn run_on(
         })
         result
         (record {
-          words = words.exit.now;
+          words = words.new;
           entries = entries.new;
           first = first.new;
           second = second.new;

@@ -55,9 +55,9 @@ fn play(
 ) -> PacketsRun
     requires { RowsExist kept from.held.live from.held.made × (from.ending ≡ 0) }
     ensures { PacketsRan (stream_bytes mem.now stream) stream.size kept
-        (record { entries = entries.entry.now; resources = resources.now; own = own.old; records = records.old })
+        (record { entries = entries.now; resources = resources.now; own = own.old; records = records.old })
         from left result
-        (record { entries = entries.entry.now; resources = resources.now; own = own.new; records = records.new }) }
+        (record { entries = entries.now; resources = resources.now; own = own.new; records = records.new }) }
 {
     let part = stream_part(mem, stream);
     let end = u32_to_usize(stream.size);
@@ -103,8 +103,8 @@ fn play_words(
     left: u16,
 ) -> PacketsRun
     ensures { PlaysWords words.now left mem.now
-        (record { entries = entries.entry.now; resources = resources.now; own = own.old; records = records.old }) result
-        (record { entries = entries.entry.now; resources = resources.now; own = own.new; records = records.new }) }
+        (record { entries = entries.now; resources = resources.now; own = own.old; records = records.old }) result
+        (record { entries = entries.now; resources = resources.now; own = own.new; records = records.new }) }
 {
     let stream = stream_in(words);
     let kept = rows_in(words[KEPT]);
@@ -147,9 +147,9 @@ fn play_shared(
 ) -> Played
     requires { 0 < left }
     ensures { PlaysShared words.old left mem.now
-        (record { entries = entries.entry.now; resources = resources.now; own = own.old; first_tokens = firsttokens.old; second_tokens = secondtokens.old; records = records.old })
+        (record { entries = entries.now; resources = resources.now; own = own.old; first_tokens = firsttokens.old; second_tokens = secondtokens.old; records = records.old })
         result.place result.units words.new
-        (record { entries = entries.entry.now; resources = resources.now; own = own.new; first_tokens = firsttokens.new; second_tokens = secondtokens.new; records = records.new }) }
+        (record { entries = entries.now; resources = resources.now; own = own.new; first_tokens = firsttokens.new; second_tokens = secondtokens.new; records = records.new }) }
 {
     let run = play_words(words, mem, entries, resources, own, records, left);
     let place = run.place;
@@ -189,9 +189,9 @@ pub fn packets_turn(
 ) -> u16
     requires { (tag_in words.old ≡ 2) × (0 < left) }
     ensures { PacketsTurn words.old left mem.old
-        (record { entries = entries.entry.now; resources = resources.now; own = own.old; first_tokens = firsttokens.old; second_tokens = secondtokens.old; records = records.old })
+        (record { entries = entries.now; resources = resources.now; own = own.old; first_tokens = firsttokens.old; second_tokens = secondtokens.old; records = records.old })
         result words.new mem.new
-        (record { entries = entries.entry.now; resources = resources.now; own = own.new; first_tokens = firsttokens.new; second_tokens = secondtokens.new; records = records.new }) }
+        (record { entries = entries.now; resources = resources.now; own = own.new; first_tokens = firsttokens.new; second_tokens = secondtokens.new; records = records.new }) }
 {
     let played = play_shared(
         words,

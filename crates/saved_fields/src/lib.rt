@@ -1,4 +1,6 @@
 // The fields of a saved desk, each judged by its rule: the first rule that is broken is kept, with the place that it is reported at.
+#![tactic(auto)]
+
 ghost use Rattle.std.specs.Prelude.{◌≡◌, eqb, leb};
 ghost use Rattle.rules.specs.Layouts.{word};
 ghost use Rattle.rules.specs.Loaded.{must as must-hold, any};

@@ -1,4 +1,6 @@
 // Which form a file has, and where its sections begin: "A first u32, 1 or 2, tells the forms apart; old files without it are form 1" (02, wish 11).
+#![tactic(auto)]
+
 ghost use Rattle.std.specs.Prelude.{◌≡◌, ◌≤◌, length};
 ghost use Rattle.rules.specs.Saved.{more_registers};
 ghost use Rattle.rules.specs.Loaded.{form_in, before_sections};

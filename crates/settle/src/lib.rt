@@ -1,4 +1,6 @@
 // What settling writes to guest memory: the head of the opened ring, then the fence page, and no byte more.
+#![tactic(auto)]
+
 ghost use Rattle.std.specs.Prelude.{◌≡◌, ◌≤◌, length};
 ghost use Rattle.rules.specs.Lists.{over};
 ghost use Rattle.rules.specs.Layouts.{page_bytes};

@@ -1,4 +1,6 @@
 // Numbers as text, written into a lent buffer from a place on: what the lines of a program are made of.
+#![tactic(auto)]
+
 ghost use Rattle.std.specs.Prelude.{◌≡◌, ◌+◌, ◌≤◌, ◌<◌, length};
 ghost use Rattle.rules.specs.Text.{digit as digit-of, hex_digit as hex-digit-of, decimal, hex};
 ghost use Rattle.text_numbers.specs.Writing.{Puts};

@@ -1,4 +1,6 @@
 // Which texture shapes are good, and which pitches.
+#![tactic(auto)]
+
 pub mod formats;
 
 ghost use Rattle.std.specs.Prelude.{◌≡◌, ◌<◌, leb};

@@ -53,7 +53,7 @@ pub extern "C" fn zelezmut_run(
 ) -> u64
     ensures { SaysRun allowance
         (record {
-          words = words.entry.now;
+          words = words.old;
           entries = entries.old;
           first = first.old;
           second = second.old;
@@ -64,7 +64,7 @@ pub extern "C" fn zelezmut_run(
         })
         result
         (record {
-          words = words.exit.now;
+          words = words.new;
           entries = entries.new;
           first = first.new;
           second = second.new;
@@ -120,7 +120,7 @@ pub extern "C" fn zelezmut_answer(
 ) -> u64
     ensures { SaysAnswer (set_in good) allowance
         (record {
-          words = words.entry.now;
+          words = words.old;
           entries = entries.old;
           first = first.old;
           second = second.old;
@@ -131,7 +131,7 @@ pub extern "C" fn zelezmut_answer(
         })
         result
         (record {
-          words = words.exit.now;
+          words = words.new;
           entries = entries.new;
           first = first.new;
           second = second.new;
