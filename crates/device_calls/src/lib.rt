@@ -15,14 +15,14 @@ use run_state::{
 use widths::{u32_to_usize, usize_to_word};
 
 // What a read answers, and the register's value.
-#[derive(Drop)]
+#[derive(Clone, Copy)]
 pub struct ValueRead {
     pub answer: u32,
     pub value: u32,
 }
 
 // What a record call answers, and the record.
-#[derive(Drop)]
+#[derive(Clone, Copy)]
 pub struct RecordRead {
     pub answer: u32,
     pub range: Record,

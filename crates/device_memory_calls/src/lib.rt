@@ -15,7 +15,7 @@ use run_state::{MEMORY, TAG, WAITING, Words};
 use widths::word_to_usize;
 
 // What a run or an answer is answered with: the call's answer, the units spent and how it ended.
-#[derive(Drop)]
+#[derive(Clone, Copy)]
 pub struct Spent {
     pub answer: u32,
     pub units: u16,

@@ -20,7 +20,7 @@ const STREAM_HEADER_SIZE: usize = rules::numbers::STREAM_HEADER_SIZE as usize;
 const LONGEST_DUMP: usize = 65536;
 
 // What a host's call gives beside the buffer: its answer, and the length of the text.
-#[derive(Drop)]
+#[derive(Clone, Copy)]
 pub struct DumpListed {
     pub answer: u32,
     pub length: u64,

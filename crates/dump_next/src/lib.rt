@@ -18,7 +18,7 @@ use text_filling::fill;
 use widths::{u32_to_usize, u32_to_word, usize_to_word};
 
 // How a listing goes on behind a line: from this place of the stream and this place of the buffer, or not, with the place where it ended.
-#[derive(Drop)]
+#[derive(Clone, Copy)]
 pub enum Going {
     On(usize, usize),
     Ended(usize),

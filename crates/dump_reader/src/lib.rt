@@ -6,7 +6,7 @@ ghost use Rattle.stream_listing.specs.Seen.{seen};
 use stream_listing::{Seen, seen_at};
 
 // A dump, and a place in it.
-#[derive(Drop)]
+#[derive(Clone, Copy)]
 pub struct DumpReader<'a> {
     pub dump: &'a [u8],
     pub at: usize,

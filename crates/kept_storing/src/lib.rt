@@ -11,7 +11,7 @@ use widths::u32_to_word;
 const TEXTURE: u64 = 1;
 
 // The six words of a kind: its tag and its shape.
-#[derive(Drop)]
+#[derive(Clone, Copy)]
 struct FlatKind {
     tag: u64,
     format: u64,

@@ -22,7 +22,7 @@ const BEFORE_PLACE: u32 = 9;
 const MOST_RECORDS: u32 = 64;
 
 // A sum, if it stays below 2^64.
-#[derive(Drop)]
+#[derive(Clone, Copy)]
 pub enum Sum {
     Below(u64),
     Reached,

@@ -36,7 +36,7 @@ pub const LEFT: u32 = 2;
 
 // What a packet came to, or, if it is left, that it has changed nothing, and the packet. That nobody knows it is a hint: more such packets are
 // likely to come.
-#[derive(Drop)]
+#[derive(Clone, Copy)]
 pub struct Taken {
     pub changed: Changed,
     pub what: u32,

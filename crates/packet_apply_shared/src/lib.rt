@@ -26,7 +26,7 @@ use rules::{DestroyResource, ExportSurface, ImportSurface, ReleaseToken, Token, 
 use widths::u32_to_usize;
 
 // What a packet came to that needs tokens, and the tokens after it.
-#[derive(Drop)]
+#[derive(Clone, Copy)]
 pub struct Shared {
     pub changed: Changed,
     pub tokens: HeldTokens,

@@ -24,7 +24,7 @@ use widths::beyond;
 const WRITEBACK: u32 = 1;
 
 // What a handle names: no live buffer, or one.
-#[derive(Drop)]
+#[derive(Clone, Copy)]
 enum Sought {
     NoBuffer,
     Live(Resource),

@@ -51,7 +51,7 @@ pub fn on_buffer(
 }
 
 // Whether a texture is good, and the bytes that it takes in guest memory.
-#[derive(Drop)]
+#[derive(Clone, Copy)]
 struct Weighed {
     good: bool,
     bytes: u64,

@@ -43,7 +43,7 @@ pub fn on_destroy(own: &mut Resources, live: usize, made: usize, c: DestroyResou
 }
 
 // What a destroy packet came to, or that it is left, since the resource may have other names and tokens.
-#[derive(Drop)]
+#[derive(Clone, Copy)]
 pub struct Destroyed {
     pub applied: Applied,
     pub left: bool,

@@ -12,7 +12,7 @@ use rules::numbers::{BAD_HANDLE, BAD_SHAPE, BAD_TOKEN, MOST_TOKENS, TOO_MANY};
 use rules::{ExportSurface, Verdict};
 
 // What an export packet came to: whether the token is a new one, and the name that it is bound to then.
-#[derive(Drop)]
+#[derive(Clone, Copy)]
 pub struct Exported {
     pub applied: Applied,
     pub added: bool,

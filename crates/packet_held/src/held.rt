@@ -15,7 +15,7 @@ use rules::{DestroyResource, ExportSurface, ImportSurface, ReleaseToken, Verdict
 
 // What a submission holds, beside the rows of its tables and its tokens: how many resources and records there are, whether the resources are in
 // the submission's own table, 0 if not, and the handle of its target, 0 for none.
-#[derive(Drop)]
+#[derive(Clone, Copy)]
 pub struct Held {
     pub live: usize,
     pub made: usize,
@@ -25,14 +25,14 @@ pub struct Held {
 
 // What a packet came to: the number of the rule that it breaks, 0 if it breaks none, and what is held after it. A number goes from packet to
 // packet in one register, where a verdict would take two.
-#[derive(Drop)]
+#[derive(Clone, Copy)]
 pub struct Changed {
     pub why: u32,
     pub held: Held,
 }
 
 // A packet that is left for whoever has the submission's tokens; or none.
-#[derive(Drop)]
+#[derive(Clone, Copy)]
 pub enum SharedPacket {
     Nothing,
     Destroy(DestroyResource),

@@ -15,7 +15,7 @@ use rules::Token;
 use widths::u32_to_usize;
 
 // How many tokens a submission has, and whether they are in its own table: 0 if not.
-#[derive(Drop)]
+#[derive(Clone, Copy)]
 pub struct HeldTokens {
     pub used: u32,
     pub copied: u32,

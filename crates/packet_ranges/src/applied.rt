@@ -5,7 +5,7 @@ ghost use Rattle.packet_ranges.specs.Views.{refused_with, renamed_nothing};
 use rules::{Refusal, Verdict};
 
 // A verdict, and the counts of live resources and of records made.
-#[derive(Drop)]
+#[derive(Clone, Copy)]
 pub struct Applied {
     pub verdict: Verdict,
     pub live: usize,
@@ -14,7 +14,7 @@ pub struct Applied {
 
 // What a packet came to that may change a resource's lowest name: tokens that had the old one have the new one then. They are equal
 // where nothing changes.
-#[derive(Drop)]
+#[derive(Clone, Copy)]
 pub struct Renamed {
     pub applied: Applied,
     pub old: u32,

@@ -15,7 +15,7 @@ use rules::{Record, Resource, Verdict};
 use widths::beyond;
 
 // What a range of a resource comes to in this submission's table.
-#[derive(Drop)]
+#[derive(Clone, Copy)]
 pub enum Resolved {
     // its backing id is not in the table
     Missing,

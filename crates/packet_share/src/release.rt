@@ -12,7 +12,7 @@ use rules::numbers::UNBOUND_TOKEN;
 use rules::{ReleaseToken, Verdict};
 
 // What a release packet came to, and the place of the token that is spent, if it was accepted.
-#[derive(Drop)]
+#[derive(Clone, Copy)]
 pub struct Released {
     pub applied: Applied,
     pub place: usize,

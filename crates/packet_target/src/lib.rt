@@ -17,7 +17,7 @@ use signed::{begins, common, is_negative};
 use widths::u32_to_word;
 
 // What a handle names: no live texture, or one of a shape.
-#[derive(Drop)]
+#[derive(Clone, Copy)]
 enum Aimed {
     Nothing,
     At(Shape),

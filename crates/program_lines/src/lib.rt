@@ -1,5 +1,7 @@
 // Words and numbers on standard output, which the lines of every program are made of.
 
+#![tactic(auto)]
+
 // Prints a text as it is.
 pub fn say(text: &[u8]) {
     io::write_all(1, text);

@@ -18,7 +18,7 @@ const HEAD: usize = 12;
 const MOST: u64 = 18446744073709551615;
 
 // What was next in the input: a submission, the end, or a part of a submission.
-#[derive(Drop)]
+#[derive(Clone, Copy)]
 enum Next {
     Fed,
     End,

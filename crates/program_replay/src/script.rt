@@ -46,7 +46,7 @@ pub const MOVE: u8 = 13;
 // ---- operations
 
 // How an operation went: played, with the bytes taken after its tag; or the script ends here.
-#[derive(Drop)]
+#[derive(Clone, Copy)]
 pub enum Next {
     Took(usize),
     Cut,

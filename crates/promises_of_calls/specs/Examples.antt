@@ -45,7 +45,7 @@ use Rattle.promises_of_calls.specs.Chains.{Chain, chain_on, chain-called, units_
 use Rattle.promises_of_calls.specs.Chains.Chain.{no_call, call_then}
 use Rattle.promises_of_calls.specs.Calls.{MadeAndCalled, handed-out-in-one-entry}
 use Rattle.promises_of_calls.specs.Calls.MadeAndCalled.{made_one, called-one}
-use Rattle.promises_of_calls.specs.Contracts.{export-run-reads-only-there}
+use Rattle.promises_of_calls.specs.CallContracts.{export-run-reads-only-there}
 
 -- ---- words and tables
 

@@ -17,7 +17,7 @@ use words::low32;
 pub const HALF: u64 = 4294967296;
 
 // What a read shows.
-#[derive(Drop)]
+#[derive(Clone, Copy)]
 pub enum Shown {
     Value(u32),
     NoRegister,

@@ -1,1 +1,3 @@
 // Laws of the rule book that more than one crate uses; specifications alone.
+
+#![tactic(auto)]

@@ -1,11 +1,13 @@
 // The vocabulary of document 01 and of the wishes of 02: the things they speak of, by value, of plain numbers. No function stands here;
 // what the rules say of these things is in specs/, a file for each heading.
+#![tactic(auto)]
+
 pub mod numbers;
 
 // ---- Layouts: what is read of guest memory, each once
 
 // The ring's header; `head` and `tail` count submissions and wrap.
-#[derive(Drop)]
+#[derive(Clone, Copy)]
 pub struct RingHeader {
     pub magic: u32,
     pub version: u32,
@@ -17,7 +19,7 @@ pub struct RingHeader {
 }
 
 // A submission, as its slot of the ring describes it.
-#[derive(Drop)]
+#[derive(Clone, Copy)]
 pub struct Descriptor {
     pub size: u32,
     pub flags: u32,
@@ -29,7 +31,7 @@ pub struct Descriptor {
 }
 
 // The header of an allocation table.
-#[derive(Drop)]
+#[derive(Clone, Copy)]
 pub struct TableHeader {
     pub magic: u32,
     pub version: u32,
@@ -39,7 +41,7 @@ pub struct TableHeader {
 }
 
 // One entry of an allocation table: a range of guest memory under an id.
-#[derive(Drop)]
+#[derive(Clone, Copy)]
 pub struct Entry {
     pub id: u32,
     pub flags: u32,
@@ -48,7 +50,7 @@ pub struct Entry {
 }
 
 // The header of a command stream.
-#[derive(Drop)]
+#[derive(Clone, Copy)]
 pub struct StreamHeader {
     pub magic: u32,
     pub version: u32,
@@ -58,7 +60,7 @@ pub struct StreamHeader {
 // ---- Packets
 
 // The shape of a texture.
-#[derive(Drop)]
+#[derive(Clone, Copy)]
 pub struct Shape {
     pub format: u32,
     pub width: u32,
@@ -68,7 +70,7 @@ pub struct Shape {
 }
 
 // A new buffer, of so many bytes, in an entry of the table or host-backed.
-#[derive(Drop)]
+#[derive(Clone, Copy)]
 pub struct CreateBuffer {
     pub handle: u32,
     pub size: u64,
@@ -77,7 +79,7 @@ pub struct CreateBuffer {
 }
 
 // A new texture of a shape, in an entry of the table or host-backed.
-#[derive(Drop)]
+#[derive(Clone, Copy)]
 pub struct CreateTexture {
     pub handle: u32,
     pub shape: Shape,
@@ -87,13 +89,13 @@ pub struct CreateTexture {
 }
 
 // A name that is to go; its resource goes with the last (02, wish 5).
-#[derive(Drop)]
+#[derive(Clone, Copy)]
 pub struct DestroyResource {
     pub handle: u32,
 }
 
 // A range of a resource that the host is to read again.
-#[derive(Drop)]
+#[derive(Clone, Copy)]
 pub struct DirtyRange {
     pub handle: u32,
     pub offset: u64,
@@ -101,7 +103,7 @@ pub struct DirtyRange {
 }
 
 // Bytes of one buffer into another; flag bit 0 asks for writeback.
-#[derive(Drop)]
+#[derive(Clone, Copy)]
 pub struct CopyBuffer {
     pub dst: u32,
     pub src: u32,
@@ -112,13 +114,13 @@ pub struct CopyBuffer {
 }
 
 // The texture that later scissors are clipped to (02, wish 7).
-#[derive(Drop)]
+#[derive(Clone, Copy)]
 pub struct SetTarget {
     pub handle: u32,
 }
 
 // A rectangle and a range of depths. It is judged, and kept nowhere.
-#[derive(Drop)]
+#[derive(Clone, Copy)]
 pub struct SetViewport {
     pub x: f32,
     pub y: f32,
@@ -129,7 +131,7 @@ pub struct SetViewport {
 }
 
 // A rectangle, to be clipped to the target.
-#[derive(Drop)]
+#[derive(Clone, Copy)]
 pub struct SetScissor {
     pub x: i32,
     pub y: i32,
@@ -138,7 +140,7 @@ pub struct SetScissor {
 }
 
 // Flags, a colour, a depth and a stencil. They are judged, and kept nowhere.
-#[derive(Drop)]
+#[derive(Clone, Copy)]
 pub struct ClearValues {
     pub flags: u32,
     pub red: f32,
@@ -150,27 +152,27 @@ pub struct ClearValues {
 }
 
 // A texture that other programs may reach by a token (02, wish 5).
-#[derive(Drop)]
+#[derive(Clone, Copy)]
 pub struct ExportSurface {
     pub handle: u32,
     pub token: u64,
 }
 
 // Another name for the texture that a token is bound to.
-#[derive(Drop)]
+#[derive(Clone, Copy)]
 pub struct ImportSurface {
     pub handle: u32,
     pub token: u64,
 }
 
 // A token that nobody may use any more.
-#[derive(Drop)]
+#[derive(Clone, Copy)]
 pub struct ReleaseToken {
     pub token: u64,
 }
 
 // What the bytes left of a stream begin with: a whole packet, by opcode and size, or none.
-#[derive(Drop)]
+#[derive(Clone, Copy)]
 pub enum Frame {
     Whole(u32, u32),
     Misframed(Refusal),
@@ -178,7 +180,7 @@ pub enum Frame {
 
 // A packet that is framed well. One whose opcode we do not know is skipped. A viewport or clear with a NaN among its floats is a case of its
 // own, since no f32 is made of a NaN's bits.
-#[derive(Drop)]
+#[derive(Clone, Copy)]
 pub enum Packet {
     Buffer(CreateBuffer),
     Texture(CreateTexture),
@@ -197,7 +199,7 @@ pub enum Packet {
 }
 
 // Where a subresource of a texture starts: nowhere, for a bad shape or an index past the last.
-#[derive(Drop)]
+#[derive(Clone, Copy)]
 pub enum Start {
     At(u64),
     Nowhere,
@@ -206,7 +208,7 @@ pub enum Start {
 // ---- Resources and records
 
 // What a resource is.
-#[derive(Drop)]
+#[derive(Clone, Copy)]
 pub enum Kind {
     Buffer,
     Texture(Shape),
@@ -215,7 +217,7 @@ pub enum Kind {
 // A live resource under one of its names, `handle`. Where it has several, each has the same numbers, and `lowest`, the lowest of them, tells which
 // resource it is. `bytes` is a buffer's size, a backed texture's packed size, and 0 for a host-backed texture, which takes
 // no guest memory. `backing` 0 is host-backed: pitch and offset are then 0.
-#[derive(Drop)]
+#[derive(Clone, Copy)]
 pub struct Resource {
     pub handle: u32,
     pub kind: Kind,
@@ -227,7 +229,7 @@ pub struct Resource {
 }
 
 // A token that was used since the last reset. `name` is the lowest name of the resource that it is bound to, or 0 once it is spent.
-#[derive(Drop)]
+#[derive(Clone, Copy)]
 pub struct Token {
     pub name: u32,
     pub token: u64,
@@ -235,7 +237,7 @@ pub struct Token {
 
 // What is handed to the host: a range of guest memory, of kind 1 a backing, 2 to be read, 3 to be written; or, of kind 4, a clipped
 // rectangle, with left, top, width and height in the places of handle, id, gpa and length.
-#[derive(Drop)]
+#[derive(Clone, Copy)]
 pub struct Record {
     pub kind: u32,
     pub handle: u32,
@@ -247,20 +249,20 @@ pub struct Record {
 // ---- Judgement
 
 // The rule that was broken, by its number.
-#[derive(Drop)]
+#[derive(Clone, Copy)]
 pub struct Refusal {
     pub code: u32,
 }
 
 // A broken rule by its number, and where it broke: the index of an entry, the offset of a packet in the stream, or 0.
-#[derive(Drop)]
+#[derive(Clone, Copy)]
 pub struct Fault {
     pub code: u32,
     pub place: u32,
 }
 
 // What a check comes to: no rule is broken, or this one.
-#[derive(Drop)]
+#[derive(Clone, Copy)]
 pub enum Verdict {
     Fine,
     Broken(Refusal),
@@ -269,7 +271,7 @@ pub enum Verdict {
 // ---- A submission in work
 
 // What settling needs: the opened ring and the head read from it, the fence to signal, whether it is silent (no-IRQ).
-#[derive(Drop)]
+#[derive(Clone, Copy)]
 pub struct Job {
     pub ring: u64,
     pub head: u32,
@@ -278,7 +280,7 @@ pub struct Job {
 }
 
 // The numbers kept of a checked table header; without a table the count is 0.
-#[derive(Drop)]
+#[derive(Clone, Copy)]
 pub struct Table {
     pub gpa: u64,
     pub count: u32,
@@ -286,14 +288,14 @@ pub struct Table {
 }
 
 // The numbers kept of a checked stream header; without a stream the size is 0.
-#[derive(Drop)]
+#[derive(Clone, Copy)]
 pub struct Stream {
     pub gpa: u64,
     pub size: u32,
 }
 
 // A submission that was opened: all that later steps use of what was read at opening.
-#[derive(Drop)]
+#[derive(Clone, Copy)]
 pub struct Opened {
     pub job: Job,
     pub table: Table,
@@ -301,7 +303,7 @@ pub struct Opened {
 }
 
 // How an opening ends.
-#[derive(Drop)]
+#[derive(Clone, Copy)]
 pub enum Opening {
     BadRing,
     NoWork,
@@ -312,7 +314,7 @@ pub enum Opening {
 // ---- Registers and answers
 
 // The last error: its code, the signal fence of its submission, how many there were, and where it broke. They change together.
-#[derive(Drop)]
+#[derive(Clone, Copy)]
 pub struct LastError {
     pub code: u32,
     pub fence: u64,
@@ -321,7 +323,7 @@ pub struct LastError {
 }
 
 // The registers' numbers, and the doorbell flag. IRQ status is its two bits.
-#[derive(Drop)]
+#[derive(Clone, Copy)]
 pub struct Registers {
     pub ring: u64,
     pub ringsize: u32,
@@ -336,7 +338,7 @@ pub struct Registers {
 }
 
 // How a run ended.
-#[derive(Drop)]
+#[derive(Clone, Copy)]
 pub enum Ended {
     Idle,
     Waiting,
@@ -346,14 +348,14 @@ pub enum Ended {
 // ---- Saved desks (02, wishes 1 and 11)
 
 // A form of a saved desk, by its number.
-#[derive(Drop)]
+#[derive(Clone, Copy)]
 pub enum Form {
     One,
     Two,
 }
 
 // What is found of a file: it is good, or the first rule that it breaks is reported at this offset.
-#[derive(Drop)]
+#[derive(Clone, Copy)]
 pub enum FileCheck {
     Good,
     BadAt(u32),
@@ -362,14 +364,14 @@ pub enum FileCheck {
 // ---- What differs between two dumps (02, wish 8)
 
 // Both streams are valid; or one is refused, by the number of the rule that it breaks and which of the two it is, 1 or 2.
-#[derive(Drop)]
+#[derive(Clone, Copy)]
 pub enum Checked {
     Valid,
     Refused(u32, u32),
 }
 
 // How the packets with one index compare.
-#[derive(Drop)]
+#[derive(Clone, Copy)]
 pub enum Class {
     Equal,
     SameOpcode,
@@ -380,47 +382,47 @@ pub enum Class {
 }
 
 // An offset in a packet, or none.
-#[derive(Drop)]
+#[derive(Clone, Copy)]
 pub enum Offset {
     At(usize),
     Nowhere,
 }
 
 // The first packet index that is not equal, or none.
-#[derive(Drop)]
+#[derive(Clone, Copy)]
 pub enum Parting {
     At(usize),
     Never,
 }
 
 // The answers of the questions: what was asked for, or the refusal.
-#[derive(Drop)]
+#[derive(Clone, Copy)]
 pub enum PartsAnswer {
     Is(Parting),
     Refused(u32, u32),
 }
 
-#[derive(Drop)]
+#[derive(Clone, Copy)]
 pub enum ClassAnswer {
     Is(Class),
     Refused(u32, u32),
 }
 
-#[derive(Drop)]
+#[derive(Clone, Copy)]
 pub enum OffsetAnswer {
     Is(Offset),
     Refused(u32, u32),
 }
 
 // A place in each of two streams: that of the packets with one index.
-#[derive(Drop)]
+#[derive(Clone, Copy)]
 pub struct Cursor {
     pub first: usize,
     pub second: usize,
 }
 
 // The packets at a cursor: how they compare, where each is and its size, 0 where there is none.
-#[derive(Drop)]
+#[derive(Clone, Copy)]
 pub struct Pair {
     pub class: Class,
     pub first: usize,
@@ -430,7 +432,7 @@ pub struct Pair {
 }
 
 // A cursor at the first packets, or the refusal.
-#[derive(Drop)]
+#[derive(Clone, Copy)]
 pub enum StartAnswer {
     Is(Cursor),
     Refused(u32, u32),

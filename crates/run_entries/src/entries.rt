@@ -8,7 +8,7 @@ use kept_entries::Entries;
 use rules::{Table, Verdict};
 
 // Where the entries stand: how many are kept, how the phase stands, and the number of a rule that is broken, 0 otherwise.
-#[derive(Drop)]
+#[derive(Clone, Copy)]
 pub struct EntriesPlace {
     pub kept: usize,
     pub ending: u32,
@@ -16,7 +16,7 @@ pub struct EntriesPlace {
 }
 
 // Where the entries stand after some units, and how many those were.
-#[derive(Drop)]
+#[derive(Clone, Copy)]
 pub struct EntriesRun {
     pub place: EntriesPlace,
     pub units: u16,

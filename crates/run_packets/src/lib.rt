@@ -19,7 +19,7 @@ pub const AT_SHARED: u32 = 3;
 
 // Where the packets stand: the place in the stream, what is held, how the phase stands, and the number of a rule that is broken, 0
 // otherwise.
-#[derive(Drop)]
+#[derive(Clone, Copy)]
 pub struct PacketsPlace {
     pub at: usize,
     pub held: Held,
@@ -28,14 +28,14 @@ pub struct PacketsPlace {
 }
 
 // A packet that is left, and where the next one stands.
-#[derive(Drop)]
+#[derive(Clone, Copy)]
 pub struct Left {
     pub next: usize,
     pub packet: SharedPacket,
 }
 
 // Where the packets stand after some units, and how many those were. Where a packet is left, its unit is counted and yet to be done.
-#[derive(Drop)]
+#[derive(Clone, Copy)]
 pub struct PacketsRun {
     pub place: PacketsPlace,
     pub units: u16,
@@ -82,7 +82,7 @@ pub fn place_after(at: usize, next: usize, end: usize, x: Changed) -> PacketsPla
 }
 
 // The place after a unit, whether its packet is one that nobody knows, which is a hint and nothing is said of it, and what is left.
-#[derive(Drop)]
+#[derive(Clone, Copy)]
 struct Stepped {
     place: PacketsPlace,
     unknown: bool,
@@ -186,7 +186,7 @@ fn inner_bound(stream: &[u8], end: usize) -> usize
 }
 
 // Where a row of unknown packets was left, and the units spent by then.
-#[derive(Drop)]
+#[derive(Clone, Copy)]
 struct Skipped {
     at: usize,
     units: u16,

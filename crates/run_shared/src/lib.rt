@@ -35,7 +35,7 @@ fn store_tokens(words: &mut Words, t: HeldTokens)
 }
 
 // The place after a packet that was left, and the submission's tokens.
-#[derive(Drop)]
+#[derive(Clone, Copy)]
 struct SharedStep {
     place: PacketsPlace,
     tokens: HeldTokens,

@@ -12,7 +12,7 @@ use saved_forms::{before_sections, form_in};
 use saved_load_sections::load_sections;
 
 // What a load answers, and the place of the first field that breaks a rule, 0 where none does.
-#[derive(Drop)]
+#[derive(Clone, Copy)]
 pub struct FileLoaded {
     pub answer: u32,
     pub place: u32,

@@ -25,7 +25,7 @@ use widths::u32_to_usize;
 use words::u32_at;
 
 // How many rows were stored: of resources under all their names, and of tokens.
-#[derive(Drop)]
+#[derive(Clone, Copy)]
 pub struct LoadedRows {
     pub live: usize,
     pub used: usize,

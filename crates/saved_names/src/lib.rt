@@ -29,7 +29,7 @@ pub const COUNT_BYTES: u32 = 4;
 pub const MOST_NAMES: u32 = 64;
 
 // Where a resource of section 2 stands that has a name, if there is one.
-#[derive(Drop)]
+#[derive(Clone, Copy)]
 pub enum Place {
     Nowhere,
     At(u32),

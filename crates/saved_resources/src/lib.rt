@@ -15,7 +15,7 @@ use texture_shapes::good_side_of;
 pub const RESOURCE_BYTES: u32 = 48;
 
 // The fields of a resource; those that are not there are 0.
-#[derive(Drop)]
+#[derive(Clone, Copy)]
 pub struct SavedResource {
     pub handle: u32,
     pub kind: u32,

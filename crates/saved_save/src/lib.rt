@@ -25,7 +25,7 @@ use saved_write_shared::tokens::TOKEN_BYTES;
 const COUNTS: usize = 8;
 
 // What a save answers, and how many bytes it wrote.
-#[derive(Drop)]
+#[derive(Clone, Copy)]
 pub struct FileSaved {
     pub answer: u32,
     pub length: u32,

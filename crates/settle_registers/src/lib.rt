@@ -1,4 +1,6 @@
 // What the end of a submission makes of the numbers in the registers: the completed fence, its status bit and the count of errors.
+#![tactic(auto)]
+
 ghost use Rattle.std.specs.Prelude.{◌≡◌, not, ◌&&◌, ◌||◌, ltb};
 ghost use Rattle.rules.specs.Shapes.{larger};
 ghost use Rattle.rules.specs.Settle.{one_more};

@@ -14,7 +14,7 @@ use words::u32_at;
 const STREAM_HEADER_SIZE: u64 = rules::numbers::STREAM_HEADER_SIZE as u64;
 
 // What the check of a header gives: the numbers to keep, or the rule that is broken.
-#[derive(Drop)]
+#[derive(Clone, Copy)]
 pub enum CheckedStream {
     Good(Stream),
     Bad(Refusal),

@@ -9,7 +9,7 @@ use stream_packets::framing::{PacketRead, packet_at};
 use words::u32_at;
 
 // A packet by its opcode and its size, whose opcode is in the table or is not; or no packet, by the number of the rule that is broken.
-#[derive(Drop)]
+#[derive(Clone, Copy)]
 pub enum Seen {
     Known(u32, u32),
     Unknown(u32, u32),

@@ -38,7 +38,7 @@ const IMPORT_SURFACE_SIZE: usize = rules::numbers::IMPORT_SURFACE_SIZE as usize;
 const RELEASE_TOKEN_SIZE: usize = rules::numbers::RELEASE_TOKEN_SIZE as usize;
 
 // What a packet says: nothing, if we know its opcode and it is shorter than the table of opcodes has it.
-#[derive(Drop)]
+#[derive(Clone, Copy)]
 pub enum Reading {
     TooShort,
     Says(Packet),

@@ -15,7 +15,7 @@ const PACKET_HEADER_SIZE: usize = rules::numbers::PACKET_HEADER_SIZE as usize;
 const OPCODES_BLOCK: u32 = 8;
 
 // A packet of the stream: its size and what it says; or that no packet stands there.
-#[derive(Drop)]
+#[derive(Clone, Copy)]
 pub enum PacketRead {
     Whole(u32, Packet),
     Misframed(Refusal),

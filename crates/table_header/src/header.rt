@@ -15,7 +15,7 @@ pub const HEADER_SIZE: u64 = TABLE_HEADER_SIZE as u64;
 pub const ENTRY_SIZE: u64 = rules::numbers::ENTRY_SIZE as u64;
 
 // How the check of a header ends: the numbers kept, or the rule broken.
-#[derive(Drop)]
+#[derive(Clone, Copy)]
 pub enum CheckedTable {
     Good(Table),
     Bad(Refusal),

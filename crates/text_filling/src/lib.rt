@@ -1,5 +1,7 @@
 // A line made of a pattern and numbers: each byte of the pattern is written as it is, and each of its marks as the next number.
 // `%` is a number in decimal, `#` its eight hexadecimal digits, `~` a word as a signed number in decimal.
+#![tactic(auto)]
+
 ghost use Rattle.std.specs.Prelude.{◌≡◌, ◌+◌, ◌≤◌, suc, length, get_or};
 ghost use Rattle.rules.specs.Layouts.{signed};
 ghost use Rattle.rules.specs.Text.{signed_decimal};

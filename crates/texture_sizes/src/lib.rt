@@ -1,5 +1,7 @@
 // Where the bytes of a texture stand. One layer is worked out mip by mip, and multiplied: a caller pays for at most 15 mips, whatever
 // the layers.
+#![tactic(auto)]
+
 ghost use Rattle.std.specs.Prelude.{◌≡◌, ◌*◌, ◌≤◌, ◌<◌};
 ghost use Rattle.rules.specs.Shapes.{mip_bytes, offset_of, packed_size, start_of};
 ghost use Rattle.texture_shapes.specs.Bounds.{Bounded, most_of_mip};

@@ -14,24 +14,21 @@ use run_state::{Words, is_set};
 use widths::{u32_to_word, word_to_usize};
 
 // A new device for a memory of so many bytes. Its tables may hold anything.
-#[unsafe(no_mangle)]
-pub extern "C" fn zelezmut_make(words: &mut Words, memory: u64)
+pub fn zelezmut_make(words: &mut Words, memory: u64)
     ensures { Makes memory words.new }
 {
     device_calls::make(words, word_to_usize(memory));
 }
 
 // Writes a register: the call's answer.
-#[unsafe(no_mangle)]
-pub extern "C" fn zelezmut_write(words: &mut Words, offset: u32, value: u32) -> u32
+pub fn zelezmut_write(words: &mut Words, offset: u32, value: u32) -> u32
     ensures { Writes words.old offset value result words.new }
 {
     register_writes::write(words, offset, value)
 }
 
 // Reads a register: its value, and 2^32 times the call's answer.
-#[unsafe(no_mangle)]
-pub extern "C" fn zelezmut_read(words: &Words, offset: u32) -> u64
+pub fn zelezmut_read(words: &Words, offset: u32) -> u64
     ensures { SaysValue words.now offset result }
 {
     let x = device_calls::read(words, offset);
@@ -39,8 +36,7 @@ pub extern "C" fn zelezmut_read(words: &Words, offset: u32) -> u64
 }
 
 // Runs over the memory lent now: the call's answer, 2^8 times how it ended (idle 0, waiting 1, paused 2) and 2^16 times the units spent.
-#[unsafe(no_mangle)]
-pub extern "C" fn zelezmut_run(
+pub fn zelezmut_run(
     words: &mut Words,
     entries: &mut Entries,
     first: &mut Resources,
@@ -89,8 +85,7 @@ pub extern "C" fn zelezmut_run(
 }
 
 // Record i of the submission that waits: the call's answer, and says kind, handle, id, GPA and length.
-#[unsafe(no_mangle)]
-pub extern "C" fn zelezmut_record(
+pub fn zelezmut_record(
     words: &Words,
     records: &Records,
     i: u32,
@@ -105,8 +100,7 @@ pub extern "C" fn zelezmut_record(
 }
 
 // The host's answer to what waits, 0 for failed, and at once a run over the memory lent now: said as a run says it.
-#[unsafe(no_mangle)]
-pub extern "C" fn zelezmut_answer(
+pub fn zelezmut_answer(
     words: &mut Words,
     entries: &mut Entries,
     first: &mut Resources,

@@ -4,15 +4,11 @@ ghost use Rattle.std.specs.Prelude.{◌≡◌};
 ghost use Rattle.rules.specs.Difference.{check, parts, class_asked, next_asked, start, pair_at, next_at, onward};
 ghost use Rattle.export_difference.specs.Numbers.{Says, checked_said, parts_said, class_said, next_said, offset_said, SaysStart, cursor_in, cursor_words, pair_words};
 
-use export_difference::{
-    cursor_in, put_cursor, say_checked, say_class, say_next, say_offset, say_pair, say_parts,
-    say_start,
-};
+use export_difference::{cursor_in, put_cursor, say_checked, say_class, say_next, say_offset, say_pair, say_parts, say_start, };
 use widths::word_to_usize;
 
 // Whether both are valid streams: 0, or 16 or 17 beside which of the two it is, the first if both.
-#[unsafe(no_mangle)]
-pub extern "C" fn zelezmut_difference_check(first: &[u8], second: &[u8], said: &mut [u64; 1]) -> u32
+pub fn zelezmut_difference_check(first: &[u8], second: &[u8], said: &mut [u64; 1]) -> u32
     ensures { Says (checked_said (check first.now second.now)) result said.new }
 {
     let x = diff_calls::check(first, second);
@@ -20,8 +16,7 @@ pub extern "C" fn zelezmut_difference_check(first: &[u8], second: &[u8], said: &
 }
 
 // The first packet index that is not equal.
-#[unsafe(no_mangle)]
-pub extern "C" fn zelezmut_difference_parts(first: &[u8], second: &[u8], said: &mut [u64; 1]) -> u32
+pub fn zelezmut_difference_parts(first: &[u8], second: &[u8], said: &mut [u64; 1]) -> u32
     ensures { Says (parts_said (parts first.now second.now)) result said.new }
 {
     let x = diff_calls::parts(first, second);
@@ -29,8 +24,7 @@ pub extern "C" fn zelezmut_difference_parts(first: &[u8], second: &[u8], said: &
 }
 
 // How the packets with an index compare: equal 0, same opcode 1, other opcode 2, only in the first 3, only in the second 4, in neither 5.
-#[unsafe(no_mangle)]
-pub extern "C" fn zelezmut_difference_class(
+pub fn zelezmut_difference_class(
     first: &[u8],
     second: &[u8],
     index: u64,
@@ -43,8 +37,7 @@ pub extern "C" fn zelezmut_difference_class(
 }
 
 // The next differing offset of the packets with an index, from a given one on.
-#[unsafe(no_mangle)]
-pub extern "C" fn zelezmut_difference_next(
+pub fn zelezmut_difference_next(
     first: &[u8],
     second: &[u8],
     index: u64,
@@ -60,8 +53,7 @@ pub extern "C" fn zelezmut_difference_next(
 }
 
 // Checks both streams and puts the cursor at their first packets; a refusal leaves it.
-#[unsafe(no_mangle)]
-pub extern "C" fn zelezmut_difference_start(
+pub fn zelezmut_difference_start(
     first: &[u8],
     second: &[u8],
     cursor: &mut [u64; 2],
@@ -75,8 +67,7 @@ pub extern "C" fn zelezmut_difference_start(
 
 // The packets at the cursor, in five words: the class, place and size in the first stream, place and size in the second. The streams are not
 // checked again.
-#[unsafe(no_mangle)]
-pub extern "C" fn zelezmut_difference_pair(
+pub fn zelezmut_difference_pair(
     first: &[u8],
     second: &[u8],
     cursor: &[u64; 2],
@@ -89,8 +80,7 @@ pub extern "C" fn zelezmut_difference_pair(
 }
 
 // The next differing offset of the packets at the cursor, from a given one on.
-#[unsafe(no_mangle)]
-pub extern "C" fn zelezmut_difference_pair_next(
+pub fn zelezmut_difference_pair_next(
     first: &[u8],
     second: &[u8],
     cursor: &[u64; 2],
@@ -106,8 +96,7 @@ pub extern "C" fn zelezmut_difference_pair_next(
 }
 
 // Moves each place of the cursor behind its packet; a place without a packet stays.
-#[unsafe(no_mangle)]
-pub extern "C" fn zelezmut_difference_onward(first: &[u8], second: &[u8], cursor: &mut [u64; 2])
+pub fn zelezmut_difference_onward(first: &[u8], second: &[u8], cursor: &mut [u64; 2])
     ensures { cursor.new ≡ cursor_words (onward first.now second.now (cursor_in cursor.old)) }
 {
     let k = cursor_in(cursor);

@@ -8,8 +8,7 @@ use widths::u32_to_word;
 
 // Writes the text of a dump to the front of the lent buffer: its length, and 2^56 times the call's answer. A dump of any length is read; 0 is not
 // strict, any other number is. A buffer that is shorter than the text answers 6, and no byte of it is written.
-#[unsafe(no_mangle)]
-pub extern "C" fn zelezmut_dump(stream: &[u8], strict: u32, buffer: &mut [u8]) -> u64
+pub fn zelezmut_dump(stream: &[u8], strict: u32, buffer: &mut [u8]) -> u64
     ensures { SaysDumped (set_in strict) stream.now buffer.old result buffer.new }
 {
     let stops = is_set(u32_to_word(strict));

@@ -1,5 +1,5 @@
 // The exports for a host that is not Rattle: plain numbers, lent bytes and lent words in, numbers out.
-// Each only hands its words on, so that what it promises is the promise of the crate behind it.
+// Each only hands its words on, so that what it promises is the promise of the crate behind it. Crate `zelezmut_c` gives them their C names.
 pub mod device;
 pub mod difference;
 pub mod dump;
@@ -14,16 +14,14 @@ ghost use Rattle.export_numbers.specs.Layout.{layout_number};
 // For a host, before its first call: what the words and rows that it lends mean and how many there are, in one number. From the lowest digit
 // up, each of 4,096: words of records, of one table of tokens, of one of resources, of entries, of numbers; above these the version, which moves
 // with what they mean.
-#[unsafe(no_mangle)]
-pub extern "C" fn zelezmut_layout() -> u64
+pub fn zelezmut_layout() -> u64
     ensures { result ≡ layout_number }
 {
     export_numbers::layout()
 }
 
 // For the emulator's host: the bytes of a backed texture, 0 for a bad shape or pitch.
-#[unsafe(no_mangle)]
-pub extern "C" fn zelezmut_packed_size(
+pub fn zelezmut_packed_size(
     format: u32,
     width: u32,
     height: u32,
@@ -38,8 +36,7 @@ pub extern "C" fn zelezmut_packed_size(
 
 // The first error of an allocation table that lies in the lent bytes, for a guest memory of so many bytes: 13, 19, 14 or 15 as the
 // steps would find it, or 0.
-#[unsafe(no_mangle)]
-pub extern "C" fn zelezmut_table_error(table: &[u8], memory: u64) -> u32
+pub fn zelezmut_table_error(table: &[u8], memory: u64) -> u32
     ensures { result ≡ table_error table.now memory }
 {
     let fault = table_whole::whole::first_fault(table, memory);
@@ -47,8 +44,7 @@ pub extern "C" fn zelezmut_table_error(table: &[u8], memory: u64) -> u32
 }
 
 // Where that error stands: the index of the entry for 14 and 15, else 0.
-#[unsafe(no_mangle)]
-pub extern "C" fn zelezmut_table_place(table: &[u8], memory: u64) -> u32
+pub fn zelezmut_table_place(table: &[u8], memory: u64) -> u32
     ensures { result ≡ table_place table.now memory }
 {
     let found = table_whole::whole::first_fault(table, memory);

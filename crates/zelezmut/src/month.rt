@@ -8,8 +8,7 @@ use kept_records::Records;
 use month_totals::TotalsWords;
 
 // Makes the totals of no submissions.
-#[unsafe(no_mangle)]
-pub extern "C" fn zelezmut_month_make(totals: &mut TotalsWords)
+pub fn zelezmut_month_make(totals: &mut TotalsWords)
     ensures { Zeroes totals.new }
 {
     month_totals::zero(totals);
@@ -19,8 +18,7 @@ pub extern "C" fn zelezmut_month_make(totals: &mut TotalsWords)
 // `zelezmut_record`. The table may be the device's own, as it is while the submission waits, or one that the host has filled; only kind and
 // length are read. Answers 0; 10 for an unlisted error or kind, more than 64 records, or records beside an error; else 9 if a total would
 // reach 2^64. Refused, it counts nothing.
-#[unsafe(no_mangle)]
-pub extern "C" fn zelezmut_month_feed(
+pub fn zelezmut_month_feed(
     totals: &mut TotalsWords,
     error: u32,
     units: u32,
@@ -33,16 +31,14 @@ pub extern "C" fn zelezmut_month_feed(
 }
 
 // Adds the totals of another part of the month. Answers 0, or 9 if a sum would reach 2^64; then the totals are unchanged.
-#[unsafe(no_mangle)]
-pub extern "C" fn zelezmut_month_merge(totals: &mut TotalsWords, other: &TotalsWords) -> u32
+pub fn zelezmut_month_merge(totals: &mut TotalsWords, other: &TotalsWords) -> u32
     ensures { Merges totals.old (totals_in other.now) result totals.new }
 {
     month_totals::merge(totals, other)
 }
 
 // The total at a place of the published order, 0 past the last.
-#[unsafe(no_mangle)]
-pub extern "C" fn zelezmut_month_total(totals: &TotalsWords, i: u32) -> u64
+pub fn zelezmut_month_total(totals: &TotalsWords, i: u32) -> u64
     ensures { result ≡ get_or totals.now i 0 }
 {
     month_totals::total(totals, i)

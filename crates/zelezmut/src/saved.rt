@@ -10,8 +10,7 @@ use rules::Form;
 use run_state::Words;
 
 // Writes the device, at rest, into the lent buffer, in form 1: the length, and 2^32 times the call's answer.
-#[unsafe(no_mangle)]
-pub extern "C" fn zelezmut_save(
+pub fn zelezmut_save(
     words: &Words,
     first: &Resources,
     second: &Resources,
@@ -34,8 +33,7 @@ pub extern "C" fn zelezmut_save(
 }
 
 // The same in form 2.
-#[unsafe(no_mangle)]
-pub extern "C" fn zelezmut_save_form_2(
+pub fn zelezmut_save_form_2(
     words: &Words,
     first: &Resources,
     second: &Resources,
@@ -58,8 +56,7 @@ pub extern "C" fn zelezmut_save_form_2(
 }
 
 // Makes the device what a saved desk says, whatever it was: the place of the first bad field or byte, and 2^32 times the call's answer.
-#[unsafe(no_mangle)]
-pub extern "C" fn zelezmut_load(
+pub fn zelezmut_load(
     words: &mut Words,
     first: &mut Resources,
     firsttokens: &mut Tokens,
@@ -72,8 +69,7 @@ pub extern "C" fn zelezmut_load(
 }
 
 // Writes a saved desk into the lent buffer in the other form: the length, and 2^32 times the call's answer.
-#[unsafe(no_mangle)]
-pub extern "C" fn zelezmut_move(file: &[u8], buffer: &mut [u8]) -> u64
+pub fn zelezmut_move(file: &[u8], buffer: &mut [u8]) -> u64
     ensures { SaysMoved file.now buffer.old result buffer.new }
 {
     let x = saved_move::move_form(file, buffer);

@@ -1,0 +1,19 @@
+-- `bytes_of_mip` gives the bytes of one mip of a bounded shape.
+-- Mip 0 has the pitch, the others a tight row. Assumes nothing.
+use Rattle.texture_sizes.specs.Mips.{weighing}
+use Rattle.texture_sizes.proofs.bytes_of_mip.Goals as goal
+
+pub blocks_of-rows-requires : goal.blocks_of-rows-requires
+blocks_of-rows-requires c = search weighing
+
+pub overflow_mul-result : goal.overflow_mul-result
+overflow_mul-result c = search weighing
+
+pub returns-then-mip-eq0 : goal.returns-then-mip-eq0
+returns-then-mip-eq0 c = search weighing
+
+pub overflow_mul-result-2 : goal.overflow_mul-result-2
+overflow_mul-result-2 c = search weighing
+
+pub returns : goal.returns
+returns c = search weighing
