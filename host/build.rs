@@ -89,7 +89,7 @@ fn cargos_folder() -> Option<PathBuf> {
     None
 }
 
-/// `rt staticlib zelezmut` writes to target/staticlib in the project's root, the folder above this crate.
+/// `host/library` writes to target/staticlib in the project's root, the folder above this crate.
 fn own_folder() -> Looked {
     let here = PathBuf::from(from_cargo("CARGO_MANIFEST_DIR"));
     let root = here.parent().map(Path::to_path_buf).unwrap_or(here);
@@ -108,7 +108,7 @@ fn warn_of_missing(looked: &Looked) {
             looked.folder.display(),
             looked.why
         ),
-        "Until it is there nothing can be linked. `rt staticlib zelezmut` in the project's root proves and builds it; ./play \
+        "Until it is there nothing can be linked. `host/library` in the project's root proves and builds it; ./play \
          there does all."
             .to_string(),
         format!(

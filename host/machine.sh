@@ -1,6 +1,7 @@
 # How the Rust side is built and run on this machine. For bash, to be sourced: ./play, .ci/run and compare/instructions.sh do.
 #
 #   host_ready             installs what is missing; says what it does, or what is to be done
+#   host_library           proves the front, where that has not been done, and builds target/staticlib/libzelezmut.a of it
 #   host_cargo CMD ..      cargo CMD for the crates in host/, whatever the caller's folder is; --workspace means all three of them
 #   host_program NAME      where `host_cargo build --release` puts a program
 #   host_run PROGRAM ..    runs it
@@ -56,6 +57,16 @@ host_ready() {
         ;;
     esac
     [ ${#missing[@]} -eq 0 ] || host_install "${missing[@]}"
+}
+
+# The crate is zelezmut_c; the archive has the name that hosts link.
+host_library() {
+    local root made
+    root=$(dirname "$host_folder")
+    made=$root/crates/zelezmut_c/out/libzelezmut_c.a
+    (cd "$root/crates/zelezmut_c" && rt lib) &&
+        mkdir -p "$root/target/staticlib" &&
+        cp "$made" "$root/target/staticlib/libzelezmut.a"
 }
 
 host_cargo() { # CMD ..

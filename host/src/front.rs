@@ -151,7 +151,7 @@ fn ask_for_layout() {
     assert!(
         found == LAYOUT,
         "zelezmut: the libzelezmut.a that is linked has layout {:#x}, and this crate has {:#x}: they are of different versions of \
-         the project. Build the library anew, by `rt staticlib zelezmut` or ./play in the project's root, or name the folder of \
+         the project. Build the library anew, by `host/library` or ./play in the project's root, or name the folder of \
          the right one in ZELEZMUT_LIB_DIR.",
         found,
         LAYOUT

@@ -158,7 +158,7 @@
 //! - No call panics on what a guest wrote, and none allocates once the desk is made, but for those that give lists, [`Desk::names`],
 //!   [`Desk::tokens`], [`Desk::save`] and [`Desk::save_as`]; [`Desk::save_into`] and [`Desk::save_as_into`] take a lent buffer.
 //! - Desks compare by meaning: `==` of two that came to the same by different slices holds.
-//! - The static library is code for 64-bit Linux on x86-64, and a build for anything else is refused. `rt staticlib zelezmut` in
+//! - The static library is code for 64-bit Linux on x86-64, and a build for anything else is refused. `host/library` in
 //!   the project's root builds it, and so does `./play` there; the build script warns if it is missing. Checking and documentation
 //!   need no library, linking does.
 //! - The library is looked for in `target/staticlib` of the project, or in the folder that the environment variable

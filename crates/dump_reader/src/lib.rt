@@ -1,5 +1,5 @@
-// A small dump reader: it holds the dump and its place in it. `reader_at` makes one, and `next_packet` says what is at its place. The checker
-// covers no function over a struct that holds a reference, so both are thin and proved by hand; the work is done by `seen_at`, which is covered.
+// A small dump reader: it holds the dump and its place in it. `reader_at` makes one, and `next_packet` says what is at its place; the work
+// is done by `seen_at`.
 ghost use Rattle.std.specs.Prelude.{◌≡◌, drop};
 ghost use Rattle.stream_listing.specs.Seen.{seen};
 
@@ -14,19 +14,19 @@ pub struct DumpReader<'a> {
 
 // A reader of a dump, at a place of it.
 pub fn reader_at<'a>(dump: &'a [u8], at: usize) -> DumpReader<'a>
-    ensures { (result.dump ≡ dump.entry) × (result.at ≡ at) }
+    ensures { (result.dump ≡ dump) × (result.at ≡ at) }
 {
     DumpReader { dump, at }
 }
 
 // The packet at the reader's place.
 pub fn next_packet<'a>(r: DumpReader<'a>) -> Seen
-    ensures { result ≡ seen (drop r.entry.at r.entry.dump.now) }
+    ensures { result ≡ seen (drop r.at r.dump.now) }
 {
     seen_at(r.dump, r.at)
 }
 
-// The packet at a place of a dump, by a reader of it: for callers that hold no reader, so that their proofs need no walk by hand.
+// The packet at a place of a dump, by a reader of it: for callers that hold no reader.
 pub fn seen_by_reader(dump: &[u8], at: usize) -> Seen
     ensures { result ≡ seen (drop at dump.now) }
 {

@@ -1,4 +1,6 @@
 // Floats by their bits: which bits are no number's, which of two floats is below the other, and the way from bits to a float and back.
+#![tactic(auto)]
+
 ghost use Rattle.std.specs.Prelude.{◌≡◌, false};
 ghost use Rattle.rules.specs.Floats.{float_of, bits_of, is_nan_bits, not_finite, key, below as is_below, outside as is-outside};
 

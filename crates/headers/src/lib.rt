@@ -1,4 +1,6 @@
 // What the headers of an allocation table and of a command stream share: magic, version and size, judged by the same tests.
+#![tactic(auto)]
+
 ghost use Rattle.std.specs.Prelude.{◌≡◌};
 ghost use Rattle.rules.specs.Headers.{wrong_header};
 

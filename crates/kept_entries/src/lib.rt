@@ -1,4 +1,6 @@
 // An entry as the guest's table has it and as a kept row of four words: id, flags, gpa, end.
+#![tactic(auto)]
+
 ghost use Rattle.std.specs.Prelude.{◌≡◌, ◌+◌, ◌-◌, ◌≤◌, ◌<◌, length};
 ghost use Rattle.rules.specs.Layouts.{entry, entry_size};
 ghost use Rattle.rules.specs.Lists.{index_of};

@@ -1,5 +1,7 @@
 // Tokens as rows of words in a lent array: read, found, added, spent, bound to another name and copied (02, wish 5).
 // Only this crate sees a word's index.
+#![tactic(auto)]
+
 pub mod finding;
 pub mod storing;
 

@@ -1,4 +1,6 @@
 // A resource is created: its handle, its backing and its range are judged in the order of the rules, then it is stored.
+#![tactic(auto)]
+
 ghost use Rattle.std.specs.Prelude.{List, ℕ, ◌≤◌};
 ghost use Rattle.rules.specs.Numbers.{most};
 ghost use Rattle.rules.specs.Packets.{backed, create_hosted, create_backed, create as create-rules};

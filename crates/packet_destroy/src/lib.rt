@@ -1,2 +1,4 @@
 // The packet that destroys a resource.
+#![tactic(auto)]
+
 pub mod destroy;

@@ -1,4 +1,6 @@
 // The target, a live texture, and the scissor, which is clipped to it and handed to the host as a record.
+#![tactic(auto)]
+
 ghost use Rattle.std.specs.Prelude.{◌≡◌, [], ◌≤◌};
 ghost use Rattle.rules.specs.Numbers.{most};
 ghost use Rattle.rules.specs.StatePackets.{bad_sides, rectangle, clip_of};

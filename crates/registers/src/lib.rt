@@ -1,4 +1,6 @@
 // The register map: what the guest reads at an offset, of a device's words. The offsets stand in offsets.rt.
+#![tactic(auto)]
+
 pub mod offsets;
 
 ghost use Rattle.std.specs.Prelude.{◌≡◌, ◌≤◌};

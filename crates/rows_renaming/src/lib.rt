@@ -1,4 +1,6 @@
 // One word of each row, changed wherever it has a certain number.
+#![tactic(auto)]
+
 ghost use Rattle.std.specs.Prelude.{◌≡◌, ◌*◌, ◌≤◌, ◌<◌, length};
 ghost use Rattle.rows_renaming.specs.Renaming.{word_renamed, rows_renamed};
 

@@ -1,5 +1,7 @@
 // How a submission begins, on the device's words: with its first entry, its first packet, or waiting for the host. Its resources are the
 // device's until it changes one.
+#![tactic(auto)]
+
 ghost use Rattle.std.specs.Prelude.{◌≤◌};
 ghost use Rattle.rules.specs.Numbers.{most};
 ghost use Rattle.run_begin.specs.Views.{Begins, StoresJob, StoresOpened, Starts};

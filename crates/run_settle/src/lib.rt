@@ -1,6 +1,8 @@
 // How the submission in work is settled, on the device's words: its error if it has one, its fence, then head and page in guest memory.
 // Nothing is in work afterwards, and no word is left of what was. Resources and tokens are not touched: a good answer only says which tables of
 // them are the device's from now on.
+#![tactic(auto)]
+
 ghost use Rattle.std.specs.Prelude.{◌≡◌, not};
 ghost use Rattle.run_state.specs.Views.{set_in};
 ghost use Rattle.run_settle.specs.Views.{Signals, Turns, Finishes, Refuses, Accepts};

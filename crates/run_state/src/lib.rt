@@ -1,5 +1,7 @@
 // The words of a device: what each means, and how it is read. They are the ones that a host can lend; any words mean some device, so
 // nothing is ever asked of them. What changes is set in place by the crates above; what ends a submission's work stands here.
+#![tactic(auto)]
+
 ghost use Rattle.std.specs.Prelude.{◌≡◌, ◌≤◌};
 ghost use Rattle.rules.specs.Numbers.{most, most_tokens};
 ghost use Rattle.run_state.specs.Views.{set_in, flag_of, count_in, token_count_in, job_in, table_in, stream_in, rested};

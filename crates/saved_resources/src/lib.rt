@@ -1,5 +1,7 @@
 // A resource of a saved desk: its twelve fields, read once and judged in their order.
 
+#![tactic(auto)]
+
 ghost use Rattle.std.specs.Prelude.{◌≡◌, ◌≤◌};
 ghost use Rattle.saved_fields.specs.Judging.{judge_rules};
 ghost use Rattle.saved_resources.specs.Rules.{furthest, seen_resource, no_shape_rules, shape_rules, buffer_rules, texture_rules, fields_rules};

@@ -1,4 +1,6 @@
 // What is asked of the numbers of a resource.
+#![tactic(auto)]
+
 ghost use Rattle.std.specs.Prelude.{◌≡◌, not, ◌&&◌, ◌||◌, eqb};
 ghost use Rattle.rules.specs.Numbers.{most_layers};
 ghost use Rattle.rules.specs.Shapes.{full_chain};

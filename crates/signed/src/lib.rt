@@ -1,4 +1,6 @@
 // Signed numbers: a word read as one, its sign, and what a part of a side that may start before it has in common with the side.
+#![tactic(auto)]
+
 ghost use Rattle.std.specs.Prelude.{◌≡◌, ◌-◌, min, nat_abs};
 ghost use Rattle.rules.specs.Layouts.{signed};
 ghost use Rattle.rules.specs.StatePackets.{negative, begins as begin-of, ends as end_of_lem, common as common-of};

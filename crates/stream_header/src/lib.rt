@@ -1,2 +1,4 @@
 // The header of a command stream.
+#![tactic(auto)]
+
 pub mod header;

@@ -1,5 +1,7 @@
 // What is at a place of a stream: a packet by its opcode and its size, or the number of the rule that is broken. It is for those who walk a
 // stream without doing its packets: the listing of a dump (02, wish 3) and the difference of two (02, wish 8).
+#![tactic(auto)]
+
 ghost use Rattle.std.specs.Prelude.{◌≡◌, drop};
 ghost use Rattle.rules.specs.Dump.{is_unknown};
 ghost use Rattle.stream_listing.specs.Seen.{seen};

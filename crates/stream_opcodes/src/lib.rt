@@ -1,4 +1,6 @@
 // The table of opcodes: which packet an opcode is, its least size, and what its part says.
+#![tactic(auto)]
+
 ghost use Rattle.std.specs.Prelude.{◌≡◌};
 ghost use Rattle.stream_opcodes.specs.Opcodes.{reading};
 

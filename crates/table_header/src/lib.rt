@@ -1,2 +1,4 @@
 // The header of an allocation table.
+#![tactic(auto)]
+
 pub mod header;

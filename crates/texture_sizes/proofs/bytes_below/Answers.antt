@@ -7,3 +7,6 @@ loop-mip-init c = (omega arith, (search summing, omega arith))
 
 pub loop-mip-preserved : goal.loop-mip-preserved
 loop-mip-preserved c = (omega arith, (search summing, omega arith))
+
+pub returns : goal.returns
+returns c = (search summing, omega arith)

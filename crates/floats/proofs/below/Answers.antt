@@ -1,0 +1,6 @@
+-- `below` meets its contract, a law for each end. Assumes nothing.
+use Rattle.floats.specs.Bits.{telling}
+use Rattle.floats.proofs.below.Goals as goal
+
+pub returns : goal.returns
+returns c = search telling

@@ -1,0 +1,6 @@
+-- `copy` meets its contract. Assumes nothing.
+use Rattle.packet_apply.specs.Apply.{reading_resources}
+use Rattle.packet_apply.proofs.apply.copy.Goals as goal
+
+pub returns : goal.returns
+returns c = search reading_resources

@@ -1,0 +1,18 @@
+-- `bind` meets its contract, a law for each end. Assumes nothing.
+use Rattle.packet_export.specs.Export.{bindings}
+use Rattle.packet_export.proofs.export.bind.Goals as goal
+
+pub returns-then-token-eq0 : goal.returns-then-token-eq0
+returns-then-token-eq0 c = search bindings
+
+pub returns-then-t-low : goal.returns-then-t-low
+returns-then-t-low c = search bindings
+
+pub returns-then-place-used : goal.returns-then-place-used
+returns-then-place-used c = search bindings
+
+pub returns-then-used-ge-MOST_TOKENS : goal.returns-then-used-ge-MOST_TOKENS
+returns-then-used-ge-MOST_TOKENS c = search bindings
+
+pub returns : goal.returns
+returns c = search bindings

@@ -1,0 +1,12 @@
+-- `on_export` meets its contract, a law for each end. Assumes nothing.
+use Rattle.packet_export.specs.Export.{exporting}
+use Rattle.packet_export.proofs.export.on_export.Goals as goal
+
+pub returns-then-i-live : goal.returns-then-i-live
+returns-then-i-live c = search exporting
+
+pub returns-then-not-shareable : goal.returns-then-not-shareable
+returns-then-not-shareable c = search exporting
+
+pub returns : goal.returns
+returns c = search exporting

@@ -1,0 +1,6 @@
+-- `store_job` meets its contract. Assumes nothing.
+use Rattle.run_begin.specs.Beginning.{storing_job}
+use Rattle.run_begin.proofs.store_job.Goals as goal
+
+pub returns : goal.returns
+returns c = search storing_job

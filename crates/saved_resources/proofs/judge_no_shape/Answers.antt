@@ -1,0 +1,6 @@
+-- `judge_no_shape` meets its contract. Assumes nothing.
+use Rattle.saved_resources.specs.Judged.{judging_kind}
+use Rattle.saved_resources.proofs.judge_no_shape.Goals as goal
+
+pub returns : goal.returns
+returns c = search judging_kind

@@ -1,0 +1,6 @@
+-- `is_negative` meets its contract, a law for each end. Assumes nothing.
+use Rattle.signed.specs.Signed.{signs}
+use Rattle.signed.proofs.is_negative.Goals as goal
+
+pub returns : goal.returns
+returns c = search signs

@@ -1,0 +1,6 @@
+-- `buffer_fields` meets its contract, by `buffer-is`. Assumes nothing.
+use Rattle.stream_fields.specs.Fields.{reading_fields}
+use Rattle.stream_fields.proofs.fields.buffer_fields.Goals as goal
+
+pub returns : goal.returns
+returns c = search reading_fields

@@ -1,0 +1,6 @@
+-- `dirty_fields` meets its contract, by `dirty-is`. Assumes nothing.
+use Rattle.stream_fields.specs.Fields.{reading_fields}
+use Rattle.stream_fields.proofs.fields.dirty_fields.Goals as goal
+
+pub returns : goal.returns
+returns c = search reading_fields

@@ -1,0 +1,6 @@
+-- `target_fields` meets its contract. Assumes nothing.
+use Rattle.stream_fields.specs.Fields.{reading_fields}
+use Rattle.stream_fields.proofs.fields.target_fields.Goals as goal
+
+pub returns : goal.returns
+returns c = search reading_fields

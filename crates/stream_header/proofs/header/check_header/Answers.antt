@@ -1,0 +1,12 @@
+-- `check_header` meets its contract, a law for each answer. Assumes nothing.
+use Rattle.stream_header.specs.Header.{heading}
+use Rattle.stream_header.proofs.header.check_header.Goals as goal
+
+pub returns-then-cmdsize-lt-STREAM_HEADER_SIZE : goal.returns-then-cmdsize-lt-STREAM_HEADER_SIZE
+returns-then-cmdsize-lt-STREAM_HEADER_SIZE c = search heading
+
+pub returns-in-Fine : goal.returns-in-Fine
+returns-in-Fine c = search heading
+
+pub returns-in-Broken : goal.returns-in-Broken
+returns-in-Broken c = search heading

@@ -1,0 +1,12 @@
+-- `judge_entry` meets its contract, by the laws of `judging-entry`. Assumes nothing.
+use Rattle.table_entries.specs.Entry.{judging_entry}
+use Rattle.table_entries.proofs.entry.judge_entry.Goals as goal
+
+pub returns-then-not-sound : goal.returns-then-not-sound
+returns-then-not-sound c = search judging_entry
+
+pub returns-then-place-kept : goal.returns-then-place-kept
+returns-then-place-kept c = search judging_entry
+
+pub returns : goal.returns
+returns c = search judging_entry

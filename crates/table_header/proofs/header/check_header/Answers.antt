@@ -1,0 +1,12 @@
+-- `check_header` meets its contract, by the laws of `checking-header`. Assumes nothing.
+use Rattle.table_header.specs.Header.{checking_header}
+use Rattle.table_header.proofs.header.check_header.Goals as goal
+
+pub returns-then-tablesize-lt-HEADER_SIZE : goal.returns-then-tablesize-lt-HEADER_SIZE
+returns-then-tablesize-lt-HEADER_SIZE c = search checking_header
+
+pub returns-in-Fine : goal.returns-in-Fine
+returns-in-Fine c = search checking_header
+
+pub returns-in-Broken : goal.returns-in-Broken
+returns-in-Broken c = search checking_header
