@@ -1,5 +1,7 @@
 // The line of a packet of each kind, written into a lent buffer from a place on: a pattern, and the packet's numbers. Each is the line that the
 // opcode's row of the table gives, and each asks for the room of its own text.
+#![tactic(auto)]
+
 ghost use Rattle.std.specs.Prelude.{◌≡◌, ◌+◌, ◌≤◌, length};
 ghost use Rattle.rules.specs.Numbers.{create_buffer, create_texture, destroy, dirty_range, copy_buffer, set_target, set_viewport, set_scissor, clear, export_surface, import_surface, release_token, create_buffer_size, create_texture_size, destroy_size, dirty_range_size, copy_buffer_size, set_target_size, set_viewport_size, set_scissor_size, clear_size, export_surface_size, import_surface_size, release_token_size};
 ghost use Rattle.rules.specs.Stream.{known};

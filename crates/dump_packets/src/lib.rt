@@ -1,4 +1,6 @@
 // The line of a packet, by its opcode.
+#![tactic(auto)]
+
 ghost use Rattle.std.specs.Prelude.{◌≡◌, ◌+◌, ◌≤◌, length};
 ghost use Rattle.rules.specs.Stream.{known, least_size};
 ghost use Rattle.rules.specs.Dump.{line_in};

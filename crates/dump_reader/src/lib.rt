@@ -1,5 +1,7 @@
 // A small dump reader: it holds the dump and its place in it. `reader_at` makes one, and `next_packet` says what is at its place; the work
 // is done by `seen_at`.
+#![tactic(auto)]
+
 ghost use Rattle.std.specs.Prelude.{◌≡◌, drop};
 ghost use Rattle.stream_listing.specs.Seen.{seen};
 
@@ -14,14 +16,14 @@ pub struct DumpReader<'a> {
 
 // A reader of a dump, at a place of it.
 pub fn reader_at<'a>(dump: &'a [u8], at: usize) -> DumpReader<'a>
-    ensures { (result.dump ≡ dump) × (result.at ≡ at) }
+    ensures { (result.dump ≡ dump.entry) × (result.at ≡ at) }
 {
     DumpReader { dump, at }
 }
 
 // The packet at the reader's place.
 pub fn next_packet<'a>(r: DumpReader<'a>) -> Seen
-    ensures { result ≡ seen (drop r.at r.dump.now) }
+    ensures { result ≡ seen (drop r.entry.at r.entry.dump.now) }
 {
     seen_at(r.dump, r.at)
 }

@@ -1,5 +1,7 @@
 // What the packets that need tokens do to what a submission holds: a destroy of what may be shared, an export, an import, a release. `resources` is
 // the device's table of resources, `own` the submission's own, which has its resources where `copied` says so; `tokens` and `owntokens` likewise.
+#![tactic(auto)]
+
 ghost use Rattle.std.specs.Prelude.{◌≡◌, ◌≤◌};
 ghost use Rattle.machine.specs.Machine.{pick};
 ghost use Rattle.rules.specs.Numbers.{most, most_tokens};

@@ -1,5 +1,7 @@
 // Where a phase has come to, on the device's words: going on, done, or broken by a rule. A refusal settles within its unit, and the
 // device's resources and tokens stay as they were.
+#![tactic(auto)]
+
 ghost use Rattle.std.specs.Prelude.{◌≡◌, ◌≤◌};
 ghost use Rattle.rules.specs.Judging.{refusal, fault_at};
 ghost use Rattle.rules.specs.Numbers.{most};

@@ -1,4 +1,6 @@
 // What waits settled with the host's answer, and how a run ends: on the words, with no table.
+#![tactic(auto)]
+
 ghost use Rattle.std.specs.Prelude.{◌≤◌};
 ghost use Rattle.run_state.specs.Views.{tag_in};
 ghost use Rattle.run_answered.specs.Views.{Ends, SettlesAnswered};

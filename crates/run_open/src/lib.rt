@@ -1,5 +1,7 @@
 // One unit: the opening of the ring that the registers name now. It comes to a bad ring or no work, to a refusal, or to a submission
 // that has begun.
+#![tactic(auto)]
+
 ghost use Rattle.std.specs.Prelude.{◌≡◌};
 ghost use Rattle.run_state.specs.Views.{tag_in};
 ghost use Rattle.run_open.specs.Opening.{FaultsRing, Opens};

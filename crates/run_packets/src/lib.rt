@@ -1,5 +1,7 @@
 // The phase of packets: one a unit, from the stream's own part of the memory lent at that unit. It is left at a packet that needs tokens: few do,
 // and so the loop over the others has nothing of tokens in it.
+#![tactic(auto)]
+
 ghost use Rattle.std.specs.Prelude.{◌≡◌, ◌+◌, ◌-◌, ◌≤◌, ◌<◌, length};
 ghost use Rattle.packet_ranges.specs.Views.{RowsExist};
 ghost use Rattle.run_packets.specs.Playing.{place_after, nothing_left, PacketTook, PacketStepped, Skips, PacketsRan};

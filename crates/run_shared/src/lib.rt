@@ -1,5 +1,7 @@
 // A packet that needs tokens, on the device's words and the tables that a host lends: which of two tables of tokens is the device's, and how many
 // tokens the submission has, stand in the words.
+#![tactic(auto)]
+
 ghost use Rattle.std.specs.Prelude.{◌≤◌};
 ghost use Rattle.rules.specs.Numbers.{most, most_tokens};
 ghost use Rattle.run_shared.specs.Shared.{TokensHeldIn, StoresTokens, SharedStepped, SharesOn, SharesSided};

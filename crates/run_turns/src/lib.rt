@@ -1,5 +1,7 @@
 // A turn of a phase on the device's words: the entries, or the packets, for as long as the allowance lets; packets at most up to one that needs
 // tokens, and with it.
+#![tactic(auto)]
+
 ghost use Rattle.std.specs.Prelude.{◌≡◌, ◌<◌};
 ghost use Rattle.rules.specs.Stream.{stream_bytes};
 ghost use Rattle.packet_ranges.specs.Views.{RowsExist};

@@ -1,4 +1,6 @@
 // Whether a file is a saved desk that can be loaded, and else the place of the first rule that it breaks.
+#![tactic(auto)]
+
 ghost use Rattle.std.specs.Prelude.{◌≡◌, ◌≤◌};
 ghost use Rattle.rules.specs.Numbers.{most};
 ghost use Rattle.rules.specs.Saved.{head_bytes};

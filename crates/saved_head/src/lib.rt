@@ -1,5 +1,7 @@
 // The first section of a saved desk, the registers with memory length and doorbell flag, and the count of the second: each field judged
 // in its order. Places count from the first byte of the sections.
+#![tactic(auto)]
+
 ghost use Rattle.std.specs.Prelude.{◌≡◌, ◌≤◌};
 ghost use Rattle.rules.specs.Saved.{memory_place};
 ghost use Rattle.rules.specs.Loaded.{good_code, detail_rules, head_rules};

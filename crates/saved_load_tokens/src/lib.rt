@@ -1,4 +1,6 @@
 // The tokens of a good file, stored as rows of a device's table.
+#![tactic(auto)]
+
 ghost use Rattle.std.specs.Prelude.{◌≡◌, ◌+◌, ◌*◌, ◌≤◌, length};
 ghost use Rattle.rules.specs.Numbers.{most_tokens};
 ghost use Rattle.kept_tokens.specs.Views.{tokens_of};

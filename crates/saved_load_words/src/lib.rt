@@ -1,5 +1,7 @@
 // The words of a device that a good file says: its memory's length, its registers, and how many rows of its tables are live. Places count from the
 // first byte of the sections.
+#![tactic(auto)]
+
 ghost use Rattle.std.specs.Prelude.{◌≡◌, ◌+◌, ◌≤◌, ◌<◌, length};
 ghost use Rattle.rules.specs.Numbers.{most, most_tokens};
 ghost use Rattle.rules.specs.Layouts.{word};

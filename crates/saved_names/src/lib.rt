@@ -1,5 +1,7 @@
 // Section 3 of a saved desk of form 2: the other names of its resources, each judged after the one before it. Section 2 is all there by then, and
 // its resources are looked up where they stand in the file.
+#![tactic(auto)]
+
 ghost use Rattle.std.specs.Prelude.{◌≡◌, ◌&&◌, ◌≤◌, ltb};
 ghost use Rattle.rules.specs.Numbers.{most};
 ghost use Rattle.rules.specs.Lists.{lookup};

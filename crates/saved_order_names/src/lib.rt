@@ -1,4 +1,6 @@
 // Which live rows are other names of a resource, and which the lowest (02, wishes 5 and 11).
+#![tactic(auto)]
+
 pub mod form;
 
 ghost use Rattle.std.specs.Prelude.{◌≡◌, ◌≤◌, ◌<◌};

@@ -1,4 +1,6 @@
 // Section 4 of a saved desk of form 2, its last: the tokens, each judged after the one before it, and that no byte follows.
+#![tactic(auto)]
+
 ghost use Rattle.std.specs.Prelude.{◌≡◌, ◌||◌, ◌+◌, ◌≤◌, eqb};
 ghost use Rattle.rules.specs.Numbers.{no_name, most_tokens};
 ghost use Rattle.rules.specs.Lists.{lookup};

@@ -1,4 +1,6 @@
 // What saving writes (02, wishes 1 and 11): fields of four bytes, one after the other, each by one store.
+#![tactic(auto)]
+
 pub mod resources;
 
 ghost use Rattle.std.specs.Prelude.{◌≡◌, ◌+◌, ◌*◌, ◌≤◌, length};

@@ -1,4 +1,6 @@
 // The sections of a saved desk, one after the other: those that both forms have, and all of form 2 (02, wish 11).
+#![tactic(auto)]
+
 ghost use Rattle.std.specs.Prelude.{◌≡◌, ◌+◌, ◌*◌, ◌≤◌, length};
 ghost use Rattle.rules.specs.Numbers.{most, most_tokens};
 ghost use Rattle.rules.specs.Lists.{over};

@@ -1,4 +1,6 @@
 // The front of a saved desk: its form's number, section 1, and section 2's count.
+#![tactic(auto)]
+
 ghost use Rattle.std.specs.Prelude.{◌≡◌, ◌∷◌, ◌+◌, ◌≤◌, length};
 ghost use Rattle.rules.specs.Lists.{over};
 ghost use Rattle.rules.specs.Saved.{file_of, number_of, number_bytes, head_bytes};
