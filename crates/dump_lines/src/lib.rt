@@ -4,7 +4,7 @@
 
 ghost use Rattle.std.specs.Prelude.{◌≡◌, ◌+◌, ◌≤◌, length};
 ghost use Rattle.rules.specs.Numbers.{create_buffer, create_texture, destroy, dirty_range, copy_buffer, set_target, set_viewport, set_scissor, clear, export_surface, import_surface, release_token, create_buffer_size, create_texture_size, destroy_size, dirty_range_size, copy_buffer_size, set_target_size, set_viewport_size, set_scissor_size, clear_size, export_surface_size, import_surface_size, release_token_size};
-ghost use Rattle.rules.specs.Stream.{known};
+ghost use Rattle.rules.specs.PacketRows.{packet_row};
 ghost use Rattle.rules.specs.Dump.{line, line_in, opcode_text};
 ghost use Rattle.text_numbers.specs.Writing.{Puts};
 ghost use Rattle.rules.specs.Layouts.{word};
@@ -28,8 +28,8 @@ fn word_at(part: &[u8], at: usize) -> u64
 // A create of a buffer.
 pub fn put_buffer(out: &mut [u8], at: usize, offset: u64, size: u64, part: &[u8]) -> usize
     requires create_buffer_size_in_bounds { create_buffer_size ≤ length part.now }
-    requires part_in_bounds { at + length (line_in (known create_buffer) offset create_buffer size part.now) ≤ length out.old }
-    ensures { Puts at (line_in (known create_buffer) offset create_buffer size part.now) out.old result out.new }
+    requires part_in_bounds { at + length (line_in (packet_row create_buffer) offset create_buffer size part.now) ≤ length out.old }
+    ensures { Puts at (line_in (packet_row create_buffer) offset create_buffer size part.now) out.old result out.new }
 {
     let f = buffer_fields(part);
     let numbers: [u64; 6] = [
@@ -51,8 +51,8 @@ pub fn put_buffer(out: &mut [u8], at: usize, offset: u64, size: u64, part: &[u8]
 // A create of a texture.
 pub fn put_texture(out: &mut [u8], at: usize, offset: u64, size: u64, part: &[u8]) -> usize
     requires create_texture_size_in_bounds { create_texture_size ≤ length part.now }
-    requires part_in_bounds { at + length (line_in (known create_texture) offset create_texture size part.now) ≤ length out.old }
-    ensures { Puts at (line_in (known create_texture) offset create_texture size part.now) out.old result out.new }
+    requires part_in_bounds { at + length (line_in (packet_row create_texture) offset create_texture size part.now) ≤ length out.old }
+    ensures { Puts at (line_in (packet_row create_texture) offset create_texture size part.now) out.old result out.new }
 {
     let f = texture_fields(part);
     let s = f.shape;
@@ -80,8 +80,8 @@ pub fn put_texture(out: &mut [u8], at: usize, offset: u64, size: u64, part: &[u8
 // A destroy.
 pub fn put_destroy(out: &mut [u8], at: usize, offset: u64, size: u64, part: &[u8]) -> usize
     requires destroy_size_in_bounds { destroy_size ≤ length part.now }
-    requires part_in_bounds { at + length (line_in (known destroy) offset destroy size part.now) ≤ length out.old }
-    ensures { Puts at (line_in (known destroy) offset destroy size part.now) out.old result out.new }
+    requires part_in_bounds { at + length (line_in (packet_row destroy) offset destroy size part.now) ≤ length out.old }
+    ensures { Puts at (line_in (packet_row destroy) offset destroy size part.now) out.old result out.new }
 {
     let f = destroy_fields(part);
     let numbers: [u64; 3] = [offset, size, u32_to_word(f.handle)];
@@ -91,8 +91,8 @@ pub fn put_destroy(out: &mut [u8], at: usize, offset: u64, size: u64, part: &[u8
 // A dirty range.
 pub fn put_dirty(out: &mut [u8], at: usize, offset: u64, size: u64, part: &[u8]) -> usize
     requires dirty_range_size_in_bounds { dirty_range_size ≤ length part.now }
-    requires part_in_bounds { at + length (line_in (known dirty_range) offset dirty_range size part.now) ≤ length out.old }
-    ensures { Puts at (line_in (known dirty_range) offset dirty_range size part.now) out.old result out.new }
+    requires part_in_bounds { at + length (line_in (packet_row dirty_range) offset dirty_range size part.now) ≤ length out.old }
+    ensures { Puts at (line_in (packet_row dirty_range) offset dirty_range size part.now) out.old result out.new }
 {
     let f = dirty_fields(part);
     let numbers: [u64; 5] = [offset, size, u32_to_word(f.handle), f.offset, f.size];
@@ -107,8 +107,8 @@ pub fn put_dirty(out: &mut [u8], at: usize, offset: u64, size: u64, part: &[u8])
 // A copy of a buffer.
 pub fn put_copy(out: &mut [u8], at: usize, offset: u64, size: u64, part: &[u8]) -> usize
     requires copy_buffer_size_in_bounds { copy_buffer_size ≤ length part.now }
-    requires part_in_bounds { at + length (line_in (known copy_buffer) offset copy_buffer size part.now) ≤ length out.old }
-    ensures { Puts at (line_in (known copy_buffer) offset copy_buffer size part.now) out.old result out.new }
+    requires part_in_bounds { at + length (line_in (packet_row copy_buffer) offset copy_buffer size part.now) ≤ length out.old }
+    ensures { Puts at (line_in (packet_row copy_buffer) offset copy_buffer size part.now) out.old result out.new }
 {
     let f = copy_fields(part);
     let numbers: [u64; 8] = [
@@ -132,8 +132,8 @@ pub fn put_copy(out: &mut [u8], at: usize, offset: u64, size: u64, part: &[u8]) 
 // A render target.
 pub fn put_target(out: &mut [u8], at: usize, offset: u64, size: u64, part: &[u8]) -> usize
     requires set_target_size_in_bounds { set_target_size ≤ length part.now }
-    requires part_in_bounds { at + length (line_in (known set_target) offset set_target size part.now) ≤ length out.old }
-    ensures { Puts at (line_in (known set_target) offset set_target size part.now) out.old result out.new }
+    requires part_in_bounds { at + length (line_in (packet_row set_target) offset set_target size part.now) ≤ length out.old }
+    ensures { Puts at (line_in (packet_row set_target) offset set_target size part.now) out.old result out.new }
 {
     let f = target_fields(part);
     let numbers: [u64; 3] = [offset, size, u32_to_word(f.handle)];
@@ -143,8 +143,8 @@ pub fn put_target(out: &mut [u8], at: usize, offset: u64, size: u64, part: &[u8]
 // A viewport, its floats by their bits.
 pub fn put_viewport(out: &mut [u8], at: usize, offset: u64, size: u64, part: &[u8]) -> usize
     requires set_viewport_size_in_bounds { set_viewport_size ≤ length part.now }
-    requires part_in_bounds { at + length (line_in (known set_viewport) offset set_viewport size part.now) ≤ length out.old }
-    ensures { Puts at (line_in (known set_viewport) offset set_viewport size part.now) out.old result out.new }
+    requires part_in_bounds { at + length (line_in (packet_row set_viewport) offset set_viewport size part.now) ≤ length out.old }
+    ensures { Puts at (line_in (packet_row set_viewport) offset set_viewport size part.now) out.old result out.new }
 {
     let numbers: [u64; 8] = [
         offset,
@@ -167,8 +167,8 @@ pub fn put_viewport(out: &mut [u8], at: usize, offset: u64, size: u64, part: &[u
 // A scissor.
 pub fn put_scissor(out: &mut [u8], at: usize, offset: u64, size: u64, part: &[u8]) -> usize
     requires set_scissor_size_in_bounds { set_scissor_size ≤ length part.now }
-    requires part_in_bounds { at + length (line_in (known set_scissor) offset set_scissor size part.now) ≤ length out.old }
-    ensures { Puts at (line_in (known set_scissor) offset set_scissor size part.now) out.old result out.new }
+    requires part_in_bounds { at + length (line_in (packet_row set_scissor) offset set_scissor size part.now) ≤ length out.old }
+    ensures { Puts at (line_in (packet_row set_scissor) offset set_scissor size part.now) out.old result out.new }
 {
     let numbers: [u64; 6] = [
         offset,
@@ -189,8 +189,8 @@ pub fn put_scissor(out: &mut [u8], at: usize, offset: u64, size: u64, part: &[u8
 // A clear, its floats by their bits.
 pub fn put_clear(out: &mut [u8], at: usize, offset: u64, size: u64, part: &[u8]) -> usize
     requires clear_size_in_bounds { clear_size ≤ length part.now }
-    requires part_in_bounds { at + length (line_in (known clear) offset clear size part.now) ≤ length out.old }
-    ensures { Puts at (line_in (known clear) offset clear size part.now) out.old result out.new }
+    requires part_in_bounds { at + length (line_in (packet_row clear) offset clear size part.now) ≤ length out.old }
+    ensures { Puts at (line_in (packet_row clear) offset clear size part.now) out.old result out.new }
 {
     let numbers: [u64; 9] = [
         offset,
@@ -214,8 +214,8 @@ pub fn put_clear(out: &mut [u8], at: usize, offset: u64, size: u64, part: &[u8])
 // An export.
 pub fn put_export(out: &mut [u8], at: usize, offset: u64, size: u64, part: &[u8]) -> usize
     requires export_surface_size_in_bounds { export_surface_size ≤ length part.now }
-    requires part_in_bounds { at + length (line_in (known export_surface) offset export_surface size part.now) ≤ length out.old }
-    ensures { Puts at (line_in (known export_surface) offset export_surface size part.now) out.old result out.new }
+    requires part_in_bounds { at + length (line_in (packet_row export_surface) offset export_surface size part.now) ≤ length out.old }
+    ensures { Puts at (line_in (packet_row export_surface) offset export_surface size part.now) out.old result out.new }
 {
     let f = export_fields(part);
     let numbers: [u64; 4] = [offset, size, u32_to_word(f.handle), f.token];
@@ -230,8 +230,8 @@ pub fn put_export(out: &mut [u8], at: usize, offset: u64, size: u64, part: &[u8]
 // An import.
 pub fn put_import(out: &mut [u8], at: usize, offset: u64, size: u64, part: &[u8]) -> usize
     requires import_surface_size_in_bounds { import_surface_size ≤ length part.now }
-    requires part_in_bounds { at + length (line_in (known import_surface) offset import_surface size part.now) ≤ length out.old }
-    ensures { Puts at (line_in (known import_surface) offset import_surface size part.now) out.old result out.new }
+    requires part_in_bounds { at + length (line_in (packet_row import_surface) offset import_surface size part.now) ≤ length out.old }
+    ensures { Puts at (line_in (packet_row import_surface) offset import_surface size part.now) out.old result out.new }
 {
     let f = import_fields(part);
     let numbers: [u64; 4] = [offset, size, u32_to_word(f.handle), f.token];
@@ -246,8 +246,8 @@ pub fn put_import(out: &mut [u8], at: usize, offset: u64, size: u64, part: &[u8]
 // A release.
 pub fn put_release(out: &mut [u8], at: usize, offset: u64, size: u64, part: &[u8]) -> usize
     requires release_token_size_in_bounds { release_token_size ≤ length part.now }
-    requires part_in_bounds { at + length (line_in (known release_token) offset release_token size part.now) ≤ length out.old }
-    ensures { Puts at (line_in (known release_token) offset release_token size part.now) out.old result out.new }
+    requires part_in_bounds { at + length (line_in (packet_row release_token) offset release_token size part.now) ≤ length out.old }
+    ensures { Puts at (line_in (packet_row release_token) offset release_token size part.now) out.old result out.new }
 {
     let f = release_fields(part);
     let numbers: [u64; 3] = [offset, size, f.token];

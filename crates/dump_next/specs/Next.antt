@@ -3,7 +3,8 @@ use Rattle.std.specs.Prelude.{◌≡◌, refl, Bool, true, false, ◌&&◌, List
 use Rattle.std.proofs.Common.{sym, arith, rules, Fits, length-drop, length-take-le}
 use Rattle.std.specs.Int.{w64}
 use Rattle.rules.specs.Judging.{refusal}
-use Rattle.rules.specs.Stream.{known, frame_of, packet_of, least_size}
+use Rattle.rules.specs.Stream.{frame_of, packet_of, least_size}
+use Rattle.rules.specs.PacketRows.{packet_row}
 use Rattle.rules.specs.Text.{ascii}
 use Rattle.rules.specs.Dump.{line, line_in, opcode_text, ending_text, stops}
 use Rattle.rules.specs.Dump.Ending.{refused}
@@ -62,7 +63,7 @@ module _ (s : List ℕ) (at op size : ℕ) (framed : frame_of (drop at s) ≡ Wh
         let n : length b ≡ size = rw (part, is) (length-take-le size (drop at s) (frame-sound (drop at s) op size framed).inside) in
         rw n (frame-sound (drop at s) op size framed).known
 
-    pub packet-line : (offset n : ℕ) → offset ≡ at → n ≡ size → line_in (known op) offset op n b ≡ line_in (known op) at op size (take size (drop at s))
+    pub packet-line : (offset n : ℕ) → offset ≡ at → n ≡ size → line_in (packet_row op) offset op n b ≡ line_in (packet_row op) at op size (take size (drop at s))
     packet-line offset n p q = rw (part, is, p, q)
 
 pub ruleset writing_packet = (same-room, same-put, part-there, known-there, packet-line, rules)
@@ -82,14 +83,14 @@ module _ (strict : Bool) (s : List ℕ) (at : ℕ) (here : at < length s) (x : S
 
   module _ (op size : ℕ) where
     module _ (u : Bool) (p : SeenPacket (drop at s) op size u) (h : stops strict (packet_of op (take size (drop at s))) ≡ false) where
-      on : next_line strict s at ≡ line_in (known op) at op size (take size (drop at s))
+      on : next_line strict s at ≡ line_in (packet_row op) at op size (take size (drop at s))
       on = line_on strict s at here op size p.frame h
 
-      on_room : end + length (next_line strict s at) ≤ length m → end + length (line_in (known op) at op size (take size (drop at s))) ≤ length m
+      on_room : end + length (next_line strict s at) ≤ length m → end + length (line_in (packet_row op) at op size (take size (drop at s))) ≤ length m
       on_room r = rw on at r
 
       goes_further : (long : ℕ) → long ≡ size → (end' : ℕ) (m' : List ℕ)
-          → Puts end (line_in (known op) at op size (take size (drop at s))) m end' m' → Goes strict s at end m (On (at + long) end') m'
+          → Puts end (line_in (packet_row op) at op size (take size (drop at s))) m end' m' → Goes strict s at end m (On (at + long) end') m'
       goes_further long e end' m' q =
           rw e (record {
             split = rest-on strict s at here op size p.frame h;
@@ -112,14 +113,14 @@ module _ (strict : Bool) (s : List ℕ) (at : ℕ) (here : at < length s) (x : S
       pub known-framed : frame_of (drop at s) ≡ Whole op size
       known-framed = known-packet.frame
 
-      pub known-room : end + length (next_line strict s at) ≤ length m → end + length (line_in (known op) at op size (take size (drop at s))) ≤ length m
+      pub known-room : end + length (next_line strict s at) ≤ length m → end + length (line_in (packet_row op) at op size (take size (drop at s))) ≤ length m
       known-room = on_room false known-packet goes
 
       pub known-fits : (long : ℕ) → long ≡ size → length s < 2 ^ 64 → Fits w64 (at + long)
       known-fits long l g = record { fits = omega (arith, inside strict s at here op size known-packet.frame) }
 
       pub goes-known : (long : ℕ) → long ≡ size → (end' : ℕ) (m' : List ℕ)
-          → Puts end (line_in (known op) at op size (take size (drop at s))) m end' m' → Goes strict s at end m (On (at + long) end') m'
+          → Puts end (line_in (packet_row op) at op size (take size (drop at s))) m end' m' → Goes strict s at end m (On (at + long) end') m'
       goes-known = goes_further false known-packet goes
 
     module _ (e : x ≡ Unknown op size) where
@@ -147,14 +148,14 @@ module _ (strict : Bool) (s : List ℕ) (at : ℕ) (here : at < length s) (x : S
         pub unknown-framed : frame_of (drop at s) ≡ Whole op size
         unknown-framed = unknown-packet.frame
 
-        pub unknown-room : end + length (next_line strict s at) ≤ length m → end + length (line_in (known op) at op size (take size (drop at s))) ≤ length m
+        pub unknown-room : end + length (next_line strict s at) ≤ length m → end + length (line_in (packet_row op) at op size (take size (drop at s))) ≤ length m
         unknown-room = on_room true unknown-packet passes
 
         pub unknown-fits : (long : ℕ) → long ≡ size → length s < 2 ^ 64 → Fits w64 (at + long)
         unknown-fits long l g = record { fits = omega (arith, inside strict s at here op size unknown-packet.frame) }
 
         pub goes-unknown : (long : ℕ) → long ≡ size → (end' : ℕ) (m' : List ℕ)
-            → Puts end (line_in (known op) at op size (take size (drop at s))) m end' m' → Goes strict s at end m (On (at + long) end') m'
+            → Puts end (line_in (packet_row op) at op size (take size (drop at s))) m end' m' → Goes strict s at end m (On (at + long) end') m'
         goes-unknown = goes_further true unknown-packet passes
 
 pub ruleset going_bad = (bad-room, goes-bad, rules)

@@ -3,7 +3,8 @@
 use Rattle.std.specs.Prelude.{◌≡◌, refl, Bool, true, false, List, [], ◌++◌, ℕ, ◌+◌, ◌≤◌, ◌<◌, length, take, drop}
 use Rattle.std.proofs.Common.{ap, ◌∙◌, append_assoc, arith, length-append}
 use Rattle.machine.specs.Machine.{pick}
-use Rattle.rules.specs.Stream.{known, frame_of, packet_of}
+use Rattle.rules.specs.Stream.{frame_of, packet_of}
+use Rattle.rules.specs.PacketRows.{packet_row}
 use Rattle.rules.specs.Dump.{line, line_in, opcode_text, line_of, ending_text, stops, lines_of, text_of}
 use Rattle.rules.specs.Dump.Ending.{refused}
 use Rattle.rules.specs.declared.Refusal.{Refusal}
@@ -14,7 +15,7 @@ use Rattle.stream_listing.specs.Walk.{listed_from, from-none, from-bad, from-sto
 -- the line of the packet at an offset, by its frame: its own, or the one that ends the listing there
 abbrev pub line_by : Bool → ℕ → Frame → List ℕ → List ℕ
 line_by strict at (Whole op size) b =
-    pick (stops strict (packet_of op (take size b))) (line at "STOPPED" size (opcode_text op)) (line_in (known op) at op size (take size b))
+    pick (stops strict (packet_of op (take size b))) (line at "STOPPED" size (opcode_text op)) (line_in (packet_row op) at op size (take size b))
 line_by strict at (Misframed r) b = ending_text (refused r)
 
 module _ (strict : Bool) where
@@ -50,7 +51,7 @@ module _ (strict : Bool) where
           rest-stopped = rw (from-stopped strict s at here op size e h, line-stopped)
 
         module _ (h : stops strict (packet_of op (take size (drop at s))) ≡ false) where
-          pub line_on : next_line s at ≡ line_in (known op) at op size (take size (drop at s))
+          pub line_on : next_line s at ≡ line_in (packet_row op) at op size (take size (drop at s))
           unfolding next_line
           line_on = rw (e, h)
 
@@ -58,7 +59,7 @@ module _ (strict : Bool) where
           unfolding rest_from text_of lines_of line_of
           rest-on =
               rw (from_on strict s at here op size e h, line_on)
-              (append_assoc (line_in (known op) at op size (take size (drop at s))) _ _)
+              (append_assoc (line_in (packet_row op) at op size (take size (drop at s))) _ _)
 
       -- the next line is a part of the text
       pub next-within : length (next_line s at) ≤ length (rest_from s at)

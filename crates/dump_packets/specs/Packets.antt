@@ -3,6 +3,7 @@ use Rattle.std.specs.Prelude.{◌≡◌, List, ℕ, ◌+◌, ◌≤◌, length}
 use Rattle.std.proofs.Common.{arith, rules}
 use Rattle.rules.specs.Lists.Found.{none}
 use Rattle.rules.specs.Stream.{known, least_size}
+use Rattle.rules.specs.PacketRows.{packet_row, unknown-has-no-row}
 use Rattle.rules.specs.Dump.{line, line_in, opcode_text}
 use Rattle.stream_opcodes.specs.Opcodes.{none-known, known-buffer, known-texture, known-destroy, known-dirty, known-copy, known_target, known-viewport, known-scissor, known-clear, known-export, known-import, known-release}
 use Rattle.text_numbers.specs.Writing.{Puts}
@@ -10,19 +11,19 @@ use Rattle.text_numbers.specs.Writing.{Puts}
 module _ (op : ℕ) (b : List ℕ) (at offset size : ℕ) (m : List ℕ) where
   -- an opcode that is this one
   module _ (c : ℕ) (is : op ≡ c) where
-    pub kind-room : at + length (line_in (known op) offset op size b) ≤ length m → at + length (line_in (known c) offset c size b) ≤ length m
+    pub kind-room : at + length (line_in (packet_row op) offset op size b) ≤ length m → at + length (line_in (packet_row c) offset c size b) ≤ length m
     kind-room h = rw is at h
 
-    pub kind-put : (end : ℕ) (m' : List ℕ) → Puts at (line_in (known c) offset c size b) m end m' → Puts at (line_in (known op) offset op size b) m end m'
+    pub kind-put : (end : ℕ) (m' : List ℕ) → Puts at (line_in (packet_row c) offset c size b) m end m' → Puts at (line_in (packet_row op) offset op size b) m end m'
     kind-put end m' p = rw is p
 
   -- an opcode that is in no row
   module _ (unknown : known op ≡ none) (word : ℕ) (same : word ≡ op) where
-    pub unknown-room : at + length (line_in (known op) offset op size b) ≤ length m → at + length (line offset "UNKNOWN" size (opcode_text word)) ≤ length m
-    unknown-room h = rw same (rw unknown at h)
+    pub unknown-room : at + length (line_in (packet_row op) offset op size b) ≤ length m → at + length (line offset "UNKNOWN" size (opcode_text word)) ≤ length m
+    unknown-room h = rw same (rw (unknown-has-no-row op unknown) at h)
 
-    pub unknown-put : (end : ℕ) (m' : List ℕ) → Puts at (line offset "UNKNOWN" size (opcode_text word)) m end m' → Puts at (line_in (known op) offset op size b) m end m'
-    unknown-put end m' p = rw unknown (rw same at p)
+    pub unknown-put : (end : ℕ) (m' : List ℕ) → Puts at (line offset "UNKNOWN" size (opcode_text word)) m end m' → Puts at (line_in (packet_row op) offset op size b) m end m'
+    unknown-put end m' p = rw (unknown-has-no-row op unknown) (rw same at p)
 
 -- a packet that is read has room for its fields
 pub fields-there : (op : ℕ) (b : List ℕ) (size : ℕ) → size ≡ least_size op → least_size op ≤ length b → size ≤ length b

@@ -2,7 +2,8 @@
 #![tactic(auto)]
 
 ghost use Rattle.std.specs.Prelude.{◌≡◌, ◌+◌, ◌≤◌, length};
-ghost use Rattle.rules.specs.Stream.{known, least_size};
+ghost use Rattle.rules.specs.Stream.{least_size};
+ghost use Rattle.rules.specs.PacketRows.{packet_row};
 ghost use Rattle.rules.specs.Dump.{line_in};
 ghost use Rattle.text_numbers.specs.Writing.{Puts};
 
@@ -19,8 +20,8 @@ use widths::u32_to_word;
 // Writes the line of a packet at an offset of its stream, by its opcode, and gives the place behind it.
 pub fn put_line(out: &mut [u8], at: usize, offset: u64, size: u64, op: u32, part: &[u8]) -> usize
     requires op_in_bounds { least_size op ≤ length part.now }
-    requires part_in_bounds { at + length (line_in (known op) offset op size part.now) ≤ length out.old }
-    ensures { Puts at (line_in (known op) offset op size part.now) out.old result out.new }
+    requires part_in_bounds { at + length (line_in (packet_row op) offset op size part.now) ≤ length out.old }
+    ensures { Puts at (line_in (packet_row op) offset op size part.now) out.old result out.new }
 {
     match op {
         CREATE_BUFFER => put_buffer(out, at, offset, size, part),

@@ -13,7 +13,8 @@ use Rattle.rules.specs.Fields.FieldType.{U32, U64, F32, I32}
 use Rattle.rules.specs.Layouts.{signed}
 use Rattle.rules.specs.Lists.{Found}
 use Rattle.rules.specs.Lists.Found.{none, found}
-use Rattle.rules.specs.Stream.{Known, known, bytes_in, least_size, frame_of, packet_of}
+use Rattle.rules.specs.Stream.{bytes_in, least_size, frame_of, packet_of}
+use Rattle.rules.specs.PacketRows.{PacketRow, packet_row, known_of, known-is-packet-row, unknown-has-no-row}
 use Rattle.rules.specs.Text.{ascii, signed_decimal}
 use Rattle.rules.specs.Dump.{number_text, fields_text, opcode_text, line, line_in, ending_text, stops}
 use Rattle.rules.specs.Dump.Ending.{refused}
@@ -63,33 +64,33 @@ opcode-bound op = simp length-append (omega (arith, decimal-length op))
 abbrev pub longest_line : ℕ
 longest_line = 326
 
-abbrev pub widest_in : Found Known → ℕ
+abbrev pub widest_in : Found PacketRow → ℕ
 widest_in none = 80
 widest_in (found k) = 43 + length (ascii k.name) + widest_fields k.layout
 
-line-in-bound : (r : Found Known) (at op size : ℕ) (b : List ℕ) → length (line_in r at op size b) ≤ widest_in r
+line-in-bound : (r : Found PacketRow) (at op size : ℕ) (b : List ℕ) → length (line_in r at op size b) ≤ widest_in r
 line-in-bound none at op size b = line-bound at "UNKNOWN" size (opcode_text op) 30 (opcode-bound op)
 line-in-bound (found k) at op size b = line-bound at k.name size (fields_text k.layout b) (widest_fields k.layout) (fields-bound k.layout b)
 
-record Fair (r : Found Known) : Type 0 where
+record Fair (r : Found PacketRow) : Type 0 where
   short : widest_in r ≤ longest_line
-  ratio : (size : ℕ) → 8 ≤ size → bytes_in r ≤ size → widest_in r ≤ 10 * size
+  ratio : (size : ℕ) → 8 ≤ size → bytes_in (known_of r) ≤ size → widest_in r ≤ 10 * size
 
 -- a row that is this one, by its two numbers
-module _ (r : Found Known) (wide bytes : ℕ) (is : widest_in r ≡ wide) (has : bytes_in r ≡ bytes) where
+module _ (r : Found PacketRow) (wide bytes : ℕ) (is : widest_in r ≡ wide) (has : bytes_in (known_of r) ≡ bytes) where
   fair : wide ≤ longest_line → wide ≤ 10 * bytes → Fair r
   fair s t = record { short = rw is s; ratio = λ size h l. rw is (omega (arith, has)) }
 
 module _ (op : ℕ) where
-  decide : (c : ℕ) → Fair (known c) → ((op ≡ c → ⊥) → Fair (known op)) → Fair (known op)
+  decide : (c : ℕ) → Fair (packet_row c) → ((op ≡ c → ⊥) → Fair (packet_row op)) → Fair (packet_row op)
   decide c this other = by_test (eqb op c) refl
     where
-      by_test : (t : Bool) → eqb op c ≡ t → Fair (known op)
+      by_test : (t : Bool) → eqb op c ≡ t → Fair (packet_row op)
       by_test true e = rw (eqb-true op c e) this
       by_test false e = other (eqb-false op c e)
 
-  known-fair : Fair (known op)
-  unfolding known
+  known-fair : Fair (packet_row op)
+  unfolding packet_row
   known-fair =
       decide create_buffer (fair _ _ _ refl refl (lit≤ tt) (lit≤ tt)) (λ n1.
       decide create_texture (fair _ _ _ refl refl (lit≤ tt) (lit≤ tt)) (λ n2.
@@ -103,13 +104,14 @@ module _ (op : ℕ) where
       decide export_surface (fair _ _ _ refl refl (lit≤ tt) (lit≤ tt)) (λ n10.
       decide import_surface (fair _ _ _ refl refl (lit≤ tt) (lit≤ tt)) (λ n11.
       decide release_token (fair _ _ _ refl refl (lit≤ tt) (lit≤ tt)) (λ n12.
-      rw (none-known op n1 n2 n3 n4 n5 n6 n7 n8 n9 n10 n11 n12) (record { short = lit≤ tt; ratio = λ size h l. omega arith })))))))))))))
+      rw (unknown-has-no-row op (none-known op n1 n2 n3 n4 n5 n6 n7 n8 n9 n10 n11 n12)) (record { short = lit≤ tt; ratio = λ size h l. omega arith })))))))))))))
 
 -- ---- a packet
 
-pub packet-bound : (op at size : ℕ) (b : List ℕ) → least_size op ≤ size → 8 ≤ size → length (line_in (known op) at op size b) ≤ 10 * size
+pub packet-bound : (op at size : ℕ) (b : List ℕ) → least_size op ≤ size → 8 ≤ size → length (line_in (packet_row op) at op size b) ≤ 10 * size
 unfolding least_size
-packet-bound op at size b least head = omega (arith, line-in-bound (known op) at op size b, (known-fair op).ratio size head least)
+packet-bound op at size b least head =
+    omega (arith, line-in-bound (packet_row op) at op size b, (known-fair op).ratio size head (rw (known-is-packet-row op) at least))
 
 pub stopped-bound : (at op size : ℕ) → length (line at "STOPPED" size (opcode_text op)) ≤ 80
 stopped-bound at op size = line-bound at "STOPPED" size (opcode_text op) 30 (opcode-bound op)
@@ -124,9 +126,9 @@ module _ (strict : Bool) where
   by-short : (at : ℕ) (f : Frame) (b : List ℕ) → length (line_by strict at f b) ≤ longest_line
   by-short at (Whole op size) b = by-stop (stops strict (packet_of op (take size b)))
     where
-      by-stop : (t : Bool) → length (pick t (line at "STOPPED" size (opcode_text op)) (line_in (known op) at op size (take size b))) ≤ longest_line
+      by-stop : (t : Bool) → length (pick t (line at "STOPPED" size (opcode_text op)) (line_in (packet_row op) at op size (take size b))) ≤ longest_line
       by-stop true = omega (arith, stopped-bound at op size)
-      by-stop false = omega (arith, line-in-bound (known op) at op size (take size b), (known-fair op).short)
+      by-stop false = omega (arith, line-in-bound (packet_row op) at op size (take size b), (known-fair op).short)
   by-short at (Misframed r) b = omega (arith, error-bound r)
 
   pub next-short : (s : List ℕ) (at : ℕ) → length (next_line strict s at) ≤ longest_line

@@ -14,27 +14,28 @@ use Rattle.rules.specs.Headers.{wrong_header}
 use Rattle.rules.specs.Layouts.{stream_header, viewport_floats, viewport_fields, clear_floats, clear_fields}
 use Rattle.rules.specs.Lists.{Found}
 use Rattle.rules.specs.Lists.Found.{none, found}
-use Rattle.rules.specs.Stream.{Known, known, unless_nan, least_size, packet_of, stream_rules, frame_of, frame_rules}
+use Rattle.rules.specs.Stream.{known, unless_nan, least_size, packet_of, stream_rules, frame_of, frame_rules}
+use Rattle.rules.specs.PacketRows.{PacketRow, packet_row, unknown-has-no-row}
 use Rattle.rules.specs.Text.{ascii, hex, hex_digit, decimal, decimal_in}
 use Rattle.rules.specs.Dump.{fields_text, opcode_text, line, line_in, is_unknown, listing, text_of, dump_of, lines_of, line_of, ending_text, listed}
 use Rattle.rules.specs.declared.Packet.{Packet}
 use Rattle.rules.specs.declared.Packet.TheVariants.{Viewport, Clear, NotANumber}
 use Rattle.stream_opcodes.specs.Opcodes.{none-known}
 
-abbrev pub in_no_row : Found Known → Bool
+abbrev pub in_no_row : Found PacketRow → Bool
 in_no_row none = true
 in_no_row (found k) = false
 
 -- the name that is printed, and the text behind it
-abbrev pub printed-name : Found Known → String
+abbrev pub printed-name : Found PacketRow → String
 printed-name none = "UNKNOWN"
 printed-name (found k) = k.name
 
-abbrev pub printed_fields : Found Known → ℕ → List ℕ → List ℕ
+abbrev pub printed_fields : Found PacketRow → ℕ → List ℕ → List ℕ
 printed_fields none op b = opcode_text op
 printed_fields (found k) op b = fields_text k.layout b
 
-pub line-has-name : (r : Found Known) (at op size : ℕ) (b : List ℕ) → line_in r at op size b ≡ line at (printed-name r) size (printed_fields r op b)
+pub line-has-name : (r : Found PacketRow) (at op size : ℕ) (b : List ℕ) → line_in r at op size b ≡ line at (printed-name r) size (printed_fields r op b)
 line-has-name none at op size b = refl
 line-has-name (found k) at op size b = refl
 
@@ -65,11 +66,11 @@ module _ (op : ℕ) where
       q (none-known op n1 n2 n3 n4 n5 n6 n7 n8 n9 n10 n11 n12)))))))))))))
 
   -- "Unknown opcodes print UNKNOWN", and no other does
-  pub unknown-exactly : eqt (printed-name (known op)) "UNKNOWN" ≡ in_no_row (known op)
-  unfolding known
+  pub unknown-exactly : eqt (printed-name (packet_row op)) "UNKNOWN" ≡ in_no_row (packet_row op)
+  unfolding packet_row
   unknown-exactly =
-      by_row (λ o. eqt (printed-name (known o)) "UNKNOWN" ≡ in_no_row (known o)) refl refl refl refl refl refl refl refl refl refl refl refl
-      (λ e. rw e)
+      by_row (λ o. eqt (printed-name (packet_row o)) "UNKNOWN" ≡ in_no_row (packet_row o)) refl refl refl refl refl refl refl refl refl refl refl refl
+      (λ e. rw (unknown-has-no-row op e))
 
   -- "the strict setting .. stops there", and nowhere else: a packet with a NaN is a known one
   module _ (b : List ℕ) where
@@ -80,13 +81,13 @@ module _ (op : ℕ) where
         by_test true = refl
         by_test false = h
 
-    pub stops-exactly : is_unknown (packet_of op b) ≡ in_no_row (known op)
-    unfolding packet_of known
+    pub stops-exactly : is_unknown (packet_of op b) ≡ in_no_row (packet_row op)
+    unfolding packet_of known packet_row
     stops-exactly =
-        by_row (λ o. is_unknown (packet_of o b) ≡ in_no_row (known o)) refl refl refl refl refl refl
+        by_row (λ o. is_unknown (packet_of o b) ≡ in_no_row (packet_row o)) refl refl refl refl refl refl
         (not-nan (viewport_floats b) (Viewport (viewport_fields b)) refl) refl
         (not-nan (clear_floats b) (Clear (clear_fields b)) refl) refl refl refl
-        (λ e. rw e)
+        (λ e. rw (unknown-has-no-row op e, e))
 
 -- a listing worked out: a destroy of handle 4294967295, and four bytes, which are no packet
 pub worked : listing
@@ -96,5 +97,5 @@ pub worked : listing
     ∷ 2 ∷ 1 ∷ 0 ∷ 0
     ∷ [])
     ≡ ascii "0x00000018 Destroy size_bytes=16 handle=4294967295\nerror=17\n"
-unfolding listing text_of dump_of lines_of line_of ending_text listed line hex hex_digit decimal decimal_in stream_rules frame_of frame_rules least_size known packet_of stream_header le wrong_header
+unfolding listing text_of dump_of lines_of line_of ending_text listed line hex hex_digit decimal decimal_in stream_rules frame_of frame_rules least_size known packet_row packet_of stream_header le wrong_header
 worked = refl

@@ -11,6 +11,7 @@ use Rattle.rules.specs.Layouts.{head_offset, ring_header, descriptor, table_head
 use Rattle.rules.specs.Headers.{wrong_header}
 use Rattle.rules.specs.Table.{header_rules, entry_rules, take_entry}
 use Rattle.rules.specs.Stream.{known, stream_rules, least_size, frame_rules, frame_of, packet_of}
+use Rattle.rules.specs.PacketRows.{packet_row}
 use Rattle.rules.specs.Ring.{descriptor_rules, range_rules, submission_rules, submission_opening, power_of_two, good_header, good_ring, ring_opening, opening_of}
 use Rattle.rules.specs.Packets.{create_backed, create, on_buffer_packet, apply, target_after, pass, take_packet, tokens_after}
 use Rattle.rules.specs.State.{State, World, made, with_regs, registers_of, no_error}
@@ -119,7 +120,7 @@ unfolding in_bytes times ring_words slot_words table_words stream_words desk run
 told-of-any x = refl
 
 listed-agrees : (x y : ℕ) → agrees_each (desk x) (desk y) (openings night (lent rung (desk x))) ≡ true
-unfolding in_bytes times ring_words slot_words table_words stream_words desk rung night same_bytes agrees agrees_each openings call_openings run_openings placed packet_layout ranges_listed slot_listed opening_listed entries_listed packet_listed packets_listed submission_listed le bytes_of over nth lookup ring_header descriptor table_header entry stream_header buffer_fields page_bytes wrong_header header_rules entry_rules take_entry known stream_rules least_size frame_rules frame_of packet_of descriptor_rules range_rules submission_rules submission_opening power_of_two good_header good_ring ring_opening opening_of create_backed create on_buffer_packet apply target_after pass take_packet tokens_after faulted signalled doorbell_cleared ended_by written head_written page_written marked settled open_step entry_step packet_step step go run_while answered ending call_run call_record answer_alone call_answer after
+unfolding in_bytes times ring_words slot_words table_words stream_words desk rung night same_bytes agrees agrees_each openings call_openings run_openings placed packet_layout ranges_listed slot_listed opening_listed entries_listed packet_listed packets_listed submission_listed le bytes_of over nth lookup ring_header descriptor table_header entry stream_header buffer_fields page_bytes wrong_header header_rules entry_rules take_entry known packet_row stream_rules least_size frame_rules frame_of packet_of descriptor_rules range_rules submission_rules submission_opening power_of_two good_header good_ring ring_opening opening_of create_backed create on_buffer_packet apply target_after pass take_packet tokens_after faulted signalled doorbell_cleared ended_by written head_written page_written marked settled open_step entry_step packet_step step go run_while answered ending call_run call_record answer_alone call_answer after
 listed-agrees x y = refl
 
 -- the two agree on all that is listed
@@ -210,11 +211,11 @@ first-each-true test P sound m [] h = omega arith
 first-each-true test P sound m (v ∷ vs) h = (sound (listed_at_first m v) (both_left _ _ h), first-each-true test P sound m vs (both_right (test (listed_at_first m v)) _ h))
 
 first-agrees : (x y : ℕ) → first_each (agrees (desk x) (desk y)) (desk x) (openings night (lent rung (desk x))) ≡ true
-unfolding in_bytes times ring_words slot_words table_words stream_words desk rung night headed same_bytes agrees first_each openings call_openings run_openings placed packet_layout ranges_listed slot_listed opening_listed entries_listed packet_listed packets_listed submission_listed le bytes_of over nth lookup ring_header descriptor table_header entry stream_header buffer_fields page_bytes wrong_header header_rules entry_rules take_entry known stream_rules least_size frame_rules frame_of packet_of descriptor_rules range_rules submission_rules submission_opening power_of_two good_header good_ring ring_opening opening_of create_backed create on_buffer_packet apply target_after pass take_packet tokens_after faulted signalled doorbell_cleared ended_by written head_written page_written marked settled open_step entry_step packet_step step go run_while answered ending call_run call_record answer_alone call_answer after
+unfolding in_bytes times ring_words slot_words table_words stream_words desk rung night headed same_bytes agrees first_each openings call_openings run_openings placed packet_layout ranges_listed slot_listed opening_listed entries_listed packet_listed packets_listed submission_listed le bytes_of over nth lookup ring_header descriptor table_header entry stream_header buffer_fields page_bytes wrong_header header_rules entry_rules take_entry known packet_row stream_rules least_size frame_rules frame_of packet_of descriptor_rules range_rules submission_rules submission_opening power_of_two good_header good_ring ring_opening opening_of create_backed create on_buffer_packet apply target_after pass take_packet tokens_after faulted signalled doorbell_cleared ended_by written head_written page_written marked settled open_step entry_step packet_step step go run_while answered ending call_run call_record answer_alone call_answer after
 first-agrees x y = refl
 
 first-untouched : (x : ℕ) → first_each (all_untouched 0 400) (desk x) (openings night (lent rung (desk x))) ≡ true
-unfolding in_bytes times ring_words slot_words table_words stream_words desk rung night headed is_untouched all_untouched first_each openings call_openings run_openings placed packet_layout ranges_listed slot_listed opening_listed entries_listed packet_listed packets_listed submission_listed le bytes_of over nth lookup ring_header descriptor table_header entry stream_header buffer_fields page_bytes wrong_header header_rules entry_rules take_entry known stream_rules least_size frame_rules frame_of packet_of descriptor_rules range_rules submission_rules submission_opening power_of_two good_header good_ring ring_opening opening_of create_backed create on_buffer_packet apply target_after pass take_packet tokens_after faulted signalled doorbell_cleared ended_by written head_written page_written marked settled open_step entry_step packet_step step go run_while answered ending call_run call_record answer_alone call_answer after
+unfolding in_bytes times ring_words slot_words table_words stream_words desk rung night headed is_untouched all_untouched first_each openings call_openings run_openings placed packet_layout ranges_listed slot_listed opening_listed entries_listed packet_listed packets_listed submission_listed le bytes_of over nth lookup ring_header descriptor table_header entry stream_header buffer_fields page_bytes wrong_header header_rules entry_rules take_entry known packet_row stream_rules least_size frame_rules frame_of packet_of descriptor_rules range_rules submission_rules submission_opening power_of_two good_header good_ring ring_opening opening_of create_backed create on_buffer_packet apply target_after pass take_packet tokens_after faulted signalled doorbell_cleared ended_by written head_written page_written marked settled open_step entry_step packet_step step go run_while answered ending call_run call_record answer_alone call_answer after
 first-untouched x = refl
 
 pub desks-agree-at-first : (x y : ℕ) → AgreeInFirst night rung (desk x) (desk y)

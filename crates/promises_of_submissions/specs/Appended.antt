@@ -19,8 +19,7 @@ use Rattle.rules.specs.declared.Frame.{Frame}
 use Rattle.rules.specs.declared.Frame.TheVariants.{Whole, Misframed}
 use Rattle.stream_packets.specs.Framing.{FrameFits, frame-sound}
 use Rattle.stream_packets.specs.Listing.{cut-packet}
-use Rattle.promises_of_submissions.specs.LocalBytes.{Agree, same_first, same-field}
-use Rattle.promises_of_submissions.specs.Reads.{same-entry}
+use Rattle.promises_of_submissions.specs.LocalBytes.{Agree, same_first, same-field, same-entry}
 use Rattle.promises_of_submissions.specs.LocalPackets.{same-frame, same-packet}
 
 -- what is left of two streams from a place on. Both end there; or both have a packet there of one opcode and one size, whose row's bytes

@@ -1,14 +1,40 @@
 -- An opening reads the ring's header, the head's slot, and the headers of the table and of the stream, each only where the rules before
 -- it let it be read. Assumes nothing.
-use Rattle.std.specs.Prelude.{◌≡◌, true, List, ℕ, ◌+◌, ◌≤◌, length}
-use Rattle.rules.specs.Layouts.{ring_header, ring_header_size, descriptor, descriptor_size, table_header_size, stream_header_size}
-use Rattle.rules.specs.Ring.{descriptor_rules, range_rules, good_ring, slot_place, opening_of}
-use Rattle.rules.specs.Listed.{table_fine}
+use Rattle.std.specs.Prelude.{◌≡◌, Bool, ◌&&◌, List, ltb, eqb, length}
+use Rattle.std.proofs.Math.Path.{refl, ap}
+use Rattle.std.proofs.Common.{sym, ◌∙◌, leb-true, ltb-false}
+use Rattle.std.proofs.Math.Bool.{true, false}
+use Prim.Native.Nat.{ℕ, ◌+◌, ◌≤◌}
+use Rattle.std.proofs.lemmas.Bool.{eqb-false}
+use Rattle.std.proofs.Math.Dec.{leb}
+use Rattle.machine.specs.Machine.{pick}
+use Rattle.rules.specs.Numbers.{bad_table, bad_stream}
+use Rattle.rules.specs.Judging.{refusal, only, ◌▹◌}
+use Rattle.rules.specs.Layouts.{ring_header, ring_header_size, descriptor, descriptor_size, table_header, table_header_size, stream_header, stream_header_size}
+use Rattle.rules.specs.Headers.{wrong_header}
+use Rattle.rules.specs.Table.{header_rules, checked_table, no_table}
+use Rattle.rules.specs.Stream.{stream_rules, stream_of, no_stream}
+use Rattle.rules.specs.Ring.{present, descriptor_rules, range_rules, submission_rules, job_of, opened_of, concluded, slot_place, submission_opening, good_header, good_ring, ring_opening, opening_of}
+use Rattle.rules.specs.declared.RingHeader.{RingHeader}
 use Rattle.rules.specs.declared.Descriptor.{Descriptor}
-use Rattle.rules.specs.declared.Verdict.TheVariants.{Fine}
-use Rattle.promises_of_submissions.specs.LocalBytes.{Agree}
-use Rattle.promises_of_submissions.specs.Reads.{same-ring-header, same-descriptor, same-table-header, same-stream-header}
-use Rattle.promises_of_submissions.specs.OpeningRead.{RangesRead, SlotRead, read-opening}
+use Rattle.rules.specs.declared.TableHeader.{TableHeader}
+use Rattle.rules.specs.declared.StreamHeader.{StreamHeader}
+use Rattle.rules.specs.declared.Job.{Job}
+use Rattle.rules.specs.declared.Opened.{Opened}
+use Rattle.rules.specs.declared.Verdict.{Verdict}
+use Rattle.rules.specs.declared.Verdict.TheVariants.{Fine, Broken}
+use Rattle.rules.specs.declared.Opening.{Opening}
+use Rattle.rules.specs.declared.Opening.TheVariants.{BadRing, NoWork, Started}
+use Rattle.rule_laws.specs.Fine.{broken-not-fine, both_left, both_right}
+use Rattle.promises_of_submissions.specs.LocalBytes.{Agree, same-ring-header, same-descriptor, same-table-header, same-stream-header}
+
+-- the rules of a table that is present, if one is
+abbrev pub table_fine : List ℕ → Descriptor → Verdict
+table_fine m d = only (present d.tablesize) (header_rules d.tablesize (table_header m d.table))
+
+-- and those of a stream
+abbrev pub stream_fine : List ℕ → Descriptor → Verdict
+stream_fine m d = only (present d.cmdsize) (stream_rules d.cmdsize (stream_header m d.cmd))
 
 -- of the ranges that a descriptor names: the table's header, and the stream's if the table's is good
 pub record SameRanges (m m' : List ℕ) (d : Descriptor) : Type 0 where
@@ -26,25 +52,135 @@ pub record SameOpening (m m' : List ℕ) (ring size : ℕ) : Type 0 where
   pub pending : good_ring m ring size ≡ true → ((ring_header m ring).head ≡ (ring_header m ring).tail → ⊥)
       → SameSlot m m' (slot_place ring (ring_header m ring)) (ring_header m ring).stride
 
--- ---- the same bytes say the same
+-- ---- a header that a descriptor leads to, the table's or the stream's: a range that is too small for it is refused without a look at it
 
-module _ (m m' : List ℕ) where
-  same-ranges : (d : Descriptor) → SameRanges m m' d → RangesRead m m' d
-  same-ranges d same =
-      record {
-        table = λ h. same-table-header m m' d.table (same.table h);
-        stream = λ f h. same-stream-header m m' d.cmd (same.stream f h);
-      }
+module _ {H : Type 0} (rules : H → Verdict) (code least size : ℕ) (small : ltb size least ≡ true → (y : H) → rules y ≡ Broken (refusal code))
+    (x x' : H) (same : least ≤ size → x ≡ x') where
+  same-rules : only (present size) (rules x) ≡ only (present size) (rules x')
+  same-rules = by_test (ltb size least) refl
+    where
+      by_test : (t : Bool) → ltb size least ≡ t → only (present size) (rules x) ≡ only (present size) (rules x')
+      by_test true t = rw (small t x, small t x')
+      by_test false t = rw (same (ltb-false size least t))
 
-  same-slot : (at stride : ℕ) → SameSlot m m' at stride → SlotRead m m' at stride
-  same-slot at stride same =
-      record { slot = same-descriptor m m' at same.slot; ranges = λ f g. same-ranges (descriptor m at) (same.ranges f g) }
+  same_kept : {K : Type 0} (of : H → K) (none : K) → only (present size) (rules x) ≡ Fine → pick (present size) (of x) none ≡ pick (present size) (of x') none
+  same_kept of none h = by_tests (present size) (ltb size least) refl h
+    where
+      by_tests : (a b : Bool) → ltb size least ≡ b → only a (rules x) ≡ Fine → pick a (of x) none ≡ pick a (of x') none
+      by_tests true true t k = absurd (broken-not-fine (refusal code) (sym (small t x) ∙ k))
+      by_tests a false t k = rw (same (ltb-false size least t))
+      by_tests false true t k = refl
 
-  -- the same opening, whatever the other bytes are
-  pub same-opening : length m ≡ length m' → (ring size : ℕ) → SameOpening m m' ring size → opening_of m ring size ≡ opening_of m' ring size
-  same-opening len ring size same =
-      read-opening m m' len ring size
-      (record {
-        header = λ h k. same-ring-header m m' ring (same.header h k);
-        pending = λ good some. same-slot (slot_place ring (ring_header m ring)) (ring_header m ring).stride (same.pending good some);
-      })
+small-table : (size : ℕ) → ltb size table_header_size ≡ true → (h : TableHeader) → header_rules size h ≡ Broken (refusal bad_table)
+unfolding header_rules wrong_header
+small-table size t h = rw t
+
+small-stream : (size : ℕ) → ltb size stream_header_size ≡ true → (h : StreamHeader) → stream_rules size h ≡ Broken (refusal bad_stream)
+unfolding stream_rules wrong_header
+small-stream size t h = rw t
+
+-- ---- a submission
+
+module _ (m m' : List ℕ) (d : Descriptor) (same : SameRanges m m' d) where
+  table_same : table_header_size ≤ d.tablesize → table_header m d.table ≡ table_header m' d.table
+  table_same h = same-table-header m m' d.table (same.table h)
+
+  stream-same : table_fine m d ≡ Fine → stream_header_size ≤ d.cmdsize → stream_header m d.cmd ≡ stream_header m' d.cmd
+  stream-same f h = same-stream-header m m' d.cmd (same.stream f h)
+
+  same-table-rules : table_fine m d ≡ table_fine m' d
+  same-table-rules =
+      same-rules (header_rules d.tablesize) bad_table table_header_size d.tablesize (small-table d.tablesize)
+      (table_header m d.table) (table_header m' d.table) table_same
+
+  same-stream-rules : table_fine m d ≡ Fine → stream_fine m d ≡ stream_fine m' d
+  same-stream-rules f =
+      same-rules (stream_rules d.cmdsize) bad_stream stream_header_size d.cmdsize (small-stream d.cmdsize)
+      (stream_header m d.cmd) (stream_header m' d.cmd) (stream-same f)
+
+  same-opened : (j : Job) → table_fine m d ≡ Fine → stream_fine m d ≡ Fine → opened_of m j d ≡ opened_of m' j d
+  same-opened j f g =
+      let t =
+      same_kept (header_rules d.tablesize) bad_table table_header_size d.tablesize (small-table d.tablesize)
+      (table_header m d.table) (table_header m' d.table) table_same (checked_table d.table) no_table f in
+      let s =
+      same_kept (stream_rules d.cmdsize) bad_stream stream_header_size d.cmdsize (small-stream d.cmdsize)
+      (stream_header m d.cmd) (stream_header m' d.cmd) (stream-same f) (stream_of d.cmd) no_stream g in
+      rw (t, s)
+
+  -- the rules of both, and what is concluded of them
+  same-concluded : (j : Job) → concluded (table_fine m d ▹ stream_fine m d) j (opened_of m j d) ≡ concluded (table_fine m' d ▹ stream_fine m' d) j (opened_of m' j d)
+  same-concluded j = rw (← same-table-rules) (by-verdict (table_fine m d) refl)
+    where
+      by-stream : (v : Verdict) → stream_fine m d ≡ v → table_fine m d ≡ Fine → concluded v j (opened_of m j d) ≡ concluded v j (opened_of m' j d)
+      by-stream Fine g f = ap (λ (o : Opened). Started o) (same-opened j f g)
+      by-stream (Broken r) g f = refl
+
+      by-verdict : (v : Verdict) → table_fine m d ≡ v → concluded (v ▹ stream_fine m d) j (opened_of m j d) ≡ concluded (v ▹ stream_fine m' d) j (opened_of m' j d)
+      by-verdict Fine f = rw (← same-stream-rules f) (by-stream (stream_fine m d) refl f)
+      by-verdict (Broken r) f = refl
+
+module _ (m m' : List ℕ) (len : length m ≡ length m') where
+  same-submission : (stride : ℕ) (j : Job) (d : Descriptor)
+      → (descriptor_rules stride d ≡ Fine → range_rules (length m) d ≡ Fine → SameRanges m m' d)
+      → submission_opening m stride j d ≡ submission_opening m' stride j d
+  unfolding submission_opening submission_rules
+  same-submission stride j d same = rw (← len) (by-verdicts (descriptor_rules stride d) (range_rules (length m) d) refl refl)
+    where
+      by-verdicts : (u v : Verdict) → descriptor_rules stride d ≡ u → range_rules (length m) d ≡ v
+          → concluded (u ▹ v ▹ table_fine m d ▹ stream_fine m d) j (opened_of m j d) ≡ concluded (u ▹ v ▹ table_fine m' d ▹ stream_fine m' d) j (opened_of m' j d)
+      by-verdicts Fine Fine p q = same-concluded m m' d (same p q) j
+      by-verdicts Fine (Broken r) p q = refl
+      by-verdicts (Broken r) v p q = refl
+
+  -- ---- the ring
+
+  module _ (ring size : ℕ) (same : SameOpening m m' ring size) where
+    abbrev header : RingHeader
+    header = ring_header m ring
+
+    same_good : good_ring m ring size ≡ good_ring m' ring size
+    unfolding good_ring
+    same_good = rw (← len) (by_tests (leb ring_header_size size) (leb (ring + size) (length m)) refl refl)
+      where
+        by_tests : (a b : Bool) → leb ring_header_size size ≡ a → leb (ring + size) (length m) ≡ b
+            → a && (b && good_header size (ring_header m ring)) ≡ a && (b && good_header size (ring_header m' ring))
+        by_tests true true p q =
+            ap (good_header size) (same-ring-header m m' ring (same.header (leb-true ring_header_size size p) (leb-true (ring + size) (length m) q)))
+        by_tests true false p q = refl
+        by_tests false b p q = refl
+
+    module _ (good : good_ring m ring size ≡ true) where
+      same-header : header ≡ ring_header m' ring
+      unfolding good_ring
+      same-header =
+          same-ring-header m m' ring
+          (same.header (leb-true ring_header_size size (both_left _ _ good))
+          (leb-true (ring + size) (length m) (both_left _ _ (both_right (leb ring_header_size size) _ good))))
+
+      same-slot : ring_opening m ring header ≡ ring_opening m' ring header
+      unfolding ring_opening
+      same-slot = by_test (eqb header.head header.tail) refl
+        where
+          place : ℕ
+          place = slot_place ring header
+
+          opened : List ℕ → Descriptor → Opening
+          opened l d = submission_opening l header.stride (job_of ring header d) d
+
+          by_test : (t : Bool) → eqb header.head header.tail ≡ t
+              → pick t NoWork (opened m (descriptor m place)) ≡ pick t NoWork (opened m' (descriptor m' place))
+          by_test true t = refl
+          by_test false t =
+              let slot : SameSlot m m' place header.stride = same.pending good (eqb-false header.head header.tail t) in
+              same-submission header.stride (job_of ring header (descriptor m place)) (descriptor m place) slot.ranges
+              ∙ ap (opened m') (same-descriptor m m' place slot.slot)
+
+    -- the same opening, whatever stands elsewhere
+    pub same-opening : opening_of m ring size ≡ opening_of m' ring size
+    unfolding opening_of
+    same-opening = rw (← same_good) (by_test (good_ring m ring size) refl)
+      where
+        by_test : (t : Bool) → good_ring m ring size ≡ t → pick t (ring_opening m ring header) BadRing ≡ pick t (ring_opening m' ring (ring_header m' ring)) BadRing
+        by_test true t = same-slot t ∙ ap (ring_opening m' ring) (same-header t)
+        by_test false t = refl

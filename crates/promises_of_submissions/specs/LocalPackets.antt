@@ -15,8 +15,7 @@ use Rattle.rules.specs.declared.Packet.{Packet}
 use Rattle.rules.specs.declared.Frame.{Frame}
 use Rattle.rules.specs.declared.Frame.TheVariants.{Whole, Misframed}
 use Rattle.stream_packets.specs.Framing.{FrameFits, frame-sound}
-use Rattle.promises_of_submissions.specs.LocalBytes.{Agree, front_read, same_first, same-field}
-use Rattle.promises_of_submissions.specs.Reads.{packet-reads-only}
+use Rattle.promises_of_submissions.specs.LocalBytes.{Agree, front_read, same_first, same-field, packet-reads-only}
 
 -- two memories hold the same bytes where the unit of the packet at a place of the stream reads: its header if one is left, and of a framed
 -- packet as many bytes as its opcode's row has, which are none for an unknown one

@@ -26,8 +26,7 @@ use Rattle.rules.specs.declared.Opened.{Opened}
 use Rattle.rules.specs.declared.Ended.TheVariants.{Idle}
 use Rattle.rules.specs.declared.Opening.{Opening}
 use Rattle.rules.specs.declared.Opening.TheVariants.{BadRing, NoWork, Refused, Started}
-use Rattle.promises_of_submissions.specs.LocalBytes.{Agree}
-use Rattle.promises_of_submissions.specs.Reads.{same-entry}
+use Rattle.promises_of_submissions.specs.LocalBytes.{Agree, same-entry}
 use Rattle.promises_of_submissions.specs.LocalWrites.{SameWrites, AgreeAt, same-writes-agree}
 use Rattle.promises_of_submissions.specs.LocalWrites.SameWrites.{unwritten, settles}
 use Rattle.promises_of_submissions.specs.LocalPackets.{SamePacket, same-next-frame, same-taken-packet}

@@ -7,7 +7,8 @@ use Rattle.rules.specs.Fields.FieldType.{U32, U64, F32, I32}
 use Rattle.rules.specs.Layouts.{signed, stream_header, stream_header_size}
 use Rattle.rules.specs.Lists.{Found}
 use Rattle.rules.specs.Lists.Found.{none, found}
-use Rattle.rules.specs.Stream.{Known, known, stream_rules, frame_of, size_of, packet_of}
+use Rattle.rules.specs.Stream.{stream_rules, frame_of, size_of, packet_of}
+use Rattle.rules.specs.PacketRows.{PacketRow, packet_row}
 use Rattle.rules.specs.declared.Refusal.{Refusal}
 use Rattle.rules.specs.declared.Verdict.{Verdict}
 use Rattle.rules.specs.declared.Verdict.TheVariants.{Fine, Broken}
@@ -47,7 +48,7 @@ abbrev pub opcode_text : ℕ → List ℕ
 opcode_text op = field_text "opcode" (decimal op) end_of_line
 
 -- the line of a packet by its row: the name and the fields are those of the table of opcodes
-abbrev pub line_in : Found Known → ℕ → ℕ → ℕ → List ℕ → List ℕ
+abbrev pub line_in : Found PacketRow → ℕ → ℕ → ℕ → List ℕ → List ℕ
 line_in none at op size b = line at "UNKNOWN" size (opcode_text op)
 line_in (found k) at op size b = line at k.name size (fields_text k.layout b)
 
@@ -62,7 +63,7 @@ pub record Listed : Type 0 where
 
 -- "a line a packet"
 unfoldable pub line_of : Listed → List ℕ
-line_of p = line_in (known p.opcode) p.at p.opcode p.size p.bytes
+line_of p = line_in (packet_row p.opcode) p.at p.opcode p.size p.bytes
 
 -- how a listing ends: with the stream; "stops there with a line naming it"; "A bad header or packet ends the listing with its error number"
 pub data Ending : Type 0 where

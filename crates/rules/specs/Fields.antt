@@ -1,5 +1,5 @@
--- The named fields of a layout, a row a field: its reader reads these rows, and they are what is listed (02, wish 12). Two numbers are also read by their
--- offset alone: a packet's opcode and size, and the head that a settling writes.
+-- The named fields of a layout, a row a field: its reader reads the numbers of these rows (ByLayout.antt), and they are what is listed (02, wish 12). Two
+-- numbers are also read by their offset alone: a packet's opcode and size, and the head that a settling writes.
 use Rattle.std.specs.Prelude.{List, [], ◌∷◌, ℕ, zero, suc, ◌+◌, get_or}
 use Prim.Native.String.{String}
 use Rattle.rules.specs.Bytes.{field}

@@ -1,9 +1,10 @@
--- 01, "Layouts", and the "House layouts" of 02, wishes 5 and 7: the offset, type and name of each field. Bytes not named are ignored.
-use Rattle.std.specs.Prelude.{Bool, List, [], ◌∷◌, ◌++◌, ℕ, ◌+◌, ◌-◌, ◌/◌, eqb, ltb, ℤ, pos, negsuc, take, drop}
+-- 01, "Layouts", and the "House layouts" of 02, wishes 5 and 7: where each field stands. Bytes not named are ignored.
+-- Beside each reader stands the list of its fields: the offset, type and name of each.
+use Rattle.std.specs.Prelude.{Bool, List, [], ◌∷◌, ◌++◌, ℕ, ◌+◌, ◌-◌, ◌/◌, eqb, ltb, ℤ, pos, negsuc}
 use Rattle.machine.specs.Machine.{pick}
 use Rattle.rules.specs.Numbers.{page_magic, version, minors, good_major}
 use Rattle.rules.specs.Bytes.{field, bytes_of}
-use Rattle.rules.specs.Fields.{Field, u32, u64, f32, i32, numbers_of, nth_of}
+use Rattle.rules.specs.Fields.{Field, u32, u64, f32, i32}
 use Rattle.rules.specs.Floats.{float_of}
 use Rattle.rules.specs.declared.RingHeader.{RingHeader}
 use Rattle.rules.specs.declared.Descriptor.{Descriptor}
@@ -42,13 +43,13 @@ ring_header_layout =
 unfoldable pub ring_header : List ℕ → ℕ → RingHeader
 ring_header m at =
     record {
-      magic = nth_of ring_header_layout m at 0;
-      version = nth_of ring_header_layout m at 1;
-      size = nth_of ring_header_layout m at 2;
-      count = nth_of ring_header_layout m at 3;
-      stride = nth_of ring_header_layout m at 4;
-      head = nth_of ring_header_layout m at 5;
-      tail = nth_of ring_header_layout m at 6;
+      magic = word m at;
+      version = word m (at + 4);
+      size = word m (at + 8);
+      count = word m (at + 12);
+      stride = word m (at + 16);
+      head = word m (at + 24);
+      tail = word m (at + 28);
     }
 
 abbrev pub ring_header_size : ℕ
@@ -72,13 +73,13 @@ descriptor_layout =
 unfoldable pub descriptor : List ℕ → ℕ → Descriptor
 descriptor m at =
     record {
-      size = nth_of descriptor_layout m at 0;
-      flags = nth_of descriptor_layout m at 1;
-      cmd = nth_of descriptor_layout m at 2;
-      cmdsize = nth_of descriptor_layout m at 3;
-      table = nth_of descriptor_layout m at 4;
-      tablesize = nth_of descriptor_layout m at 5;
-      signal = nth_of descriptor_layout m at 6;
+      size = word m at;
+      flags = word m (at + 4);
+      cmd = long m (at + 16);
+      cmdsize = word m (at + 24);
+      table = long m (at + 32);
+      tablesize = word m (at + 40);
+      signal = long m (at + 48);
     }
 
 abbrev pub descriptor_size : ℕ
@@ -91,11 +92,11 @@ table_header_layout = u32 0 "magic" ∷ u32 4 "version" ∷ u32 8 "size" ∷ u32
 unfoldable pub table_header : List ℕ → ℕ → TableHeader
 table_header m at =
     record {
-      magic = nth_of table_header_layout m at 0;
-      version = nth_of table_header_layout m at 1;
-      size = nth_of table_header_layout m at 2;
-      count = nth_of table_header_layout m at 3;
-      stride = nth_of table_header_layout m at 4;
+      magic = word m at;
+      version = word m (at + 4);
+      size = word m (at + 8);
+      count = word m (at + 12);
+      stride = word m (at + 16);
     }
 
 abbrev pub table_header_size : ℕ
@@ -108,10 +109,10 @@ entry_layout = u32 0 "id" ∷ u32 4 "flags" ∷ u64 8 "gpa" ∷ u64 16 "size" �
 unfoldable pub entry : List ℕ → ℕ → Entry
 entry m at =
     record {
-      id = nth_of entry_layout m at 0;
-      flags = nth_of entry_layout m at 1;
-      gpa = nth_of entry_layout m at 2;
-      size = nth_of entry_layout m at 3;
+      id = word m at;
+      flags = word m (at + 4);
+      gpa = long m (at + 8);
+      size = long m (at + 16);
     }
 
 abbrev pub entry_size : ℕ
@@ -122,12 +123,7 @@ abbrev pub stream_header_layout : List Field
 stream_header_layout = u32 0 "magic" ∷ u32 4 "version" ∷ u32 8 "size" ∷ []
 
 unfoldable pub stream_header : List ℕ → ℕ → StreamHeader
-stream_header m at =
-    record {
-      magic = nth_of stream_header_layout m at 0;
-      version = nth_of stream_header_layout m at 1;
-      size = nth_of stream_header_layout m at 2;
-    }
+stream_header m at = record { magic = word m at; version = word m (at + 4); size = word m (at + 8) }
 
 abbrev pub stream_header_size : ℕ
 stream_header_size = 24
@@ -146,13 +142,7 @@ abbrev pub buffer_layout : List Field
 buffer_layout = u32 8 "handle" ∷ u64 16 "size" ∷ u32 24 "backing_id" ∷ u32 28 "backing_offset" ∷ []
 
 unfoldable pub buffer_fields : List ℕ → CreateBuffer
-buffer_fields b =
-    record {
-      handle = nth_of buffer_layout b 0 0;
-      size = nth_of buffer_layout b 0 1;
-      backing = nth_of buffer_layout b 0 2;
-      offset = nth_of buffer_layout b 0 3;
-    }
+buffer_fields b = record { handle = word b 8; size = long b 16; backing = word b 24; offset = word b 28 }
 
 -- create texture, 56: "8 handle, 16 format, 20 width, 24 height, 28 mips, 32 layers, 36 pitch, 40 backing id, 44 backing offset"
 abbrev pub texture_layout : List Field
@@ -171,17 +161,11 @@ texture_layout =
 unfoldable pub texture_fields : List ℕ → CreateTexture
 texture_fields b =
     record {
-      handle = nth_of texture_layout b 0 0;
-      shape = record {
-        format = nth_of texture_layout b 0 1;
-        width = nth_of texture_layout b 0 2;
-        height = nth_of texture_layout b 0 3;
-        mips = nth_of texture_layout b 0 4;
-        layers = nth_of texture_layout b 0 5;
-      };
-      pitch = nth_of texture_layout b 0 6;
-      backing = nth_of texture_layout b 0 7;
-      offset = nth_of texture_layout b 0 8;
+      handle = word b 8;
+      shape = record { format = word b 16; width = word b 20; height = word b 24; mips = word b 28; layers = word b 32 };
+      pitch = word b 36;
+      backing = word b 40;
+      offset = word b 44;
     }
 
 -- destroy, 16: "8 handle"
@@ -189,15 +173,14 @@ abbrev pub destroy_layout : List Field
 destroy_layout = u32 8 "handle" ∷ []
 
 unfoldable pub destroy_fields : List ℕ → DestroyResource
-destroy_fields b = record { handle = nth_of destroy_layout b 0 0 }
+destroy_fields b = record { handle = word b 8 }
 
 -- dirty range, 32: "8 handle, 16 offset u64, 24 size u64"
 abbrev pub dirty_layout : List Field
 dirty_layout = u32 8 "handle" ∷ u64 16 "offset" ∷ u64 24 "size" ∷ []
 
 unfoldable pub dirty_fields : List ℕ → DirtyRange
-dirty_fields b =
-    record { handle = nth_of dirty_layout b 0 0; offset = nth_of dirty_layout b 0 1; size = nth_of dirty_layout b 0 2 }
+dirty_fields b = record { handle = word b 8; offset = long b 16; size = long b 24 }
 
 -- copy buffer, 48: "8 dst, 12 src, 16 dst offset u64, 24 src offset u64, 32 size u64, 40 flags (bit 0 writeback)"
 abbrev pub copy_layout : List Field
@@ -206,12 +189,12 @@ copy_layout = u32 8 "dst" ∷ u32 12 "src" ∷ u64 16 "dst_offset" ∷ u64 24 "s
 unfoldable pub copy_fields : List ℕ → CopyBuffer
 copy_fields b =
     record {
-      dst = nth_of copy_layout b 0 0;
-      src = nth_of copy_layout b 0 1;
-      dstoffset = nth_of copy_layout b 0 2;
-      srcoffset = nth_of copy_layout b 0 3;
-      size = nth_of copy_layout b 0 4;
-      flags = nth_of copy_layout b 0 5;
+      dst = word b 8;
+      src = word b 12;
+      dstoffset = long b 16;
+      srcoffset = long b 24;
+      size = long b 32;
+      flags = word b 40;
     }
 
 -- ---- those of 02, wish 7
@@ -221,27 +204,27 @@ abbrev pub target_layout : List Field
 target_layout = u32 8 "handle" ∷ []
 
 unfoldable pub target_fields : List ℕ → SetTarget
-target_fields b = record { handle = nth_of target_layout b 0 0 }
+target_fields b = record { handle = word b 8 }
 
 -- viewport, 32: "six f32 from 8 (x, y, width, height, near, far)": their bits, and the floats
 abbrev pub viewport_layout : List Field
 viewport_layout = f32 8 "x" ∷ f32 12 "y" ∷ f32 16 "width" ∷ f32 20 "height" ∷ f32 24 "near" ∷ f32 28 "far" ∷ []
 
 abbrev pub viewport_floats : List ℕ → List ℕ
-viewport_floats b = numbers_of viewport_layout b 0
+viewport_floats b = word b 8 ∷ word b 12 ∷ word b 16 ∷ word b 20 ∷ word b 24 ∷ word b 28 ∷ []
 
 unfoldable pub viewport_fields : List ℕ → SetViewport
 viewport_fields b =
     record {
-      x = float_of (nth_of viewport_layout b 0 0);
-      y = float_of (nth_of viewport_layout b 0 1);
-      width = float_of (nth_of viewport_layout b 0 2);
-      height = float_of (nth_of viewport_layout b 0 3);
-      near = float_of (nth_of viewport_layout b 0 4);
-      far = float_of (nth_of viewport_layout b 0 5);
+      x = float_of (word b 8);
+      y = float_of (word b 12);
+      width = float_of (word b 16);
+      height = float_of (word b 20);
+      near = float_of (word b 24);
+      far = float_of (word b 28);
     }
 
--- a u32 read as an i32: from 2 ^ 31 up it is negative, and 4294967295 is -1
+-- an i32: from 2 ^ 31 on, the middle of the u32s, it is negative, and their last is -1
 unfoldable pub signed : ℕ → ℤ
 signed n = pick (ltb n 2147483648) (pos n) (negsuc (4294967295 - n))
 
@@ -251,12 +234,7 @@ scissor_layout = i32 8 "x" ∷ i32 12 "y" ∷ i32 16 "width" ∷ i32 20 "height"
 
 unfoldable pub scissor_fields : List ℕ → SetScissor
 scissor_fields b =
-    record {
-      x = signed (nth_of scissor_layout b 0 0);
-      y = signed (nth_of scissor_layout b 0 1);
-      width = signed (nth_of scissor_layout b 0 2);
-      height = signed (nth_of scissor_layout b 0 3);
-    }
+    record { x = signed (word b 8); y = signed (word b 12); width = signed (word b 16); height = signed (word b 20) }
 
 -- clear, 36: "flags, four f32 colour, f32 depth, u32 stencil", from 8 on
 abbrev pub clear_layout : List Field
@@ -271,18 +249,18 @@ clear_layout =
     ∷ []
 
 abbrev pub clear_floats : List ℕ → List ℕ
-clear_floats b = take 5 (drop 1 (numbers_of clear_layout b 0))
+clear_floats b = word b 12 ∷ word b 16 ∷ word b 20 ∷ word b 24 ∷ word b 28 ∷ []
 
 unfoldable pub clear_fields : List ℕ → ClearValues
 clear_fields b =
     record {
-      flags = nth_of clear_layout b 0 0;
-      red = float_of (nth_of clear_layout b 0 1);
-      green = float_of (nth_of clear_layout b 0 2);
-      blue = float_of (nth_of clear_layout b 0 3);
-      alpha = float_of (nth_of clear_layout b 0 4);
-      depth = float_of (nth_of clear_layout b 0 5);
-      stencil = nth_of clear_layout b 0 6;
+      flags = word b 8;
+      red = float_of (word b 12);
+      green = float_of (word b 16);
+      blue = float_of (word b 20);
+      alpha = float_of (word b 24);
+      depth = float_of (word b 28);
+      stencil = word b 32;
     }
 
 -- ---- those of 02, wish 5
@@ -292,17 +270,17 @@ abbrev pub share_layout : List Field
 share_layout = u32 8 "handle" ∷ u64 16 "token" ∷ []
 
 unfoldable pub export_fields : List ℕ → ExportSurface
-export_fields b = record { handle = nth_of share_layout b 0 0; token = nth_of share_layout b 0 1 }
+export_fields b = record { handle = word b 8; token = long b 16 }
 
 unfoldable pub import_fields : List ℕ → ImportSurface
-import_fields b = record { handle = nth_of share_layout b 0 0; token = nth_of share_layout b 0 1 }
+import_fields b = record { handle = word b 8; token = long b 16 }
 
 -- "1810 release, 16 bytes, token at 8"
 abbrev pub release_layout : List Field
 release_layout = u64 8 "token" ∷ []
 
 unfoldable pub release_fields : List ℕ → ReleaseToken
-release_fields b = record { token = nth_of release_layout b 0 0 }
+release_fields b = record { token = long b 8 }
 
 -- ---- the fence page
 

@@ -5,9 +5,11 @@ pub mod Floats
 pub mod Lists
 pub mod Judging
 pub mod Layouts
+pub mod ByLayout
 pub mod Headers
 pub mod Table
 pub mod Stream
+pub mod PacketRows
 pub mod Ring
 pub mod Shapes
 pub mod StatePackets

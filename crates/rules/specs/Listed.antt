@@ -9,11 +9,11 @@ use Rattle.rules.specs.Layouts.{ring_header, ring_header_size, ring_header_layou
 use Rattle.rules.specs.Lists.{Found}
 use Rattle.rules.specs.Lists.Found.{none, found}
 use Rattle.rules.specs.Table.{header_rules, entry_place}
-use Rattle.rules.specs.Stream.{Known, known, frame_of, size_of, left}
+use Rattle.rules.specs.Stream.{frame_of, size_of, left}
+use Rattle.rules.specs.PacketRows.{PacketRow, packet_row}
 use Rattle.rules.specs.Ring.{present, descriptor_rules, range_rules, good_ring, slot_place, opening_of}
 use Rattle.rules.specs.State.{Work, State}
 use Rattle.rules.specs.State.Work.{resting, entries, packets, waiting}
-use Rattle.rules.specs.declared.RingHeader.{RingHeader}
 use Rattle.rules.specs.declared.Descriptor.{Descriptor}
 use Rattle.rules.specs.declared.Registers.{Registers}
 use Rattle.rules.specs.declared.Table.{Table}
@@ -39,12 +39,12 @@ placed base [] = []
 placed base (f ∷ fs) = record { at = base + f.at; width = width_of f.type } ∷ placed base fs
 
 -- the fields of a packet by its opcode; an unknown one has none
-abbrev pub layout_in : Found Known → List Field
+abbrev pub layout_in : Found PacketRow → List Field
 layout_in none = []
 layout_in (found k) = k.layout
 
 unfoldable pub packet_layout : ℕ → List Field
-packet_layout op = layout_in (known op)
+packet_layout op = layout_in (packet_row op)
 
 abbrev pub where_true : Bool → List Named → List Named
 where_true t l = pick t l []

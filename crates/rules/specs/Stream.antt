@@ -1,11 +1,9 @@
 -- 01, "Open" 16, and the framing of "Packet": the command stream.
 use Rattle.std.specs.Prelude.{not, List, [], ◌∷◌, ℕ, zero, suc, ◌+◌, ◌%◌, ltb, eqb, length, take, drop}
-use Prim.Native.String.{String}
 use Rattle.machine.specs.Machine.{pick}
 use Rattle.rules.specs.Numbers.{bad_stream, bad_packet, stream_magic, create_buffer, create_texture, destroy, dirty_range, copy_buffer, set_target, set_viewport, set_scissor, clear, export_surface, import_surface, release_token, create_buffer_size, create_texture_size, destroy_size, dirty_range_size, copy_buffer_size, set_target_size, set_viewport_size, set_scissor_size, clear_size, export_surface_size, import_surface_size, release_token_size}
 use Rattle.rules.specs.Judging.{rule, ◌▹◌}
-use Rattle.rules.specs.Fields.{Field}
-use Rattle.rules.specs.Layouts.{word, stream_header_size, packet_header_size, buffer_layout, texture_layout, destroy_layout, dirty_layout, copy_layout, target_layout, viewport_layout, scissor_layout, clear_layout, share_layout, release_layout, buffer_fields, texture_fields, destroy_fields, dirty_fields, copy_fields, target_fields, viewport_floats, viewport_fields, scissor_fields, clear_floats, clear_fields, export_fields, import_fields, release_fields}
+use Rattle.rules.specs.Layouts.{word, stream_header_size, packet_header_size, buffer_fields, texture_fields, destroy_fields, dirty_fields, copy_fields, target_fields, viewport_floats, viewport_fields, scissor_fields, clear_floats, clear_fields, export_fields, import_fields, release_fields}
 use Rattle.rules.specs.Floats.{nan_among}
 use Rattle.rules.specs.Headers.{wrong_header}
 use Rattle.rules.specs.Lists.{Found}
@@ -34,38 +32,35 @@ no_stream = record { gpa = 0; size = 0 }
 
 -- ---- one packet: the table of opcodes
 
--- a known packet: its name, its table size, its layout, and the reader of its bytes
+-- a packet that we know: its bytes, and what they say
 pub record Known : Type 0 where
-  pub name : String
   pub size : ℕ
-  pub layout : List Field
   pub fields : List ℕ → Packet
 
-abbrev pub row : String → ℕ → List Field → (List ℕ → Packet) → Found Known
-row name size layout fields = found (record { name = name; size = size; layout = layout; fields = fields })
+abbrev pub row : ℕ → (List ℕ → Packet) → Found Known
+row size fields = found (record { size = size; fields = fields })
 
--- a packet with floats: if one of them is a NaN, the packet is a case of its own
+-- a packet that has floats, these by their bits: one with a NaN among them is a case of its own
 abbrev pub unless_nan : List ℕ → Packet → Packet
 unless_nan floats p = pick (nan_among floats) NotANumber p
 
 -- "Opcode | Packet, bytes | Fields": each row once. The last seven are those of wishes 7 and 5.
 unfoldable pub known : ℕ → Found Known
 known op =
-    pick (eqb op create_buffer) (row "CreateBuffer" create_buffer_size buffer_layout (λ b. Buffer (buffer_fields b)))
-    (pick (eqb op create_texture) (row "CreateTexture" create_texture_size texture_layout (λ b. Texture (texture_fields b)))
-    (pick (eqb op destroy) (row "Destroy" destroy_size destroy_layout (λ b. Destroy (destroy_fields b)))
-    (pick (eqb op dirty_range) (row "DirtyRange" dirty_range_size dirty_layout (λ b. Dirty (dirty_fields b)))
-    (pick (eqb op copy_buffer) (row "CopyBuffer" copy_buffer_size copy_layout (λ b. Copy (copy_fields b)))
-    (pick (eqb op set_target) (row "Target" set_target_size target_layout (λ b. Target (target_fields b)))
-    (pick (eqb op set_viewport)
-    (row "Viewport" set_viewport_size viewport_layout (λ b. unless_nan (viewport_floats b) (Viewport (viewport_fields b))))
-    (pick (eqb op set_scissor) (row "Scissor" set_scissor_size scissor_layout (λ b. Scissor (scissor_fields b)))
-    (pick (eqb op clear) (row "Clear" clear_size clear_layout (λ b. unless_nan (clear_floats b) (Clear (clear_fields b))))
-    (pick (eqb op export_surface) (row "Export" export_surface_size share_layout (λ b. Export (export_fields b)))
-    (pick (eqb op import_surface) (row "Import" import_surface_size share_layout (λ b. Import (import_fields b)))
-    (pick (eqb op release_token) (row "Release" release_token_size release_layout (λ b. Release (release_fields b))) none)))))))))))
+    pick (eqb op create_buffer) (row create_buffer_size (λ b. Buffer (buffer_fields b)))
+    (pick (eqb op create_texture) (row create_texture_size (λ b. Texture (texture_fields b)))
+    (pick (eqb op destroy) (row destroy_size (λ b. Destroy (destroy_fields b)))
+    (pick (eqb op dirty_range) (row dirty_range_size (λ b. Dirty (dirty_fields b)))
+    (pick (eqb op copy_buffer) (row copy_buffer_size (λ b. Copy (copy_fields b)))
+    (pick (eqb op set_target) (row set_target_size (λ b. Target (target_fields b)))
+    (pick (eqb op set_viewport) (row set_viewport_size (λ b. unless_nan (viewport_floats b) (Viewport (viewport_fields b))))
+    (pick (eqb op set_scissor) (row set_scissor_size (λ b. Scissor (scissor_fields b)))
+    (pick (eqb op clear) (row clear_size (λ b. unless_nan (clear_floats b) (Clear (clear_fields b))))
+    (pick (eqb op export_surface) (row export_surface_size (λ b. Export (export_fields b)))
+    (pick (eqb op import_surface) (row import_surface_size (λ b. Import (import_fields b)))
+    (pick (eqb op release_token) (row release_token_size (λ b. Release (release_fields b))) none)))))))))))
 
--- the table size of a row, 0 for an unknown opcode; and the packet that these bytes hold. "Unknown opcodes are skipped."
+-- the bytes of a row, 0 where there is none, which are the least that its packet has; and what a packet's own bytes say. "Unknown opcodes are skipped."
 abbrev pub bytes_in : Found Known → ℕ
 bytes_in none = 0
 bytes_in (found k) = k.size
@@ -82,7 +77,7 @@ packet_of op b = says_in (known op) b
 
 -- "17: 1 to 7 bytes left; size below 8, not a multiple of 4, or past the end"; and by wish 2: "A known packet is good from its table size
 -- upward, still a multiple of 4 and inside the stream, and the extra bytes are ignored. Shorter ones keep 17."
--- Applied to the rest of the stream.
+-- Put to the bytes that are left of a stream.
 unfoldable pub frame_rules : List ℕ → Verdict
 frame_rules b =
     rule bad_packet (ltb (length b) packet_header_size)
@@ -108,7 +103,7 @@ left m s at = drop at (stream_bytes m s)
 
 -- ---- the stream as a list
 
--- a packet, or the refusal of a misframed one, with its offset in the stream
+-- a packet, or what is none, each with its offset in the stream
 pub data Piece : Type 0 where
   packet : ℕ → Packet → Piece
   misframed : ℕ → Refusal → Piece

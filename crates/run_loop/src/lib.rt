@@ -1,5 +1,7 @@
 // A run on the device's words, turn by turn: an opening is one unit, a phase as many as the allowance and its own length let.
 // So the hot loops are the phases', and the contract is still unit by unit.
+#![tactic(auto)]
+
 ghost use Rattle.std.specs.Prelude.{◌<◌};
 ghost use Rattle.run_turns.specs.Views.{TurnOf};
 ghost use Rattle.run_loop.specs.Views.{RanFor};

@@ -1,4 +1,6 @@
 // The device that the sections of a good file say. Places count from their first byte.
+#![tactic(auto)]
+
 ghost use Rattle.std.specs.Prelude.{◌≡◌, ◌+◌, ◌≤◌, length};
 ghost use Rattle.rules.specs.Numbers.{most};
 ghost use Rattle.rules.specs.Layouts.{word};
