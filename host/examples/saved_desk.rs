@@ -1,8 +1,7 @@
 //! A desk that moves from one program to another: the sample night of `play`, of which the second half is played elsewhere, with a surface
 //! that two programs of the guest share.
 //!
-//! `save FILE` plays the first half and saves the desk into FILE, guest memory into FILE.memory and the month's totals into FILE.month;
-//! `play FILE` loads the three, plays on, and merges the totals of both halves.
+//! `save FILE` plays the first half and saves the desk into FILE and guest memory into FILE.memory; `play FILE` loads both and plays on.
 //! Without words this program does the first by itself, and starts itself again for the second. What both print together is the
 //! night as `play` prints it.
 //!
@@ -12,8 +11,6 @@
 //!     cargo run --example saved_desk
 #[path = "../src/bin/play/sample.rs"]
 mod sample;
-#[path = "../src/bin/play/tally.rs"]
-mod tally;
 
 use std::env;
 use std::error::Error;
@@ -22,55 +19,26 @@ use std::fs;
 use std::io::{self, Write};
 use std::path::{Path, PathBuf};
 use std::process::{self, Command};
-use tally::Tally;
 use zelezmut::script::Player;
-use zelezmut::{Desk, Form, Month};
+use zelezmut::{Desk, Form};
 
 type Done = Result<(), Box<dyn Error>>;
 
-/// Where guest memory and the month's totals go: beside the desk.
+/// Where guest memory goes: beside the desk.
 fn memory_file(file: &Path) -> PathBuf {
-    beside(file, ".memory")
-}
-
-fn month_file(file: &Path) -> PathBuf {
-    beside(file, ".month")
-}
-
-fn beside(file: &Path, ending: &str) -> PathBuf {
     let mut name = file.as_os_str().to_os_string();
-    name.push(ending);
+    name.push(".memory");
     name.into()
 }
 
-/// The totals as bytes: 26 words, little-endian, in the published order.
-fn month_bytes(month: &Month) -> Vec<u8> {
-    let words = month.words();
-    words.iter().flat_map(|word| word.to_le_bytes()).collect()
-}
-
-/// The month of such bytes, `None` for another number of them.
-fn month_of(bytes: &[u8]) -> Option<Month> {
-    let mut words = [0; 26];
-    if bytes.len() != 8 * words.len() {
-        return None;
-    }
-    for (word, bytes) in words.iter_mut().zip(bytes.chunks_exact(8)) {
-        *word = u64::from_le_bytes(bytes.try_into().ok()?);
-    }
-    Some(Month::from_words(words))
-}
-
-/// The first half of the night. Then desk, memory and totals go to files: a surface has two names by then, and a token, so the form is 2.
+/// The first half of the night. Then desk and memory go to files: a surface has two names by then, and a token, so the form is 2.
 fn save(file: &Path, out: &mut impl Write) -> Done {
     let [first, _] = sample::halves()?;
     let mut player = Player::new(sample::MEMORY);
     sample::print_title(out)?;
-    let mut tally = Tally::default();
-    sample::play(&first, &mut player, &mut tally, out)?;
+    sample::play(&first, &mut player, out)?;
     fs::write(file, player.desk().save_as(Form::Two)?)?;
     fs::write(memory_file(file), player.memory())?;
-    fs::write(month_file(file), month_bytes(tally.month()))?;
     Ok(())
 }
 
@@ -83,13 +51,8 @@ fn play_on(file: &Path, out: &mut impl Write) -> Done {
     if memory.len() != desk.memory_len() {
         return Err("the memory is not this desk's: it has another length".into());
     }
-    let first = fs::read(month_file(file))?;
-    let mut month = month_of(&first).ok_or("the totals are not 26 words")?;
     let mut player = Player::with(desk, memory);
-    let mut tally = Tally::default();
-    sample::play(&second, &mut player, &mut tally, out)?;
-    month.merge(tally.month())?;
-    sample::print_totals(&month, out)?;
+    sample::play(&second, &mut player, out)?;
     Ok(())
 }
 
@@ -110,7 +73,6 @@ fn save_and_play_on(out: &mut impl Write) -> Done {
     save(&file, out)?;
     out.flush()?;
     let ended = myself()?.arg("play").arg(&file).status()?;
-    fs::remove_file(month_file(&file))?;
     fs::remove_file(memory_file(&file))?;
     fs::remove_file(&file)?;
     match ended.success() {

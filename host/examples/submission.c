@@ -1,5 +1,5 @@
-/* A submission from ring to fence, by the exports alone: what the crate's documentation plays in Rust. Its stream is listed before that, and
- * the device is saved behind it, and loaded as another one. From host/:
+/* A submission from ring to fence, by the exports alone: what the crate's documentation plays in Rust. Then the device is saved, and loaded
+ * as another one. From host/:
  *
  *   cc -Iinclude examples/submission.c -o submission ../target/staticlib/libzelezmut.a
  */
@@ -12,14 +12,12 @@
 #define RING 0
 #define TABLE 1024
 #define STREAM 2048
-#define STREAM_SIZE (24 + 40 + 32)
 
 static struct zelezmut_state device;
 static struct zelezmut_state moved;
 static uint8_t memory[MEMORY];
 static uint8_t file[ZELEZMUT_LONGEST_SAVED];
 static uint8_t form_2[ZELEZMUT_LONGEST_SAVED];
-static uint8_t listing[ZELEZMUT_LONGEST_LISTING(STREAM_SIZE)];
 
 /* The guest's memory is little-endian, and so is x86-64. */
 static void put32(size_t at, uint32_t value) { memcpy(memory + at, &value, sizeof value); }
@@ -41,7 +39,7 @@ static void put_submission(void) {
 
     put32(RING + 64, 64); /* the first slot */
     put64(RING + 64 + 16, STREAM);
-    put32(RING + 64 + 24, STREAM_SIZE);
+    put32(RING + 64 + 24, 24 + 40 + 32);
     put64(RING + 64 + 32, TABLE);
     put32(RING + 64 + 40, 24 + 32);
     put64(RING + 64 + 48, 1); /* the fence */
@@ -53,7 +51,7 @@ static void put_submission(void) {
     put64(TABLE + 24 + 8, 8192);
     put64(TABLE + 24 + 16, 4096);
 
-    put_header(STREAM, "ACMD", STREAM_SIZE);
+    put_header(STREAM, "ACMD", 24 + 40 + 32);
     put32(STREAM + 24, 256); /* create buffer 1: 256 bytes, 64 into entry 5 */
     put32(STREAM + 28, 40);
     put32(STREAM + 32, 1);
@@ -65,15 +63,6 @@ static void put_submission(void) {
     put32(STREAM + 72, 1);
     put64(STREAM + 80, 16);
     put64(STREAM + 88, 32);
-}
-
-/* The stream's packets in words, which a buffer of 16 bytes is too short for. */
-static void print_listing(void) {
-    uint64_t said = zelezmut_dump(memory + STREAM, STREAM_SIZE, 0, listing, 16);
-    printf("dump %u, %u bytes\n", zelezmut_dumped_answer(said), (unsigned)zelezmut_dumped_length(said));
-    said = zelezmut_dump(memory + STREAM, STREAM_SIZE, 0, listing, sizeof listing);
-    printf("dump %u, %u bytes\n", zelezmut_dumped_answer(said), (unsigned)zelezmut_dumped_length(said));
-    fwrite(listing, 1, zelezmut_dumped_length(said), stdout);
 }
 
 static void print_ran(const char *call, uint64_t said) {
@@ -113,7 +102,6 @@ int main(void) {
     if (!layout_fits())
         return 1;
     put_submission();
-    print_listing();
     zelezmut_make(device.words, MEMORY);
     printf("write %u\n", zelezmut_write(device.words, 0x100, RING));
     printf("write %u\n", zelezmut_write(device.words, 0x108, 64 + 8 * 64));

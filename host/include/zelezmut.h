@@ -161,7 +161,7 @@ uint64_t zelezmut_move(const uint8_t *file, size_t file_len, uint8_t *buffer, si
 /* Lists a raw stream as ASCII text, a line for each packet; docs/DUMP.md has the lines. The stream is any bytes, of any length: a bad header
  * or packet ends the listing with its error, and so does an unknown opcode if `strict` is not 0. The length of the text in the low 56 bits,
  * the answer in the high ones: ZELEZMUT_DONE, or ZELEZMUT_TOO_SHORT beside length 0 and with the buffer untouched. Bytes of the buffer
- * behind the length are kept, and no NUL is written behind the text. A listing may be empty. */
+ * behind the length are kept, and no NUL is written behind the text. A listing may be empty. examples/listing.c prints one. */
 uint64_t zelezmut_dump(const uint8_t *stream, size_t stream_len, uint32_t strict, uint8_t *buffer, size_t len);
 
 /* The bytes of a backed texture, 0 for a bad shape. */

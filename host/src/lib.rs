@@ -126,7 +126,7 @@
 //!
 //! [`dump::text`] lists any stream, a line for each packet, and [`dump::lines`] gives the same lines with their names and numbers. The text is
 //! the front's own, and proved. [`dump::with_arrow`] points at the packet that [`Desk::last_error`] names. The program
-//! `dump_stream FILE` prints the listing of a file.
+//! `dump_stream FILE` prints the listing of a file; `report_night` plays the sample night of `play` with listings of what was refused.
 //!
 //! # What differs between two dumps
 //!
@@ -137,6 +137,8 @@
 //!
 //! A [`Month`] has exact totals over finished submissions: accepted, refused with each error, units, bytes read and written, and the largest
 //! single write. A host feeds it each submission as it finishes, and prints it; `docs/MONTH.md` publishes the order.
+//! `report_night` ends with the totals of its night, and `examples/saved_month.rs` merges those of two halves, played by two programs:
+//! `cargo run --example saved_month`.
 //!
 //! # What a host has to know
 //!

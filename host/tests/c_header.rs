@@ -3,7 +3,8 @@ mod project;
 
 use project::{c_compiler, library_folder, said, started, Folder, Said};
 use std::path::Path;
-use zelezmut::{BadFile, Form, NotCounted, Refused, LONGEST_SAVED_DESK};
+use zelezmut::NotCounted;
+use zelezmut::{BadFile, Form, Refused, LONGEST_SAVED_DESK};
 
 /// Calls the C compiler, with every warning an error.
 fn compile(words: &[&str]) -> Said {
@@ -31,11 +32,7 @@ fn the_c_example_plays_a_submission() {
     let played = said(started(&program));
     assert_eq!(
         played.all,
-        "dump 6, 0 bytes\n\
-         dump 0, 150 bytes\n\
-         0x00000018 CreateBuffer size_bytes=40 handle=1 size=256 backing_id=5 backing_offset=64\n\
-         0x00000040 DirtyRange size_bytes=32 handle=1 offset=16 size=32\n\
-         write 0\nwrite 0\nwrite 0\nwrite 0\n\
+        "write 0\nwrite 0\nwrite 0\nwrite 0\n\
          run 0 4 waiting\n\
          record 0: kind 1, handle 1, id 5, 256 bytes at 8256\n\
          record 1: kind 2, handle 1, id 5, 32 bytes at 8272\n\
@@ -48,6 +45,30 @@ fn the_c_example_plays_a_submission() {
          fence 1\n"
     );
     assert_eq!(played.status, Some(0));
+}
+
+#[test]
+fn the_c_example_lists_a_stream() {
+    let folder = Folder::new("c-listing");
+    let program = folder.path("listing");
+    let library = Path::new(&library_folder()).join("libzelezmut.a");
+    let built = compile(&[
+        "-std=c99",
+        "examples/listing.c",
+        library.to_str().expect("a path of text"),
+        "-o",
+        program.to_str().expect("a path of text"),
+    ]);
+    assert!(built.good(), "{}", built.all);
+    let listed = said(started(&program));
+    assert_eq!(
+        listed.all,
+        "dump 6, 0 bytes\n\
+         dump 0, 150 bytes\n\
+         0x00000018 CreateBuffer size_bytes=40 handle=1 size=256 backing_id=5 backing_offset=64\n\
+         0x00000040 DirtyRange size_bytes=32 handle=1 offset=16 size=32\n"
+    );
+    assert_eq!(listed.status, Some(0));
 }
 
 /// A library of another layout: one more version, nothing else.
@@ -116,6 +137,14 @@ fn the_header_has_the_call_answers() {
         let number = number_behind(header, &format!(" ZELEZMUT_{} = ", name));
         assert_eq!(Some(number as u32), refused.number(), "{}", name);
     }
+    let bad = BadFile::GoesOn { place: 96 }.number();
+    assert_eq!(number_behind(header, " ZELEZMUT_BAD_FILE = "), bad.into());
+}
+
+/// Those of a month, likewise.
+#[test]
+fn the_header_has_the_answers_of_a_month() {
+    let header = include_str!("../include/zelezmut.h");
     for (refused, name) in [
         (NotCounted::TooMuch, "TOO_MUCH"),
         (NotCounted::BadFeed, "BAD_FEED"),
@@ -123,8 +152,6 @@ fn the_header_has_the_call_answers() {
         let number = number_behind(header, &format!(" ZELEZMUT_{} = ", name));
         assert_eq!(number as u32, refused.number(), "{}", name);
     }
-    let bad = BadFile::GoesOn { place: 96 }.number();
-    assert_eq!(number_behind(header, " ZELEZMUT_BAD_FILE = "), bad.into());
 }
 
 /// The number that stands behind these words.
@@ -138,7 +165,7 @@ fn number_behind(text: &str, words: &str) -> u64 {
 }
 
 /// What stands before each size, in Rust and in C.
-const SIZES: [(&str, &str); 9] = [
+const SIZES: [(&str, &str); 8] = [
     (
         "const LAYOUT_VERSION: u64 = ",
         "define ZELEZMUT_LAYOUT_VERSION ",
@@ -165,8 +192,53 @@ const SIZES: [(&str, &str); 9] = [
         "const RECORD_WORDS: usize = ",
         "define ZELEZMUT_RECORDS (ZELEZMUT_MOST * ",
     ),
-    ("type TotalsWords = [u64; ", "define ZELEZMUT_TOTALS "),
 ];
+
+/// The header's sizes are those of the boundary in Rust, which the library is called by in all other tests.
+#[test]
+fn the_header_has_the_sizes_of_the_boundary() {
+    let (state, boundary) = (
+        include_str!("../src/state.rs"),
+        include_str!("../src/front.rs"),
+    );
+    let header = include_str!("../include/zelezmut.h");
+    for (rust, c) in SIZES {
+        assert_eq!(
+            number_behind(state, rust),
+            number_behind(header, c),
+            "{}",
+            c
+        );
+    }
+    for line in boundary.lines().map(str::trim_start) {
+        if let Some(export) = line.strip_prefix("pub fn zelezmut_") {
+            let name = export.split('(').next().expect("a name");
+            assert!(header.contains(&format!(" zelezmut_{}(", name)), "{}", name);
+        }
+    }
+}
+
+/// The words of a month's totals likewise.
+#[test]
+fn the_header_has_the_size_of_a_months_totals() {
+    let (rust, c) = ("type TotalsWords = [u64; ", "define ZELEZMUT_TOTALS ");
+    let state = include_str!("../src/state.rs");
+    let header = include_str!("../include/zelezmut.h");
+    assert_eq!(number_behind(state, rust), number_behind(header, c));
+}
+
+/// It declares the exports that have a file of their own in Rust, too.
+#[test]
+fn the_header_has_the_exports_of_a_difference() {
+    let boundary = include_str!("../src/front/difference.rs");
+    let header = include_str!("../include/zelezmut.h");
+    for line in boundary.lines().map(str::trim_start) {
+        if let Some(export) = line.strip_prefix("pub fn zelezmut_") {
+            let name = export.split('(').next().expect("a name");
+            assert!(header.contains(&format!(" zelezmut_{}(", name)), "{}", name);
+        }
+    }
+}
 
 /// A month in C: one submission counted twice by a merge, and one refused. It exits with 0 if all is as it should be.
 const MONTH: &str = r#"
@@ -210,30 +282,4 @@ fn a_month_is_counted_in_c() {
     assert!(built.good(), "{}", built.all);
     let counted = said(started(&program));
     assert_eq!((counted.status, counted.all.as_str()), (Some(0), ""));
-}
-
-/// The header's sizes are those of the boundary in Rust, which the library is called by in all other tests.
-#[test]
-fn the_header_has_the_sizes_of_the_boundary() {
-    let state = include_str!("../src/state.rs");
-    let boundary = [
-        include_str!("../src/front.rs"),
-        include_str!("../src/front/difference.rs"),
-    ];
-    let header = include_str!("../include/zelezmut.h");
-    for (rust, c) in SIZES {
-        assert_eq!(
-            number_behind(state, rust),
-            number_behind(header, c),
-            "{}",
-            c
-        );
-    }
-    for line in boundary.iter().flat_map(|file| file.lines()) {
-        let line = line.trim_start();
-        if let Some(export) = line.strip_prefix("pub fn zelezmut_") {
-            let name = export.split('(').next().expect("a name");
-            assert!(header.contains(&format!(" zelezmut_{}(", name)), "{}", name);
-        }
-    }
 }

@@ -23,13 +23,6 @@ NEVER(zelezmut_table_error)
 NEVER(zelezmut_table_place)
 NEVER(zelezmut_load)
 NEVER(zelezmut_move)
-NEVER(zelezmut_dump)
-NEVER(zelezmut_difference_check)
-NEVER(zelezmut_difference_start)
-NEVER(zelezmut_month_make)
-NEVER(zelezmut_month_feed)
-NEVER(zelezmut_month_merge)
-NEVER(zelezmut_month_total)
 "#;
 
 /// A host whose first call is the one that it is told.
@@ -39,10 +32,6 @@ fn main() {
         Some("make") => println!("{:?}", zelezmut::Desk::new(4096)),
         Some("size") => println!("{:?}", zelezmut::packed_size(1, 5, 3, 3, 1, 20)),
         Some("move") => println!("{:?}", zelezmut::saved::move_form(&[])),
-        Some("dump") => println!("{:?}", zelezmut::dump::text(&[], false)),
-        Some("check") => println!("{:?}", zelezmut::diff::check(&[], &[])),
-        Some("diff") => println!("{:?}", zelezmut::diff::Difference::of(&[], &[]).is_ok()),
-        Some("month") => println!("{:?}", zelezmut::Month::new()),
         _ => println!("{:?}", zelezmut::table_error(&[], 64)),
     }
 }
@@ -80,9 +69,7 @@ fn a_library_of_another_layout_is_told_and_not_called() {
     put_library(&folder, "newer", &["-DLAYOUT=0x7fff0201002c0140"]);
     let built = build(&folder, "newer");
     assert!(built.good(), "{}", built.all);
-    for call in [
-        "make", "size", "move", "dump", "check", "diff", "month", "table",
-    ] {
+    for call in ["make", "size", "move", "table"] {
         let said = said(with(folder.program("emulator"), &[call]));
         assert_eq!(said.status, Some(101), "{}", said.all);
         let words = "zelezmut: the libzelezmut.a that is linked has layout 0x7fff0201002c0140, and this crate has 0x";
@@ -96,4 +83,48 @@ fn a_library_of_another_layout_is_told_and_not_called() {
     let built = build(&folder, "oldest");
     assert!(!built.good());
     assert!(built.all.contains("zelezmut_layout"), "{}", built.all);
+}
+
+/// What such a library has beside that for hosts that list, compare and count: none of these may be called either.
+const LATER_CALLS: &str = r#"
+#include <stdlib.h>
+#define LATER(name) void name(void) { exit(3); }
+LATER(zelezmut_dump)
+LATER(zelezmut_difference_check)
+LATER(zelezmut_difference_start)
+LATER(zelezmut_month_make)
+LATER(zelezmut_month_feed)
+LATER(zelezmut_month_merge)
+LATER(zelezmut_month_total)
+"#;
+
+/// A host whose first call is one of those.
+const LATER_HOST: &str = r#"
+fn main() {
+    match std::env::args().nth(1).as_deref() {
+        Some("dump") => println!("{:?}", zelezmut::dump::text(&[], false)),
+        Some("check") => println!("{:?}", zelezmut::diff::check(&[], &[])),
+        Some("diff") => println!("{:?}", zelezmut::diff::Difference::of(&[], &[]).is_ok()),
+        _ => println!("{:?}", zelezmut::Month::new()),
+    }
+}
+"#;
+
+#[test]
+fn no_later_call_is_made_to_it_either() {
+    let folder = Folder::new("layout-later");
+    folder.put_emulator("emulator", LATER_HOST);
+    folder.put("newer/later.h", LATER_CALLS);
+    let definition = "-DLAYOUT=0x7fff0201002c0140";
+    put_library(&folder, "newer", &[definition, "-include", "later.h"]);
+    let built = build(&folder, "newer");
+    assert!(built.good(), "{}", built.all);
+    for call in ["dump", "check", "diff", "month"] {
+        let said = said(with(folder.program("emulator"), &[call]));
+        assert_eq!(said.status, Some(101), "{}", said.all);
+        let words = "zelezmut: the libzelezmut.a that is linked has layout 0x7fff0201002c0140, and this crate has 0x";
+        assert!(said.all.contains(words), "{}", said.all);
+        let advice = "they are of different versions of the project. Build the library anew,";
+        assert!(said.all.contains(advice), "{}", said.all);
+    }
 }

@@ -43,7 +43,6 @@ fn desk_and_memory_go_from_one_program_to_the_other() {
     let mut saved = fs::read(&file).unwrap();
     assert_eq!((saved[0], saved.len()), (2, 272));
     assert_eq!(fs::read(folder.path("desk.memory")).unwrap().len(), 16_384);
-    assert_eq!(fs::read(folder.path("desk.month")).unwrap().len(), 208);
     // It is the file that says what is played on with: in this one the device is disabled.
     saved[36] = 0;
     fs::write(&file, saved).unwrap();
@@ -69,10 +68,5 @@ fn files_that_do_not_fit_are_told() {
     let other = play(&["play", name]);
     assert_eq!(other.status, Some(1));
     assert!(other.all.contains("another length"), "{}", other.all);
-    fs::write(folder.path("desk.memory"), [0; 16_384]).unwrap();
-    fs::write(folder.path("desk.month"), [0; 207]).unwrap();
-    let totals = play(&["play", name]);
-    assert_eq!(totals.status, Some(1));
-    assert_eq!(totals.all, "saved_desk: the totals are not 26 words\n");
     assert_eq!(play(&["sing", name]).status, Some(1));
 }

@@ -185,7 +185,7 @@ impl Random {
     }
 
     /// Spoils a few bytes where the front reads.
-    pub fn spoil(&mut self, mem: &mut [u8]) {
+    fn spoil(&mut self, mem: &mut [u8]) {
         let (start, length) = [(RING, 128), (TABLE, 120), (STREAM, 400)][self.below(3) as usize];
         let at = start + self.below(length / 4) as usize * 4;
         put32(mem, at, self.number() as u32);
@@ -210,6 +210,11 @@ pub fn disturb(random: &mut Random, scene: &mut Scene) {
             scene.answer(good);
         }
     }
+}
+
+/// A few bytes of a scene are spoiled where the front reads.
+pub fn spoil(random: &mut Random, scene: &mut Scene) {
+    random.spoil(&mut scene.mem);
 }
 
 #[test]

@@ -1,6 +1,6 @@
 //! What is not listed sways no result; every listed field but the stencil can.
 
-use crate::hostile::{disturb, Random};
+use crate::hostile::{disturb, spoil, Random};
 use crate::scene::*;
 use plain::listed::{fields, listed_by, not_listed, submission_listed, Field, Layout, LAYOUTS};
 use plain::{Desk, Ended, Ran, Record};
@@ -55,7 +55,7 @@ fn leftovers_sway_nothing() {
         for _ in 0..60 {
             disturb(&mut random, &mut scene);
             if random.below(2) == 0 {
-                random.spoil(&mut scene.mem);
+                spoil(&mut random, &mut scene);
             }
             scene.write(0x10C, 1);
             scene.write(0x200, 0);

@@ -2,14 +2,12 @@
 #![forbid(unsafe_code)]
 
 mod sample;
-mod tally;
 
 use std::ffi::{OsStr, OsString};
 use std::fs::File;
 use std::io::{self, ErrorKind, Read, Write};
 use std::path::Path;
 use std::process::exit;
-use tally::Tally;
 use zelezmut::script::{self, Player};
 
 /// A file of its own, since the script ./play prints it too, before this program is built.
@@ -56,16 +54,15 @@ fn play_files(names: &[OsString], out: &mut impl Write) -> io::Result<i32> {
     Ok(status)
 }
 
-/// Both halves of the sample night, one after the other, and its totals.
+/// Both halves of the sample night, one after the other.
 fn play_sample(out: &mut impl Write) -> io::Result<()> {
     sample::print_title(out)?;
     let mut player = Player::new(sample::MEMORY);
     let refused = |refused| io::Error::new(ErrorKind::Other, refused);
-    let mut tally = Tally::default();
     for half in sample::halves().map_err(refused)? {
-        sample::play(&half, &mut player, &mut tally, out)?;
+        sample::play(&half, &mut player, out)?;
     }
-    sample::print_totals(tally.month(), out)
+    Ok(())
 }
 
 /// A word that begins with a dash is an option; behind `--` all words are files.

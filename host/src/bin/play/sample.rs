@@ -1,13 +1,10 @@
 //! The sample night: thirteen submissions of one guest, and a host that is swapped twice between them, written as a desk script and played
 //! like one, each line of the transcript with what it means. It is in two halves, since an example plays them in two programs.
-use crate::tally::Tally;
 use std::io::{self, Write};
 use zelezmut::guest::{self, Backing, Clear, Descriptor, Entry, Packet, Part};
 use zelezmut::guest::{Scissor, Shape, Viewport};
-use zelezmut::script::{self, Operation, Outcome, Player, Submission, Watch};
-use zelezmut::{
-    dump, registers, FileField, FileLayout, Form, HostAnswer, Month, NameField, Place, Refused,
-};
+use zelezmut::script::{self, Operation, Player};
+use zelezmut::{registers, FileField, FileLayout, Form, HostAnswer, NameField, Refused};
 
 /// The bytes of the guest's memory.
 pub const MEMORY: u32 = 16_384;
@@ -84,8 +81,8 @@ type Step = (Operation, &'static str);
 
 /// Steps under one heading.
 pub struct Scene {
-    heading: &'static str,
-    steps: Vec<Step>,
+    pub heading: &'static str,
+    pub steps: Vec<Step>,
 }
 
 fn poke(address: u32, bytes: &[u8], meaning: &'static str) -> Step {
@@ -331,7 +328,7 @@ fn refused_at_a_packet() -> Scene {
         read(registers::ERROR_CODE, "error 18: handle 9 is not live"),
         read(
             registers::ERROR_DETAIL,
-            "detail: the packet 40 bytes into the stream, 28 in hex; the stream's listing has an arrow there",
+            "detail: the packet 40 bytes into the stream, after header and destroy",
         ),
         read(registers::ERROR_FENCE_LO, "of the submission with fence 3"),
         read(registers::COMPLETED_FENCE_LO, "its fence is finished, too"),
@@ -753,14 +750,14 @@ pub fn halves() -> Result<[Vec<Scene>; 2], Refused> {
 }
 
 /// The operations of some scenes, as the file of a desk script has them.
-fn operations(scenes: &[Scene]) -> Vec<Operation> {
+pub fn operations(scenes: &[Scene]) -> Vec<Operation> {
     let steps = scenes.iter().flat_map(|scene| &scene.steps);
     let operations: Vec<Operation> = steps.map(|(operation, _)| operation.clone()).collect();
     script::decode(&script::encode(MEMORY, &operations)).operations
 }
 
 /// A line's room before its meaning; a longer line has its meaning below.
-const LINE: usize = 26;
+pub const LINE: usize = 26;
 
 /// Prints what the night begins with.
 pub fn print_title(out: &mut impl Write) -> io::Result<()> {
@@ -775,74 +772,19 @@ pub fn print_title(out: &mut impl Write) -> io::Result<()> {
     )
 }
 
-/// The listing of a submission that was refused at a packet, with an arrow at that packet.
-fn listing_of(submission: &Submission) -> Option<String> {
-    let stream = submission.stream.as_ref()?;
-    match submission.outcome {
-        Outcome::Refused(error) => match error.place {
-            Place::Packet(_) => Some(dump::with_arrow(stream, false, error.place)),
-            _ => None,
-        },
-        _ => None,
-    }
-}
-
-/// Plays scenes, counts what finishes in them, and prints them. Where the guest reads which packet was refused, the listing of that
-/// submission is below.
-pub fn play(
-    scenes: &[Scene],
-    player: &mut Player,
-    tally: &mut Tally,
-    out: &mut impl Write,
-) -> io::Result<()> {
-    let mut watch = Watch::new(player.clone());
-    let mut refused = None;
+/// Plays scenes and prints them.
+pub fn play(scenes: &[Scene], player: &mut Player, out: &mut impl Write) -> io::Result<()> {
     let mut operations = operations(scenes).into_iter();
     for scene in scenes {
         writeln!(out, "\n{}", scene.heading)?;
         for ((_, meaning), operation) in scene.steps.iter().zip(&mut operations) {
-            for submission in watch.play(&operation) {
-                refused = listing_of(&submission);
-            }
-            tally
-                .watch(player, &operation)
-                .map_err(|full| io::Error::new(io::ErrorKind::Other, full))?;
             let line = player.play(&operation);
             if line.len() < LINE {
                 writeln!(out, "  {:LINE$}{}", line, meaning)?;
             } else {
                 writeln!(out, "  {}\n  {:LINE$}{}", line, "", meaning)?;
             }
-            if operation == DETAIL {
-                print_listing(&refused.take().unwrap_or_default(), out)?;
-            }
         }
-    }
-    Ok(())
-}
-
-const DETAIL: Operation = Operation::Read {
-    offset: registers::ERROR_DETAIL,
-};
-
-/// Prints a listing where meanings are.
-fn print_listing(listing: &str, out: &mut impl Write) -> io::Result<()> {
-    for line in listing.lines() {
-        writeln!(out, "  {:LINE$}{}", "", line)?;
-    }
-    Ok(())
-}
-
-/// Prints what the night ends with.
-pub fn print_totals(month: &Month, out: &mut impl Write) -> io::Result<()> {
-    writeln!(
-        out,
-        "\nThe night in numbers: every submission counted once, as it finished. All other errors have 0."
-    )?;
-    let text = month.to_string();
-    let counted = |line: &&str| !(line.starts_with("refused_") && line.ends_with("=0"));
-    for line in text.lines().filter(counted) {
-        writeln!(out, "  {}", line)?;
     }
     Ok(())
 }
