@@ -1,4 +1,6 @@
 // Where the bytes of two packets differ: bytes past the shorter of the two count as differing.
+#![tactic(auto)]
+
 ghost use Rattle.std.specs.Prelude.{◌≡◌, ◌+◌, ◌≤◌, min, max, length};
 ghost use Rattle.rules.specs.Difference.{differing, next_from};
 ghost use Rattle.diff_bytes.specs.Differing.{differs_at, from_offset, SameEight};

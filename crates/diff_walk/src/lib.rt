@@ -1,4 +1,6 @@
 // A stream packet by packet: its own bytes, the rule that it breaks, the size of the packet at a place, and the place of the one with an index.
+#![tactic(auto)]
+
 ghost use Rattle.std.specs.Prelude.{◌≡◌};
 ghost use Rattle.rules.specs.Layouts.{stream_header_size};
 ghost use Rattle.rules.specs.Lists.{nth};

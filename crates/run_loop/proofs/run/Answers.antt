@@ -9,7 +9,7 @@ pub turn_once-spent-requires : goal.turn_once-spent-requires
 turn_once-spent-requires c = search advancing
 
 pub returns-then-spent-eq0 : goal.returns-then-spent-eq0
-returns-then-spent-eq0 c = search (run-stops, c.before.before.before.turn-once.ensures)
+returns-then-spent-eq0 c = search (run-stops, c.turn_once-spent.ensures)
 
 pub loop-units-preserved : goal.loop-units-preserved
 loop-units-preserved c = (omega arith, search advancing, search advancing, search advancing)
