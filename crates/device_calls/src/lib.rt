@@ -1,5 +1,7 @@
 // The calls on a device's words that are lent no guest memory: make, read, record (write stands in `registers`). None asks anything of its
 // caller; a refused one gives its number and zeros.
+#![tactic(auto)]
+
 ghost use Rattle.std.specs.Prelude.{◌≡◌};
 ghost use Rattle.device_calls.specs.Views.{no_record_read, Makes, Reads, GivesRecord};
 

@@ -1,4 +1,6 @@
 // The next line of a listing: of the packet at a place of the stream, or the one that ends the listing there.
+#![tactic(auto)]
+
 ghost use Rattle.std.specs.Prelude.{◌≡◌, ◌+◌, ◌≤◌, ◌<◌, length, take, drop};
 ghost use Rattle.rules.specs.Judging.{refusal};
 ghost use Rattle.rules.specs.Stream.{frame_of};

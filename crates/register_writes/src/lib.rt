@@ -1,4 +1,6 @@
 // What a write to a register does to a device's words: only those that change are set.
+#![tactic(auto)]
+
 ghost use Rattle.std.specs.Prelude.{◌≡◌, not, ◌&&◌};
 ghost use Rattle.rules.specs.Registers.{with_low, with_high, bit_of};
 ghost use Rattle.run_state.specs.Views.{set_in};

@@ -1,5 +1,7 @@
 // Saving (02, wishes 1 and 11): a device at rest, written into a lent buffer in one of the two forms. It asks nothing of its caller; a refused
 // one leaves the buffer, and length 0 stands beside its number.
+#![tactic(auto)]
+
 ghost use Rattle.std.specs.Prelude.{◌≡◌, []};
 ghost use Rattle.rules.specs.Numbers.{most, most_tokens};
 ghost use Rattle.rules.specs.declared.Form.TheVariants.{One, Two};
