@@ -8,6 +8,7 @@ use Rattle.device_calls.specs.Views.{value_of, record_read_of, Makes, Reads, Giv
 use Rattle.device_calls.specs.declared.ValueRead.{ValueRead}
 use Rattle.device_calls.specs.declared.RecordRead.{RecordRead}
 use Rattle.rules.specs.Saved.{call_save}
+use Rattle.rules.specs.Loaded.{call_load}
 use Rattle.rules.specs.declared.Form.{Form}
 use Rattle.saved_save.specs.Views.{saved_of, Saves}
 use Rattle.saved_save.specs.declared.FileSaved.{FileSaved}
@@ -16,7 +17,7 @@ use Rattle.saved_load.specs.declared.FileLoaded.{FileLoaded}
 use Rattle.run_state.specs.Views.{lent}
 use Rattle.device_memory_calls.specs.Views.{Runs, Answers}
 use Rattle.device_memory_calls.specs.declared.Spent.{Spent}
-use Rattle.device.specs.Views.{state_of, world_of, wrote_of, ran_of, LoadsDevice}
+use Rattle.device.specs.Views.{state_of, world_of, wrote_of, ran_of, loaded_of, LoadsDevice}
 use Rattle.device.specs.declared.Device.{Device}
 
 pub is_made : (memory : ℕ) (s e a b ft st c : List ℕ) → Makes memory s → state_of (record { words = s; entries = e; first = a; second = b; firsttokens = ft; secondtokens = st; records = c }) ≡ made memory
@@ -46,10 +47,15 @@ module _ (d : Device) where
   saved f buffer buffer' x k = k.saves d.entries d.records
 
   pub loaded : (file : List ℕ) (x : FileLoaded) (s' a' ft' : List ℕ) → Loads file d.words d.first d.firsttokens s' a' ft' x
+      → loaded_of (record { answer = x.answer; place = x.place; device = record { words = s'; entries = d.entries; first = a'; second = d.second; firsttokens = ft'; secondtokens = d.secondtokens; records = d.records } }) ≡ call_load (state_of d) file
+  loaded file x s' a' ft' k = k.loads d.entries d.second d.secondtokens d.records
+
+  -- and all that a load of the words and tables says, of the device
+  pub loaded-whole : (file : List ℕ) (x : FileLoaded) (s' a' ft' : List ℕ) → Loads file d.words d.first d.firsttokens s' a' ft' x
       → LoadsDevice d file (record { answer = x.answer; place = x.place; device = record { words = s'; entries = d.entries; first = a'; second = d.second; firsttokens = ft'; secondtokens = d.secondtokens; records = d.records } })
-  loaded file x s' a' ft' k =
+  loaded-whole file x s' a' ft' k =
       record {
-        loads = k.loads d.entries d.second d.secondtokens d.records;
+        loads = loaded file x s' a' ft' k;
         refused = λ h. let same = k.refused h in rw (same.0, same.1.0, same.1.1);
         rests = k.rests;
       }

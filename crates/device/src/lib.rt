@@ -5,9 +5,10 @@ ghost use Rattle.std.specs.Prelude.{◌≡◌};
 ghost use Rattle.rules.specs.State.{made};
 ghost use Rattle.rules.specs.Calls.{call_write, call_read, call_run, call_record, call_answer};
 ghost use Rattle.rules.specs.Saved.{call_save};
+ghost use Rattle.rules.specs.Loaded.{call_load};
 ghost use Rattle.device_calls.specs.Views.{value_of, record_read_of};
 ghost use Rattle.saved_save.specs.Views.{saved_of};
-ghost use Rattle.device.specs.Views.{state_of, world_of, wrote_of, ran_of, LoadsDevice};
+ghost use Rattle.device.specs.Views.{state_of, world_of, wrote_of, ran_of, loaded_of};
 
 use device_calls::{RecordRead, ValueRead};
 use rules::{Ended, Form};
@@ -212,7 +213,7 @@ impl Device {
 
     // What a saved desk makes of the device, whatever it was; a bad file leaves it.
     pub fn load(self, file: &[u8]) -> Loaded
-        ensures { LoadsDevice self file.now result }
+        ensures { loaded_of result ≡ call_load (state_of self) file.now }
     {
         let mut words = self.words;
         let entries = self.entries;

@@ -4,6 +4,8 @@ pub mod Courses
 pub mod ChainsStand
 pub mod Places
 pub mod UnslicedPlaces
+pub mod PlacesByNumber
+pub mod UnslicedByNumber
 pub mod Witness
 pub mod StateWitness
 pub mod SharedWitness

@@ -5,7 +5,7 @@ use Rattle.std.specs.Prelude.{◌≡◌, refl, Bool, true, false, List, [], ◌+
 use Rattle.std.proofs.Common.{ap, ◌∙◌, sym, subst, inl, inr, ⊎_elim, arith}
 use Rattle.machine.specs.Machine.{pick, run_none, run-stop}
 use Rattle.std.specs.Float.Ieee.{lt}
-use Rattle.rules.specs.Numbers.{done, other_memory, no_register, nothing_waits, no_record, bad_ring, no_place, host_failed, clips, bad_handle, bad_state, too_many, most, set_target, set_viewport, set_scissor, clear as clear-opcode, export_surface, import_surface, release_token, bad_file, in_work, not_in_form, too_short}
+use Rattle.rules.specs.Numbers.{done, other_memory, no_register, nothing_waits, no_record, bad_ring, no_place, host_failed, clips, bad_handle, bad_state, too_many, most, most as most-records, set_target, set_viewport, set_scissor, clear as clear-opcode, export_surface, import_surface, release_token, bad_file, in_work, not_in_form, too_short}
 use Rattle.rules.specs.Ring.{opening_of}
 use Rattle.rules.specs.Table.{entries_of}
 use Rattle.rules.specs.Layouts.{stream_header_size, target_fields, viewport_floats, viewport_fields, scissor_fields, clear_floats, clear_fields, word, long, export_fields, import_fields, release_fields}
@@ -69,7 +69,9 @@ use Rattle.promises.specs.Places.{OfAnEntry, OfAPacket, sizes-fit, settling-tell
 use Rattle.promises.specs.NightLog.{night_log, agree, night-log-holds}
 use Rattle.promises_of_submissions.specs.AppendedUnits.{SameAhead, SameOut, appended-bytes-same-run, appended-bytes-same-outcome}
 use Rattle.promises_of_submissions.specs.Whole.{midst}
-use Rattle.promises.specs.UnslicedPlaces.{unsliced-tells-where, ByTheCode, unsliced-by-the-code}
+use Rattle.promises.specs.UnslicedPlaces.{unsliced-tells-where}
+use Rattle.promises.specs.PlacesByNumber.{TellsWhich, each-settling-tells-which}
+use Rattle.promises.specs.UnslicedByNumber.{ByTheCode, unsliced-by-the-code}
 use Rattle.promises_of_units.specs.Bytes.{WrittenBy, calls-write}
 use Rattle.promises_of_units.specs.Ranges.{InOneEntry, ranges-at-the-record-call, kinds-at-the-record-call, called-sound}
 use Rattle.promises_of_packets.specs.Held.{Every, OfAKind, LiveTexture, TargetLives, refused-packet-keeps-progress, SoundProgress}
@@ -82,10 +84,10 @@ use Rattle.promises_of_sharing.specs.Shared.{OneResource, OneMipOneLayer, IsBoun
 use Rattle.promises_of_sharing.specs.SharedTokens.{TokensGoOn, TokensStay, tokens-stay}
 use Rattle.promises_of_sharing.specs.BoundTokens.{BoundUnless, a-bound-token-is-spent-only-by-its-release-or-with-its-last-name}
 use Rattle.promises_of_sharing.specs.SharedPackets.{ExportPacket, ImportPacket, ReleasePacket, when-an-export-is-accepted, when-an-import-is-accepted, when-a-release-is-accepted}
-use Rattle.promises_of_sharing.specs.TokensOverCalls.{tokens-go-on-between-resets, a-reset-forgets-the-tokens, a-failed-submission-leaves-the-tokens, at-most-256-tokens, shared-is-one-mip-one-layer, bound-is-one-mip-one-layer, what-is-held-is-sound}
+use Rattle.promises_of_sharing.specs.TokensOverCalls.{CalledOn, tokens-go-on-between-resets, a-reset-forgets-the-tokens, a-failed-submission-leaves-the-tokens, at-most-256-tokens, shared-is-one-mip-one-layer, bound-is-one-mip-one-layer, what-is-held-is-sound}
 use Rattle.promises_of_sharing.specs.NamesKept.{KeepsNamesBut}
 use Rattle.promises_of_sharing.specs.NamesOverCalls.{names_since, a-bound-token-keeps-its-names-between-resets}
-use Rattle.promises_of_sharing.specs.PacketsTaken.{CalledOn, packets_since}
+use Rattle.promises_of_sharing.specs.PacketsTaken.{packets_since}
 use Rattle.promises_of_sharing.specs.TokenLives.{Some, Exports, Spends, TokensLive, tokens-live-between-resets, a-token-stays-bound-exactly, BoundIsFound, bound-exactly-if-found, ImportAccepted, a-later-import-is-accepted}
 use Rattle.promises_of_sharing.specs.TokenMeans.{TokensMean, tokens-mean-between-resets, NamesTheExported, a-later-import-names-the-exported}
 use Rattle.promises_of_sharing.specs.RecordHandles.{AddsUnderItsHandle, ranges-carry-the-packets-handle}
@@ -102,7 +104,7 @@ use Rattle.rules.specs.declared.Form.TheVariants.{One, Two}
 use Rattle.promises_of_units.specs.Called.Called.{loads}
 use Rattle.promises_of_units.specs.Sound.{SoundState}
 use Rattle.promises_of_units.specs.LoadedSound.{loaded-sound}
-use Rattle.promises_of_saving.specs.Savable.{Fits}
+use Rattle.promises_of_saving.specs.Savable.{Fits, Savable}
 use Rattle.promises_of_saving.specs.SameDevice.{SameDevice}
 use Rattle.promises_of_saving.specs.FirstBroken.{FirstBroken, Kept}
 use Rattle.promises_of_saving.specs.Refusals.{refused-exactly, refused-load-leaves-the-device, SaveDone, NothingWritten, FileWritten, save-done-exactly, refused-save-leaves-the-buffer, done-save-keeps-later-bytes, save-in-work, save-not-in-form, save-too-short, loaded-exactly, loaded-or-refused, kept-is-good, load-of-good}
@@ -114,7 +116,7 @@ use Rattle.promises_of_saving.specs.LoadOfSave.{LoadedBack, load-of-save}
 use Rattle.promises_of_saving.specs.GoesBack.{GoesBack}
 use Rattle.promises_of_saving.specs.MoveAnswers.{moved, LoadRefused, MoveNotInForm, MoveTooShort, MoveDone, move-refused-exactly, move-not-in-form-exactly, move-too-short-exactly, move-done-exactly, refused-move-leaves-the-buffer, done-move-keeps-later-bytes}
 use Rattle.promises_of_same_desks.specs.Desks.{SameDesk}
-use Rattle.promises_of_same_desks.specs.ForEver.{sound-is-savable, told_all, SameForEver, same-desks-for-ever, same-devices-for-ever, told-the-same-is-the-same, a-saved-desk-goes-on-elsewhere, a-moved-desk-goes-on-elsewhere}
+use Rattle.promises_of_same_desks.specs.ForEver.{told_all, SameForEver, same-desks-for-ever, same-devices-for-ever, told-the-same-is-the-same, a-saved-desk-goes-on-elsewhere, a-moved-desk-goes-on-elsewhere}
 use Rattle.promises_of_saving.specs.Moved.{form-1-is-never-refused-with-8, form-2-goes-back-exactly, move_wrote, load-of-moved, moves-there-and-back, form-1-moves-there-and-back}
 use Rattle.rules.specs.Listed.{Named, packet_layout, stream_listed, submission_listed, listed_at, listed}
 use Rattle.promises_of_submissions.specs.Reads.{AgreeOn, Ends}
@@ -319,6 +321,11 @@ module _ (w : World) (q : Registers) (o : Opened) (opened : opening_of w.mem w.s
 pub every-settling-tells-where : (s : State) (k : Called s) → EachLent OfBytes s k → (m : List ℕ) (j : Job) (f : Fault) → Breaks (lent s m) s.work j f
     → TellsWhere (lent s m) j f
 every-settling-tells-where s k b = each-settling-tells-where s k (sizes-fit s k b)
+
+-- And the number is 14 or 15 exactly if the unit judged an entry, so that number and detail tell which entry or packet it was, or that it was neither.
+pub every-settling-tells-which : (s : State) (k : Called s) → EachLent OfBytes s k → (m : List ℕ) (j : Job) (f : Fault) → Breaks (lent s m) s.work j f
+    → TellsWhich (lent s m) j f
+every-settling-tells-which s k b = each-settling-tells-which s k (sizes-fit s k b)
 
 -- "Add a read_only register at offset 320 (hex), error detail": a read shows it, a write answers 2. "else 0": a bad ring, and the host's answer "failed"
 pub record ErrorDetail (w : World) : Type 0 where
@@ -577,8 +584,8 @@ targets-stay-live-textures s k j t at es h e = (first-packet-finds-no-target s k
 pub record ScissorPacket (es : List Entry) (h : Progress) (c : SetScissor) : Type 0 where
   pub no_target : h.target ≡ 0 → pass es h (Scissor c) ≡ record { verdict = Broken (refusal bad_state); held = h }
   pub negative : LiveTexture h.target h.holdings → bad_sides c ≡ true → pass es h (Scissor c) ≡ record { verdict = Broken (refusal bad_state); held = h }
-  pub no_room : LiveTexture h.target h.holdings → bad_sides c ≡ false → most ≤ length h.holdings.records → pass es h (Scissor c) ≡ record { verdict = Broken (refusal too_many); held = h }
-  pub accepted : LiveTexture h.target h.holdings → bad_sides c ≡ false → length h.holdings.records < most → (pass es h (Scissor c)).verdict ≡ Fine
+  pub no_room : LiveTexture h.target h.holdings → bad_sides c ≡ false → most-records ≤ length h.holdings.records → pass es h (Scissor c) ≡ record { verdict = Broken (refusal too_many); held = h }
+  pub accepted : LiveTexture h.target h.holdings → bad_sides c ≡ false → length h.holdings.records < most-records → (pass es h (Scissor c)).verdict ≡ Fine
 
 pub when-a-scissor-is-accepted : (es : List Entry) (h : Progress) (c : SetScissor) → ScissorPacket es h c
 when-a-scissor-is-accepted es h c =
@@ -658,7 +665,7 @@ tokens-between-resets = tokens-go-on-between-resets
 
 -- and a token that is bound before and after keeps its resource's names, but for those that submissions answered good have imported or destroyed since: what was refused
 -- or failed does not count
-pub names-between-resets : (s t : State) (k : Called s) (q : CalledOn s t) → KeepsNamesBut (names_since s t k q) s.belongings t.belongings
+pub names-between-resets : (s t : State) (k : Called s) (q : CalledOn s t) → KeepsNamesBut (names_since s t k q).by_good s.belongings t.belongings
 names-between-resets = a-bound-token-keeps-its-names-between-resets
 
 -- "Two programs, one surface": a token lives from one submission to the next. Take any calls between resets. A token that is bound before them, or that a submission
@@ -729,11 +736,26 @@ when-tokens-are-left-and-when-forgotten w =
 
 -- ---- wish 1: a desk that can be saved; wish 11, in either form
 
+-- what soundness says of every device that was made, called or loaded; that its numbers fit the fields of a file is so of all that stand in words
+called-is-savable : (s : State) → Called s → Fits s → Savable s
+called-is-savable s k fits =
+    let sound : SoundState s = called-sound s k in
+    record {
+      error = sound.error;
+      few = sound.belongings.resources.few;
+      some = sound.belongings.resources.some;
+      once = sound.belongings.resources.once;
+      created = sound.belongings.resources.created;
+      names = sound.belongings.resources.names;
+      tokens = sound.belongings.tokens;
+      fits = fits;
+    }
+
 -- "the device at rest written into a lent buffer and read back elsewhere": what was saved is loaded as the same device, whatever the device it is loaded
 -- into was: the same memory length, registers and flag, the same resources by their names, the same tokens, nothing in work
 pub a-saved-desk-is-read-back-elsewhere : (f : Form) (s : State) → Called s → Fits s → (buffer : List ℕ) → (call_save f s buffer).answer ≡ done
     → (t : State) → LoadedBack s (call_load t (take (call_save f s buffer).length (call_save f s buffer).buffer))
-a-saved-desk-is-read-back-elsewhere f s k fits = load-of-save f s (sound-is-savable s (called-sound s k) fits)
+a-saved-desk-is-read-back-elsewhere f s k fits = load-of-save f s (called-is-savable s k fits)
 
 -- "Saving while a submission is in work answers 5; then a buffer too short answers 6; both leave it untouched. It gives the length and keeps later
 -- bytes." And by wish 5, "Saving in form 1 answers 8 (after 5, before 6)": form 2 has a field for all, so `beyond` is false of it.

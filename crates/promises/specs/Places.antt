@@ -1,7 +1,7 @@
 -- Wish 9, "tell me where it broke": beside a broken rule's number stands the entry's index, the packet's offset in its stream, or 0. At each
 -- settling of any device that was made and called, whatever bytes its memories hold. Assumes nothing.
-use Rattle.std.specs.Prelude.{◌≡◌, refl, Bool, true, false, ◌||◌, List, [], ◌⊎◌, ℕ, ◌+◌, ◌^◌, ◌≤◌, ◌<◌, ltb, eqb, length}
-use Rattle.std.proofs.Common.{sym, ap, subst, ◌∙◌, inl, inr, arith, ne_eqb}
+use Rattle.std.specs.Prelude.{◌≡◌, refl, Bool, true, false, List, [], ◌⊎◌, ℕ, ◌+◌, ◌^◌, ◌≤◌, ◌<◌, ltb, eqb, length}
+use Rattle.std.proofs.Common.{sym, ap, subst, ◌∙◌, inl, inr, arith}
 use Rattle.machine.specs.Machine.{pick}
 use Rattle.rules.specs.Lists.{lookup}
 use Rattle.rules.specs.Registers.{register, write_of}
@@ -20,7 +20,6 @@ use Rattle.rules.specs.Steps.{packets_at, entries_at, step, answered}
 use Rattle.rules.specs.declared.Entry.{Entry}
 use Rattle.rules.specs.declared.Fault.{Fault}
 use Rattle.rules.specs.declared.Job.{Job}
-use Rattle.rules.specs.declared.LastError.{LastError}
 use Rattle.rules.specs.declared.Opened.{Opened}
 use Rattle.rules.specs.declared.Refusal.{Refusal}
 use Rattle.rules.specs.declared.Stream.{Stream}
@@ -36,23 +35,22 @@ use Rattle.promises_of_units.specs.Units.{Next, Breaks, unit-is-step}
 use Rattle.promises_of_units.specs.Units.Unit.{settles}
 use Rattle.promises_of_units.specs.Changes.{told}
 use Rattle.promises_of_units.specs.Kept.{EachLent, KeptByUnits, called-keeps}
-use Rattle.rule_laws.specs.RuleNumbers.{EntryRule, opening_number, packet_number, opening-number-is-no-entrys, packet-number-is-no-entrys, NumberedOpening, opening-numbered, Numbered, take-packet-numbered}
 use Rattle.promises_of_units.specs.Tables.{StartedOnce, OwnTable, called-has-its-own-table}
+
+-- the numbers that an entry's rules have
+abbrev pub EntryRule : ℕ → Type 0
+EntryRule n = (n ≡ bad_entry) ⊎ (n ≡ twice_in_table)
 
 abbrev pub OfAnEntry : Table → Fault → Type 0
 OfAnEntry t f = EntryRule f.code × (f.place < t.count)
 
--- within the stream, behind its header; the number is never 14 or 15
+-- within the stream, behind its header
 abbrev pub OfAPacket : Stream → Fault → Type 0
-OfAPacket t f = (packet_number f.code ≡ true) × (stream_header_size ≤ f.place) × (f.place < t.size)
-
--- the number is never 14 or 15 either
-abbrev pub OfAnOpening : Fault → Type 0
-OfAnOpening f = (opening_number f.code ≡ true) × (f.place ≡ no_place)
+OfAPacket t f = (stream_header_size ≤ f.place) × (f.place < t.size)
 
 -- where a unit's broken rule is: that of the entry or the packet that the unit judges, "else 0"
 abbrev pub Placed : Work → Fault → Type 0
-Placed resting f = OfAnOpening f
+Placed resting f = f.place ≡ no_place
 Placed (entries o kept) f = OfAnEntry o.table f × (f.place ≡ length kept)
 Placed (packets j t at es h) f = OfAPacket t f × (f.place ≡ at)
 Placed (waiting j es h) f = ⊥
@@ -122,10 +120,7 @@ few-entries : (n : ℕ) (o : Opened) → StartedOnce n o → o.table.count ≤ m
 few-entries n o a = (subst (LiesOn a.mem) a.started (opening-lies a.mem a.ring a.size)).few
 
 unit-placed : (w : World) (n : ℕ) (k : Work) → OwnTable n k → SizeFits k → (j : Job) (f : Fault) → Breaks w k j f → Placed k f
-unit-placed w n resting own fits j f h =
-    let numbered : opening_number h.why.code ≡ true =
-    subst NumberedOpening h.here (opening-numbered w.mem w.state.regs.ring w.state.regs.ringsize) in
-    (ap (λ (x : Fault). opening_number x.code) h.nowhere ∙ numbered, ap (λ (x : Fault). x.place) h.nowhere)
+unit-placed w n resting own fits j f h = ap (λ (x : Fault). x.place) h.nowhere
 unit-placed w n (entries o kept) own fits j f h =
     let b : BrokenAt (length kept) (take_entry w.mem o.table kept).verdict f = broken-at _ _ f h.1 in
     let few : o.table.count ≤ most = few-entries n o own.0 in
@@ -134,8 +129,7 @@ unit-placed w n (entries o kept) own fits j f h =
 unit-placed w n (packets j t at es held) own fits i f h =
     let b : BrokenAt at (take_packet es held (left w.mem t at)).verdict f = broken-at _ _ f h.1 in
     let is : f.place ≡ at = b.told (omega (arith, own.in-stream)) in
-    let numbered : packet_number b.why.code ≡ true = subst Numbered b.broke (take-packet-numbered es held (left w.mem t at)) in
-    ((ap packet_number b.number ∙ numbered, omega (arith, own.past-header), omega (arith, own.in-stream)), is)
+    ((omega (arith, own.past-header), omega (arith, own.in-stream)), is)
 unit-placed w n (waiting j es held) own fits i f h = h
 
 -- ---- of any device that was made and called
@@ -169,55 +163,6 @@ sizes-fit s k b = called-keeps kept s k b
     kept : KeptByUnits OfBytes (λ memory work. SizeFits work)
     kept = record { rests = λ n. omega arith; works-on = λ w l c. next_fits w c; marks = marked-bytes }
 
--- ---- the code and the detail alone tell the kind of place, as a host reads it (host/src/place.rs)
-
-pub data Place : Type 0 where
-  nowhere : Place
-  at_entry : ℕ → Place
-  at_packet : ℕ → Place
-
-abbrev pub entry_number_of : ℕ → Bool
-entry_number_of code = eqb code bad_entry || eqb code twice_in_table
-
--- 14 and 15 tell an entry's index; else a detail of 0 tells no place, and any other a packet's offset
-abbrev pub place_told : ℕ → ℕ → Place
-place_told code detail = pick (entry_number_of code) (at_entry detail) (pick (eqb detail no_place) nowhere (at_packet detail))
-
--- what a unit judges
-abbrev pub judged_by : Work → Place
-judged_by resting = nowhere
-judged_by (entries o kept) = at_entry (length kept)
-judged_by (packets j t at es h) = at_packet at
-judged_by (waiting j es h) = nowhere
-
-entry-rule-is : (n : ℕ) → EntryRule n → entry_number_of n ≡ true
-entry-rule-is n (inl e) = rw e
-entry-rule-is n (inr e) = rw e
-
-other-rule-is : (n : ℕ) → (EntryRule n → ⊥) → entry_number_of n ≡ false
-other-rule-is n h = rw (ne_eqb n bad_entry (λ e. h (inl e)), ne_eqb n twice_in_table (λ e. h (inr e)))
-
-pub placed-tells : (k : Work) (f : Fault) → Placed k f → place_told f.code f.place ≡ judged_by k
-placed-tells resting f p = rw (other-rule-is f.code (opening-number-is-no-entrys f.code p.0), p.1)
-placed-tells (entries o kept) f p = rw (entry-rule-is f.code p.0.0, p.1)
-placed-tells (packets j t at es h) f p =
-    let some : eqb f.place no_place ≡ false = ne_eqb f.place no_place (λ e. absurd (omega (arith, p.0.1))) in
-    rw (other-rule-is f.code (packet-number-is-no-entrys f.code p.0.0), some, p.1)
-placed-tells (waiting j es h) f p = absurd p
-
--- so of a unit that settles, the number is 14 or 15 exactly if it judged an entry
-abbrev pub JudgesAnEntry : Work → Type 0
-JudgesAnEntry resting = ⊥
-JudgesAnEntry (entries o kept) = 0 ≤ 0
-JudgesAnEntry (packets j t at es h) = ⊥
-JudgesAnEntry (waiting j es h) = ⊥
-
-pub entrys-exactly : (k : Work) (f : Fault) → Placed k f → (EntryRule f.code → JudgesAnEntry k) × (JudgesAnEntry k → EntryRule f.code)
-entrys-exactly resting f p = (λ e. opening-number-is-no-entrys f.code p.0 e, λ n. absurd n)
-entrys-exactly (entries o kept) f p = (λ e. omega arith, λ _. p.0.0)
-entrys-exactly (packets j t at es h) f p = (λ e. packet-number-is-no-entrys f.code p.0.0 e, λ n. absurd n)
-entrys-exactly (waiting j es h) f p = absurd p
-
 -- "set with the code"
 pub settling-tells : (j : Job) (f : Fault) (owned : Belongings) (w : World) → (settled j (broken f) owned w).state.regs.error ≡ told j f w.state.regs.error
 unfolding settled ended_by signalled faulted
@@ -228,22 +173,15 @@ pub record TellsWhere (w : World) (j : Job) (f : Fault) : Type 0 where
   pub settles : step w ≡ settled_keeping j (broken f) w
   pub tells : (step w).state.regs.error ≡ told j f w.state.regs.error
   pub place : Placed w.state.work f
-  -- the error registers after it tell which: the entry's index, the packet's offset, or neither
-  pub told-apart : place_told (step w).state.regs.error.code (step w).state.regs.error.detail ≡ judged_by w.state.work
-  pub entrys : (EntryRule f.code → JudgesAnEntry w.state.work) × (JudgesAnEntry w.state.work → EntryRule f.code)
 
 pub each-settling-tells-where : (s : State) → Called s → SizeFits s.work → (m : List ℕ) (j : Job) (f : Fault) → Breaks (lent s m) s.work j f
     → TellsWhere (lent s m) j f
 each-settling-tells-where s k fits m j f h =
     let is : step (lent s m) ≡ settled_keeping j (broken f) (lent s m) = unit-is-step (lent s m) _ (settles j f h) in
-    let tells : (step (lent s m)).state.regs.error ≡ told j f s.regs.error = ap (λ (w : World). w.state.regs.error) is ∙ settling-tells j f s.belongings (lent s m) in
-    let place : Placed s.work f = unit-placed (lent s m) s.memory s.work (called-has-its-own-table s k) fits j f h in
     record {
       settles = is;
-      tells = tells;
-      place = place;
-      told-apart = ap (λ (e : LastError). place_told e.code e.detail) tells ∙ placed-tells s.work f place;
-      entrys = entrys-exactly s.work f place;
+      tells = ap (λ (w : World). w.state.regs.error) is ∙ settling-tells j f s.belongings (lent s m);
+      place = unit-placed (lent s m) s.memory s.work (called-has-its-own-table s k) fits j f h;
     }
 
 -- "else 0": a bad ring, and the host's answer "failed"

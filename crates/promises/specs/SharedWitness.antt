@@ -30,11 +30,10 @@ use Rattle.promises_of_units.specs.Called.Call.{writes, runs, answers}
 use Rattle.promises_of_units.specs.Called.Called.{makes, calls}
 use Rattle.promises.specs.Witness.{in_bytes, ring_words}
 use Rattle.promises_of_sharing.specs.Shared.{Used, IsBound, NameOf, OneMipOneLayer}
-use Rattle.promises_of_sharing.specs.TokensOverCalls.{tokens-go-on-between-resets, bound-is-one-mip-one-layer}
-use Rattle.promises_of_sharing.specs.PacketsTaken.CalledOn.{not_yet, calls-on}
+use Rattle.promises_of_sharing.specs.TokensOverCalls.{CalledOn, tokens-go-on-between-resets, bound-is-one-mip-one-layer}
+use Rattle.promises_of_sharing.specs.TokensOverCalls.CalledOn.{not_yet, calls-on}
 use Rattle.promises_of_sharing.specs.NamesKept.{NotAmong}
-use Rattle.promises_of_sharing.specs.PacketsTaken.{CalledOn, packets_after_units, packets_after_call, packets_in_work, packets_since}
-use Rattle.promises_of_sharing.specs.NamesOverCalls.{names_of, names_since, a-bound-token-keeps-its-names-between-resets}
+use Rattle.promises_of_sharing.specs.NamesOverCalls.{names_after_units, Names, names_after_call, names_since, a-bound-token-keeps-its-names-between-resets}
 use Rattle.promises.specs.StateWitness.{textured, destroyed, stream_with, judged_words, the_shape, the_job}
 
 -- ---- packets, word by word; every token is 7 + 2^32, or has another low word
@@ -197,7 +196,7 @@ its-token-stays-used t q =
 
 -- and 3 is a name of its resource for as long as it is bound, and no submission answered good imports or destroys 3
 pub its-name-stays : (t : State) (q : CalledOn (after (answers true 0) sharing_waits).state t)
-    → NotAmong 3 (names_since (after (answers true 0) sharing_waits).state t answered_is_called q) → IsBound the_token t.belongings.tokens
+    → NotAmong 3 (names_since (after (answers true 0) sharing_waits).state t answered_is_called q).by_good → IsBound the_token t.belongings.tokens
     → NameOf the_token 3 t.belongings.tokens t.belongings.resources
 unfolding lookup
 its-name-stays t q other b =
@@ -212,9 +211,9 @@ its-name-stays t q other b =
 unfoldable pub answered-on : (good : Bool) → CalledOn sharing_asked.state (after (answers good 0) (after (runs 65535) sharing_asked)).state
 answered-on good = calls-on (calls-on not_yet (runs 65535) refl sharing_asked.mem) (answers good 0) refl (after (runs 65535) sharing_asked).mem
 
-abbrev pub counted : Bool → List ℕ
+abbrev pub counted : Bool → Names
 counted good = names_since sharing_asked.state (after (answers good 0) (after (runs 65535) sharing_asked)).state asked_is_called (answered-on good)
 
-pub names-count-with-good : (counted true ≡ 5 ∷ 3 ∷ []) × (counted false ≡ [])
-unfolding answered-on asked_is_called names_of packets_in_work packets_since packets_after_call packets_after_units exported imported shared textured destroyed stream_with sharing sharing_guest sharing_asked zeros ring_words in_bytes le bytes_of over removed lookup index_of nth rename rebind lowest_left ring_header descriptor stream_header power_of_two good_header good_ring ring_opening opening_of descriptor_rules range_rules submission_rules submission_opening wrong_header stream_rules texture_fields destroy_fields export_fields import_fields known least_size frame_rules frame_of packet_of block_bytes halvings full_chain good_shape create_hosted create on_texture_packet on_destroy_packet on_export_packet bound on_import_packet apply target_after tokens_after pass take_packet open_step packet_step step go run_while call_run answer_alone call_answer answered settled marked page_written ended_by signalled head_written written faulted after
+pub names-count-with-good : ((counted true).by_good ≡ 5 ∷ 3 ∷ []) × ((counted false).by_good ≡ [])
+unfolding answered-on names_since names_after_call names_after_units exported imported shared textured destroyed stream_with sharing sharing_guest sharing_asked zeros ring_words in_bytes le bytes_of over removed lookup index_of nth rename rebind lowest_left ring_header descriptor stream_header power_of_two good_header good_ring ring_opening opening_of descriptor_rules range_rules submission_rules submission_opening wrong_header stream_rules texture_fields destroy_fields export_fields import_fields known least_size frame_rules frame_of packet_of block_bytes halvings full_chain good_shape create_hosted create on_texture_packet on_destroy_packet on_export_packet bound on_import_packet apply target_after tokens_after pass take_packet open_step packet_step step go run_while call_run answer_alone call_answer answered settled marked page_written ended_by signalled head_written written faulted after
 names-count-with-good = (refl, refl)

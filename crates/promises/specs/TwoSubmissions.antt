@@ -30,8 +30,9 @@ use Rattle.promises_of_units.specs.Called.Call.{writes, runs, answers}
 use Rattle.promises_of_units.specs.Called.Called.{makes, calls}
 use Rattle.promises.specs.Witness.{in_bytes}
 use Rattle.promises_of_sharing.specs.Shared.{IsBound, means, OneResource, SecondName}
-use Rattle.promises_of_sharing.specs.PacketsTaken.CalledOn.{not_yet, calls-on}
-use Rattle.promises_of_sharing.specs.PacketsTaken.{CalledOn, Taken, Packets, packets_after_units, packets_after_call, packets_in_work, packets_since}
+use Rattle.promises_of_sharing.specs.TokensOverCalls.{CalledOn}
+use Rattle.promises_of_sharing.specs.TokensOverCalls.CalledOn.{not_yet, calls-on}
+use Rattle.promises_of_sharing.specs.PacketsTaken.{Taken, Packets, packets_after_units, packets_after_call, packets_in_work, packets_since}
 use Rattle.promises_of_sharing.specs.TokenLives.{Some, Exports, Spends, ImportAccepted, a-later-import-is-accepted}
 use Rattle.promises_of_sharing.specs.TokenMeans.{MeantAtExport, NamesTheExported, a-later-import-names-the-exported}
 use Rattle.promises_of_packets.specs.Held.{Every}

@@ -2,13 +2,12 @@
 -- with its offset in the stream. Assumes nothing.
 use Rattle.std.specs.Prelude.{◌≡◌, ◌⊎◌, take, drop}
 use Rattle.std.proofs.Math.Path.{refl}
-use Rattle.std.proofs.Common.{sym, ap, subst, ◌∙◌}
-use Rattle.std.proofs.Math.Bool.{true}
+use Rattle.std.proofs.Common.{sym, subst, ◌∙◌, inl, inr, length-drop}
 use mathlib.Core.List.{List, [], ◌∷◌}
-use Rattle.std.proofs.Math.Logic.{inl, inr, ⊎_elim}
+use Rattle.std.proofs.Math.Logic.{⊎_elim}
 use Prim.Native.Nat.{ℕ, zero, suc, ◌+◌, ◌-◌, ◌^◌, ◌≤◌, ◌<◌}
 use native.Mathlib.Omega.{arith}
-use Rattle.std.proofs.Math.ListN.{length, length-append, length-drop}
+use Rattle.std.proofs.Math.ListN.{length, length-append}
 use Rattle.rules.specs.Lists.{pushed}
 use Rattle.rules.specs.Judging.{Finding, fault_at}
 use Rattle.rules.specs.Judging.Finding.{fine, broken}
@@ -33,8 +32,7 @@ use Rattle.stream_packets.specs.Framing.{frame-sound}
 use Rattle.stream_packets.specs.Listing.{cut-end, cut-packet}
 use Rattle.promises_of_submissions.specs.LentBytes.{OfBytes}
 use Rattle.promises_of_submissions.specs.Submission.{Lies, LiesOn, opening-lies}
-use Rattle.rule_laws.specs.RuleNumbers.{EntryRule, packet_number, packet-number-is-no-entrys, Numbered, NumberedFrame, frame-of-numbered, pass-numbered}
-use Rattle.promises.specs.Places.{OfAnEntry, OfAPacket, BrokenAt, broken-at, entry-number}
+use Rattle.promises.specs.Places.{EntryRule, OfAnEntry, OfAPacket, BrokenAt, broken-at, entry-number}
 
 fine-not-broken : {f : Fault} → fine ≡ broken f → ⊥
 fine-not-broken e = let z : ◌≡◌ {A = ℕ} 0 1 = cc in omega arith
@@ -67,7 +65,7 @@ module _ (f : Fault) where
 
   -- the first broken packet, of bytes that stand at an offset, has its place among them
   abbrev Among : ℕ → List ℕ → Type 0
-  Among at b = (packet_number f.code ≡ true) × (at ≤ f.place) × (f.place < at + length b)
+  Among at b = (at ≤ f.place) × (f.place < at + length b)
 
   judged-packet : (es : List Entry) (k at : ℕ) (b : List ℕ) (h : Progress) → at + length b < 2 ^ 32
       → (judge_packets es h (cut k at b)).finding ≡ broken f → Among at b
@@ -78,76 +76,47 @@ module _ (f : Fault) where
       (λ none. absurd (fine-not-broken (rw (cut-end (suc k) at b (omega arith)) at e)))
       (below_or_not 0 (length b))
     where
-      here : (r : Refusal) → packet_number r.code ≡ true → 0 < length b → broken (fault_at at r) ≡ broken f → Among at b
-      here r numbered some q =
-          let is : f.place ≡ at = (broken-at at (Broken r) f q).told (omega arith) in
-          let code : fault_at at r ≡ f = cc in
-          (ap (λ (x : Fault). packet_number x.code) (sym code) ∙ numbered, omega arith, omega arith)
+      here : (r : Refusal) → 0 < length b → broken (fault_at at r) ≡ broken f → Among at b
+      here r some q = let is : f.place ≡ at = (broken-at at (Broken r) f q).told (omega arith) in (omega arith, omega arith)
 
-      by-verdict : (size : ℕ) → size ≤ length b → 0 < length b → (v : Verdict) → Numbered v → (q : Reckoned)
+      by-verdict : (size : ℕ) → size ≤ length b → 0 < length b → (v : Verdict) (q : Reckoned)
           → (q.finding ≡ broken f → Among (at + size) (drop size b))
           → (one_further at v h q).finding ≡ broken f → Among at b
-      by-verdict size fits some Fine l q ih g =
+      by-verdict size fits some Fine q ih g =
           let found : Among (at + size) (drop size b) = ih g in
-          (found.0, omega (arith, found.1), omega (arith, found.2, length-drop size b))
-      by-verdict size fits some (Broken r) l q ih g = here r l some g
+          (omega (arith, found.0), omega (arith, found.1, length-drop size b))
+      by-verdict size fits some (Broken r) q ih g = here r some g
 
       by_frame : 0 < length b → (x : Frame) → frame_of b ≡ x
           → ((at' : ℕ) (b' : List ℕ) (h' : Progress) → at' + length b' < 2 ^ 32 → (judge_packets es h' (cut k at' b')).finding ≡ broken f → Among at' b')
           → (judge_packets es h (before at x b (cut k (at + size_of x) (drop (size_of x) b)))).finding ≡ broken f → Among at b
       by_frame some (Whole op size) e ih g =
           let fits : size ≤ length b = (frame-sound b op size e).inside in
-          by-verdict size fits some (pass es h (packet_of op (take size b))).verdict (pass-numbered es h (packet_of op (take size b))) _
+          by-verdict size fits some (pass es h (packet_of op (take size b))).verdict _
           (ih (at + size) (drop size b) (pass es h (packet_of op (take size b))).held (omega (arith, length-drop size b))) g
-      by_frame some (Misframed r) e ih g = here r (subst NumberedFrame e (frame-of-numbered b)) some g
+      by_frame some (Misframed r) e ih g = here r some g
 
 -- what an opening started over bytes, judged by the unsliced rules over the same bytes: the first broken rule is an entry's or a packet's
 module _ (m : List ℕ) (ring size : ℕ) (o : Opened) (opened : opening_of m ring size ≡ Started o) (bytes : OfBytes m) where
   lies : Lies m o
   lies = subst (LiesOn m) opened (opening-lies m ring size)
 
-  abbrev table_judged : Finding
-  table_judged = (judge_entries (length m) [] (entries_of m o.table)).finding
-
-  abbrev packets_judged : Progress → Reckoned
-  packets_judged h = judge_packets (entries_of m o.table) h (packets_of m o.stream)
-
-  -- the first broken rule is an entry's: the number is 14 or 15, and the place below the table's count; or all entries are fine, and it is a packet's: the
-  -- number is neither, and the place an offset in the stream
-  pub unsliced-tells-which : (h : Progress) (f : Fault) → (submission m o h).finding ≡ broken f
-      → ((table_judged ≡ broken f) × OfAnEntry o.table f) ⊎ ((table_judged ≡ fine) × ((packets_judged h).finding ≡ broken f) × OfAPacket o.stream f)
+  pub unsliced-tells-where : (h : Progress) (f : Fault) → (submission m o h).finding ≡ broken f → OfAnEntry o.table f ⊎ OfAPacket o.stream f
   unfolding submission
-  unsliced-tells-which h f = by_table table_judged refl
+  unsliced-tells-where h f = by_table (judge_entries (length m) [] (entries_of m o.table)).finding refl
     where
-      by_table : (v : Finding) → table_judged ≡ v
-          → (after_entries v (judge_entries (length m) [] (entries_of m o.table)).count h (packets_judged h)).finding ≡ broken f
-          → ((table_judged ≡ broken f) × OfAnEntry o.table f) ⊎ ((table_judged ≡ fine) × ((packets_judged h).finding ≡ broken f) × OfAPacket o.stream f)
+      packets_judged : Reckoned
+      packets_judged = judge_packets (entries_of m o.table) h (packets_of m o.stream)
+
+      by_table : (v : Finding) → (judge_entries (length m) [] (entries_of m o.table)).finding ≡ v
+          → (after_entries v (judge_entries (length m) [] (entries_of m o.table)).count h packets_judged).finding ≡ broken f
+          → OfAnEntry o.table f ⊎ OfAPacket o.stream f
       by_table fine e k =
           let long : length (left m o.stream stream_header_size) ≡ o.stream.size - stream_header_size = length-drop stream_header_size (stream_bytes m o.stream) ∙ rw lies.stream in
-          let found : (packet_number f.code ≡ true) × (24 ≤ f.place) × (f.place < 24 + length (left m o.stream stream_header_size)) =
+          let found : (24 ≤ f.place) × (f.place < 24 + length (left m o.stream stream_header_size)) =
           judged-packet f (entries_of m o.table) o.stream.size stream_header_size (left m o.stream stream_header_size) h (omega (arith, lies.short bytes)) k in
-          inr (e, k, (found.0, found.1, omega (arith, found.1, found.2)))
+          inr (found.0, omega (arith, found.0, found.1))
       by_table (broken g) e k =
           let found : EntryRule f.code × (f.place < 0 + o.table.count) =
           judged-entry f (length m) m o.table o.table.count 0 [] (omega (arith, lies.few)) (e ∙ k) in
-          inl (e ∙ k, (found.0, omega (arith, found.1)))
-
-  pub unsliced-tells-where : (h : Progress) (f : Fault) → (submission m o h).finding ≡ broken f → OfAnEntry o.table f ⊎ OfAPacket o.stream f
-  unsliced-tells-where h f e = ⊎_elim (λ x. inl x.1) (λ x. inr x.2) (unsliced-tells-which h f e)
-
-  -- so the code decides: 14 or 15 exactly if an entry broke it, and then the place is below the table's count; else it is an offset in the stream
-  pub record ByTheCode (h : Progress) (f : Fault) : Type 0 where
-    pub entrys : (EntryRule f.code → table_judged ≡ broken f) × (table_judged ≡ broken f → EntryRule f.code)
-    pub index : EntryRule f.code → f.place < o.table.count
-    pub packets : (EntryRule f.code → ⊥) → ((packets_judged h).finding ≡ broken f) × OfAPacket o.stream f
-
-  pub unsliced-by-the-code : (h : Progress) (f : Fault) → (submission m o h).finding ≡ broken f → ByTheCode h f
-  unsliced-by-the-code h f e =
-      ⊎_elim
-      (λ x. record { entrys = (λ _. x.0, λ _. x.1.0); index = λ _. x.1.1; packets = λ n. absurd (n x.1.0) })
-      (λ x. record {
-        entrys = (λ c. absurd (packet-number-is-no-entrys f.code x.2.0 c), λ b. absurd (fine-not-broken (sym x.0 ∙ b)));
-        index = λ c. absurd (packet-number-is-no-entrys f.code x.2.0 c);
-        packets = λ _. (x.1, x.2);
-      })
-      (unsliced-tells-which h f e)
+          inl (found.0, omega (arith, found.1))

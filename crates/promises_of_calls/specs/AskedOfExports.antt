@@ -16,7 +16,7 @@ use Rattle.promises.specs.Main.{fence-error-and-belongings-whatever-is-asked, wh
 use Rattle.promises_of_calls.specs.OverLent.{with_loaded}
 use Rattle.promises_of_calls.specs.Exports.{Said, Gives, exports}
 use Rattle.promises_of_calls.specs.Calls.{MadeAndCalled, made_and_called}
-use Rattle.promises_of_sharing.specs.PacketsTaken.{CalledOn}
+use Rattle.promises_of_sharing.specs.TokensOverCalls.{CalledOn}
 
 -- exports that were called one after the other, each lent a memory, a buffer or a file of its own
 pub data AskedInTurn : Device → List Asked → Device → Type 0 where

@@ -6,12 +6,12 @@ use Rattle.rules.specs.State.{World, made}
 use Rattle.rules.specs.Calls.{Wrote as WroteBy, Value, Ran as RanBy, RecordRead as RecordReadBy, call_write, call_read, call_run, call_record, call_answer}
 use Rattle.rules.specs.Numbers.{done}
 use Rattle.rules.specs.Lists.Found.{none}
-use Rattle.rules.specs.Loaded.{Loaded as LoadedBy, bad_place, loaded}
+use Rattle.rules.specs.Loaded.{Loaded as LoadedBy, bad_place, loaded, call_load}
 use Rattle.run_state.specs.Views.{world_in}
 use Rattle.device_calls.specs.Views.{value_of, record_read_of}
 use Rattle.device_calls.specs.declared.ValueRead.{ValueRead}
 use Rattle.device_calls.specs.declared.RecordRead.{RecordRead}
-use Rattle.device.specs.Views.{state_of, world_of, wrote_of, ran_of, LoadsDevice}
+use Rattle.device.specs.Views.{state_of, world_of, wrote_of, ran_of, loaded_of}
 use Rattle.device.specs.declared.Device.{Device}
 use Rattle.device.specs.declared.Wrote.{Wrote}
 use Rattle.device.specs.declared.Ran.{Ran}
@@ -40,15 +40,15 @@ Makes memory d = state_of d ≡ made memory
 pub record Loads (b : List ℕ) (d : Device) : Type 0 where
   pub before : Device
   pub reply : Loaded
-  pub loads : LoadsDevice before b reply
+  pub loads : loaded_of reply ≡ call_load (state_of before) b
   pub answered : reply.answer ≡ done
   pub leaves : reply.device ≡ d
 
 -- the file is good, and the device is what it says
 pub loads-loaded : (b : List ℕ) (d : Device) → Loads b d → (bad_place b ≡ none) × (state_of d ≡ loaded b)
 loads-loaded b d k =
-    let good : bad_place b ≡ none = kept-is-good b ((loaded-exactly (state_of k.before) b).0 (sym (ap (λ (l : LoadedBy). l.answer) k.loads.loads) ∙ k.answered)) in
-    (good, sym (ap state_of k.leaves) ∙ (ap (λ (l : LoadedBy). l.state) k.loads.loads ∙ ap (λ (l : LoadedBy). l.state) (load-of-good (state_of k.before) b good)))
+    let good : bad_place b ≡ none = kept-is-good b ((loaded-exactly (state_of k.before) b).0 (sym (ap (λ (l : LoadedBy). l.answer) k.loads) ∙ k.answered)) in
+    (good, sym (ap state_of k.leaves) ∙ (ap (λ (l : LoadedBy). l.state) k.loads ∙ ap (λ (l : LoadedBy). l.state) (load-of-good (state_of k.before) b good)))
 
 -- its reply is the rules' reply
 pub gives-reply : (d : Device) (m : List ℕ) (c : Call) (r : Reply) (d' : Device) (m' : List ℕ) → Gives d m c r d' m' → r ≡ reply_to c (lent (state_of d) m)

@@ -21,8 +21,8 @@ use Rattle.promises_of_units.specs.Kept.{EachLent}
 use Rattle.promises_of_units.specs.Runs.{of-run}
 use Rattle.promises_of_units.specs.Units.{Breaks}
 use Rattle.rule_laws.specs.RuleNumbers.{EntryRule}
-use Rattle.promises.specs.Places.{Place, place_told, judged_by, JudgesAnEntry, Placed, TellsWhere}
-use Rattle.promises.specs.Main.{every-settling-tells-where}
+use Rattle.promises.specs.PlacesByNumber.{Place, place_told, judged_by, JudgesAnEntry, NumberedPlace, TellsWhich}
+use Rattle.promises.specs.Main.{every-settling-tells-which}
 use Rattle.promises_of_calls.specs.Layers.{Layer}
 use Rattle.promises_of_calls.specs.Calls.{MadeAndCalled, CallMade, before, afterwards, call-is-the-rules}
 use Rattle.promises_of_calls.specs.Calls.MadeAndCalled.{made_one, loaded-one, called-one}
@@ -54,7 +54,7 @@ pub record ToldBy {L : Layer} (r : CallMade L (runs 1)) (j : Job) (f : Fault) : 
   pub tells : place_told (L.state r.leaves).regs.error.code (L.state r.leaves).regs.error.detail ≡ judged_by (L.state r.of).work
   pub entrys : (EntryRule (L.state r.leaves).regs.error.code → JudgesAnEntry (L.state r.of).work)
       × (JudgesAnEntry (L.state r.of).work → EntryRule (L.state r.leaves).regs.error.code)
-  pub placed : Placed (L.state r.of).work f
+  pub placed : NumberedPlace (L.state r.of).work f
 
 one_unit : (w : World) → lent_another w ≡ false → go w ≡ true → after (runs 1) w ≡ step w
 unfolding after
@@ -66,7 +66,7 @@ pub a-run-of-one-tells-where : {L : Layer} (r : CallMade L (runs 1)) (k : MadeAn
     → (j : Job) (f : Fault) → Breaks (before r) (L.state r.of).work j f → ToldBy r j f
 a-run-of-one-tells-where {L} r k bytes l g j f h =
     let c : (c : Called (L.state r.of)) × EachLent OfBytes (L.state r.of) c = over-bytes L r.of k bytes in
-    let t : TellsWhere (before r) j f = every-settling-tells-where (L.state r.of) c.0 c.1 r.over j f h in
+    let t : TellsWhich (before r) j f = every-settling-tells-which (L.state r.of) c.0 c.1 r.over j f h in
     let same : (L.state r.leaves).regs.error ≡ (step (before r)).state.regs.error =
     ap (λ (w : World). w.state.regs.error) ((call-is-the-rules r).world ∙ one_unit (before r) l g) in
     let number : (L.state r.leaves).regs.error.code ≡ f.code = ap (λ (x : LastError). x.code) (same ∙ t.tells) in

@@ -24,8 +24,9 @@ use Rattle.promises_of_units.specs.Called.Call.{runs}
 use Rattle.promises_of_units.specs.Acts.{NoReset}
 use Rattle.promises_of_units.specs.Runs.{of-run}
 use Rattle.promises_of_sharing.specs.Shared.{IsBound, SecondName}
-use Rattle.promises_of_sharing.specs.PacketsTaken.CalledOn.{not_yet, calls-on}
-use Rattle.promises_of_sharing.specs.PacketsTaken.{CalledOn, Packets, packets_since}
+use Rattle.promises_of_sharing.specs.TokensOverCalls.{CalledOn}
+use Rattle.promises_of_sharing.specs.TokensOverCalls.CalledOn.{not_yet, calls-on}
+use Rattle.promises_of_sharing.specs.PacketsTaken.{Packets, packets_since}
 use Rattle.promises_of_sharing.specs.TokenLives.{Some, Exports, Spends, TokensLive, tokens-live-between-resets, ImportAccepted, a-later-import-is-accepted, WorksOn, an-accepted-import-works-on}
 use Rattle.promises_of_sharing.specs.TokenMeans.{TokensMean, tokens-mean-between-resets, NamesTheExported, a-later-import-names-the-exported}
 use Rattle.promises_of_sharing.specs.SinceBegun.{since-begun, BoundSince, bound-since-make-reset-or-load}

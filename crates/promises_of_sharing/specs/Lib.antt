@@ -3,10 +3,11 @@ pub mod Shared
 pub mod SharedTokens
 pub mod BoundTokens
 pub mod SharedPackets
-pub mod PacketsTaken
 pub mod TokensOverCalls
 pub mod NamesKept
 pub mod NamesOverCalls
+pub mod PacketsTaken
+pub mod NamesTaken
 pub mod TokenLives
 pub mod TokenMeans
 pub mod SinceBegun

@@ -1,6 +1,6 @@
 -- Wish 5, the names of a token's resource from packet to packet: a token that is bound before and after a packet keeps each of them and gets no other,
 -- but for the one name that an import gives and a destroy takes away. Of any sound progress. Assumes nothing.
-use Rattle.std.specs.Prelude.{◌≡◌, ℕ}
+use Rattle.std.specs.Prelude.{◌≡◌, ℕ, take}
 use Rattle.std.proofs.Math.Path.{refl}
 use Rattle.std.proofs.Common.{sym, ap, ◌∙◌, ⊎_elim, arith}
 use mathlib.Core.List.{List, [], ◌∷◌, ◌++◌}
@@ -8,10 +8,13 @@ use Rattle.rules.specs.Numbers.{bad_state}
 use Rattle.rules.specs.Lists.{Found, lookup, pushed}
 use Rattle.rules.specs.Lists.Found.{none, found}
 use Rattle.rules.specs.Names.{names_left, names_with}
+use Rattle.rules.specs.Stream.{frame_of, packet_of}
 use Rattle.rules.specs.StatePackets.{bad_viewport, bad_clear}
-use Rattle.rules.specs.Packets.{Outcome, accepted, handle_of, live, is_live, without, on_buffer_packet, on_texture_packet, on_viewport_packet, on_clear_packet, bound, apply, Progress, Belongings, left_by, tokens_after, passed, pass}
+use Rattle.rules.specs.Packets.{Outcome, accepted, handle_of, live, is_live, without, on_buffer_packet, on_texture_packet, on_viewport_packet, on_clear_packet, bound, apply, Progress, Belongings, left_by, tokens_after, passed, pass, pass_frame, take_packet}
 use Rattle.rules.specs.declared.Entry.{Entry}
 use Rattle.rules.specs.declared.Resource.{Resource}
+use Rattle.rules.specs.declared.Frame.{Frame}
+use Rattle.rules.specs.declared.Frame.TheVariants.{Whole, Misframed}
 use Rattle.rules.specs.declared.Packet.{Packet}
 use Rattle.rules.specs.declared.Packet.TheVariants.{Buffer, Texture, Destroy, Dirty, Copy, Target, Viewport, Scissor, Clear, Export, Import, Release, NotANumber, Unknown}
 use Rattle.rows.specs.Keys.{same_or_not, lookup-pushed-same, lookup-pushed-other}
@@ -40,6 +43,11 @@ imported_or_destroyed (Import c) = c.handle ∷ []
 imported_or_destroyed (Release c) = []
 imported_or_destroyed NotANumber = []
 imported_or_destroyed Unknown = []
+
+-- the same of the packet that some bytes begin with
+abbrev pub in_frame : List ℕ → Frame → List ℕ
+in_frame b (Whole op size) = imported_or_destroyed (packet_of op (take size b))
+in_frame b (Misframed r) = []
 
 -- a name that is none of these
 abbrev pub NotAmong : ℕ → List ℕ → Type 0
@@ -165,3 +173,12 @@ module _ (es : List Entry) (h : Progress) (s : SoundProgress es h) where
   a-packet-keeps-names (Release c) = with-names-as-live (Release c) (λ k other. release-or (SameLive k) h.holdings (λ r. refl) h.tokens c (λ r e. refl))
   a-packet-keeps-names NotANumber = keeps_same [] (left_by h)
   a-packet-keeps-names Unknown = keeps_same [] (left_by h)
+
+  -- and whatever the bytes left of a stream begin with
+  pub names-kept-in-a-stream : (b : List ℕ) → KeepsNamesBut (in_frame b (frame_of b)) (left_by h) (left_by (take_packet es h b).held)
+  unfolding take_packet
+  names-kept-in-a-stream b = by_frame (frame_of b)
+    where
+      by_frame : (f : Frame) → KeepsNamesBut (in_frame b f) (left_by h) (left_by (pass_frame es h b f).held)
+      by_frame (Whole op size) = a-packet-keeps-names (packet_of op (take size b))
+      by_frame (Misframed r) = keeps_same [] (left_by h)

@@ -2,7 +2,7 @@
 -- the one in work. What a refused or failed submission took does not count. And what holds of them from packet to packet holds over any calls. Assumes
 -- nothing.
 use Rattle.std.proofs.Math.Path.{◌≡◌, refl, sym, subst}
-use Rattle.std.proofs.Common.{ap, one-add}
+use Rattle.std.proofs.Common.{one-add}
 use Rattle.std.specs.Prelude.{Bool, eqb, ltb, length, take}
 use Rattle.std.proofs.Math.Bool.{true, false}
 use mathlib.Core.List.{List, [], ◌∷◌, ◌++◌}
@@ -16,7 +16,6 @@ use Rattle.rules.specs.Table.{take_entry}
 use Rattle.rules.specs.Packets.{Progress, Belongings, at_first, left_by, pass, pass_frame, take_packet}
 use Rattle.rules.specs.State.{Work, State, World}
 use Rattle.rules.specs.State.Work.{resting, entries, packets, waiting}
-use Rattle.rules.specs.Registers.{reset}
 use Rattle.rules.specs.Settle.{settled}
 use Rattle.rules.specs.Steps.{packets_at, entries_at, go, step, run_for, waits_on, waits, answer_on, answered}
 use Rattle.rules.specs.Calls.{Ran, call_write, call_run, call_answer}
@@ -28,7 +27,7 @@ use Rattle.rules.specs.declared.Job.{Job}
 use Rattle.rules.specs.declared.Opened.{Opened}
 use Rattle.rules.specs.declared.Packet.{Packet}
 use Rattle.rules.specs.declared.Stream.{Stream}
-use Rattle.rules.specs.declared.Verdict.TheVariants.{Fine, Broken}
+use Rattle.rules.specs.declared.Verdict.TheVariants.{Fine}
 use Rattle.promises_of_packets.specs.Held.{SoundProgress}
 use Rattle.promises_of_units.specs.Called.{Call, after, Called, is_reset}
 use Rattle.promises_of_units.specs.Called.Call.{writes, reads, runs, records, answers}
@@ -38,23 +37,10 @@ use Rattle.promises_of_units.specs.Ranges.{call-keeps-sound, called-sound}
 use Rattle.promises_of_units.specs.Runs.{of-run, of-answer}
 use Rattle.promises_of_units.specs.Units.{Next, Unit, unit}
 use Rattle.promises_of_units.specs.Units.Unit.{works-on, finds-bad-ring, finds-no-work, settles}
-use Rattle.promises_of_units.specs.Writes.{resets, Written, write-keeps-or-drops, reset-drops}
+use Rattle.promises_of_units.specs.Writes.{resets, Written, write-keeps-or-drops}
 use Rattle.promises_of_units.specs.Writes.Written.{keeps, drops}
-
--- ---- calls of which none is a reset, each lent any memory
-
-pub data CalledOn (s : State) : State → Type 0 where
-  not_yet : CalledOn s s
-  calls-on : {t : State} → CalledOn s t → (c : Call) → is_reset c ≡ false → (m : List ℕ) → CalledOn s (after c (record { state = t; mem = m })).state
-
--- after a reset nothing is in work
-a-reset-drops-the-work : (c : Call) (w : World) → is_reset c ≡ true → (after c w).state.work ≡ resting
-unfolding after reset
-a-reset-drops-the-work (writes offset v) w y = ap (λ (x : State). x.work) (reset-drops w.state offset v y)
-a-reset-drops-the-work (reads offset) w y = absurd (let z : ◌≡◌ {A = ℕ} 0 1 = cc in omega arith)
-a-reset-drops-the-work (runs n) w y = absurd (let z : ◌≡◌ {A = ℕ} 0 1 = cc in omega arith)
-a-reset-drops-the-work (records i) w y = absurd (let z : ◌≡◌ {A = ℕ} 0 1 = cc in omega arith)
-a-reset-drops-the-work (answers good n) w y = absurd (let z : ◌≡◌ {A = ℕ} 0 1 = cc in omega arith)
+use Rattle.promises_of_sharing.specs.TokensOverCalls.{CalledOn, a-reset-drops-the-work}
+use Rattle.promises_of_sharing.specs.TokensOverCalls.CalledOn.{not_yet, calls-on}
 
 -- ---- the packets that count
 
@@ -259,8 +245,11 @@ module _ (R : List Taken → Belongings → Belongings → Type 0) (c : Carries 
         by-work false (waiting j es h) e a sound = record { sound = sound; own = f.own; none_yet = omega arith; work = omega arith }
 
     by_written : (s s' : State) (offset v : ℕ) (x : Packets) → resets offset v ≡ false → Written s offset v s' → SoundState s' → Follows first s x → Follows first s' x
-    by_written s s' offset v x n (keeps r h d e) o f = record { sound = o; own = f.own; none_yet = f.none_yet; work = f.work }
-    by_written s s' offset v x n (drops h) o f = absurd (let z : ◌≡◌ {A = ℕ} 0 1 = cc in omega arith)
+    by_written s s' offset v x n = by-kind s'
+      where
+        by-kind : (y : State) → Written s offset v y → SoundState y → Follows first s x → Follows first y x
+        by-kind y (keeps r h d e) o f = record { sound = o; own = f.own; none_yet = f.none_yet; work = f.work }
+        by-kind y (drops h) o f = absurd (let z : ◌≡◌ {A = ℕ} 0 1 = cc in omega arith)
 
     -- any call but a reset
     call-follows : (k : Call) (w : World) (x : Packets) → is_reset k ≡ false → Follows first w.state x → Follows first (after k w).state (packets_after_call k w x)

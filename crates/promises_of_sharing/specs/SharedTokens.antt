@@ -1,16 +1,20 @@
 -- Wish 5, the tokens from packet to packet: whatever the packet, one that was used stays used, one that is spent stays spent, and one that is bound
 -- stays with its resource. Of any sound progress. Assumes nothing.
-use Rattle.std.specs.Prelude.{◌≡◌, refl, List, [], ◌∷◌, ◌⊎◌, ℕ, ◌-◌}
+use Rattle.std.specs.Prelude.{◌≡◌, List, [], ◌∷◌, ◌⊎◌, ℕ, take}
+use Rattle.std.proofs.Math.Path.{refl}
 use Rattle.std.proofs.Common.{sym, ap, subst, ◌∙◌, inl, inr, ⊎_elim}
 use Rattle.machine.specs.Machine.{pick}
 use Rattle.rules.specs.Numbers.{no_name}
 use Rattle.rules.specs.Lists.{Found, lookup, pushed}
 use Rattle.rules.specs.Lists.Found.{none, found}
 use Rattle.rules.specs.Names.{token_of, renamed, under, lower, lowest_left, names_left, tokens_left, names_with, tokens_with, is_new, with_token, without_token}
-use Rattle.rules.specs.Packets.{handle_of, live, without, bound, Progress, Passed, pass}
+use Rattle.rules.specs.Stream.{frame_of, packet_of}
+use Rattle.rules.specs.Packets.{handle_of, live, without, bound, Progress, Passed, pass, pass_frame, take_packet}
 use Rattle.rules.specs.declared.Entry.{Entry}
 use Rattle.rules.specs.declared.Resource.{Resource}
 use Rattle.rules.specs.declared.Token.{Token}
+use Rattle.rules.specs.declared.Frame.{Frame}
+use Rattle.rules.specs.declared.Frame.TheVariants.{Whole, Misframed}
 use Rattle.rules.specs.declared.Packet.{Packet}
 use Rattle.rows.specs.Keys.{same_or_not, lookup-pushed-other}
 use Rattle.promises_of_packets.specs.Names.{none-not-found, found-same, in_found, moved, rebound, renamed-own, renamed-other, lookup-released, lookup-unreleased, found-key}
@@ -282,6 +286,15 @@ module _ (es : List Entry) (h : Progress) (s : SoundProgress es h) where
       pass-or (λ (o : Passed). TokensStay h o.held) es h (λ r. stay-same h h refl refl) (stay-same h h refl refl) (λ r f. stay-stored h _ r f refl refl)
       (λ r e f i. stay-stored h _ r f refl refl) stay-destroyed (λ kind r e from size i. stay-same h _ refl refl) (λ k t e. stay-same h _ refl refl)
       (λ t c k. stay-same h _ refl refl) (λ k token r x. stay-exported k token r) stay-imported stay-released
+
+  -- and whatever the bytes left of a stream begin with
+  pub tokens-stay-in-a-stream : (b : List ℕ) → TokensStay h (take_packet es h b).held
+  unfolding take_packet
+  tokens-stay-in-a-stream b = by_frame (frame_of b)
+    where
+      by_frame : (f : Frame) → TokensStay h (pass_frame es h b f).held
+      by_frame (Whole op size) = tokens-stay (packet_of op (take size b))
+      by_frame (Misframed r) = stay-same h h refl refl
 
 -- ---- several packets
 

@@ -1,11 +1,10 @@
 -- Since a make, a reset or a load: whatever a host asks, saves, moves and loads of bad files among it, what is said of calls between resets holds. And of any
 -- device made and called, from the last of the three on: a token is bound exactly if it was in the file that was loaded, bound, or was exported since, and was
 -- not spent since. Assumes nothing.
-use Rattle.std.specs.Prelude.{◌≡◌, refl, Bool, true, false, List, [], ◌∷◌, ◌++◌, ◌⊎◌, ℕ, ◌≤◌}
-use Rattle.std.proofs.Common.{sym, ap, subst, ◌∙◌, inl, inr, ⊎_elim, arith}
-use Rattle.rules.specs.Lists.{Found, lookup}
-use Rattle.rules.specs.Lists.Found.{none, found}
-use Rattle.rules.specs.Names.{token_of}
+use Rattle.std.specs.Prelude.{◌≡◌, refl, Bool, true, false, List, [], ◌∷◌, ◌⊎◌, ℕ}
+use Rattle.std.proofs.Common.{sym, ap, subst, ⊎_elim, arith}
+use Rattle.rules.specs.Lists.{lookup}
+use Rattle.rules.specs.Lists.Found.{none}
 use Rattle.rules.specs.State.{State, World, made, nothing_owned}
 use Rattle.rules.specs.Loaded.{bad_place, loaded}
 use Rattle.rules.specs.declared.Token.{Token}
@@ -16,13 +15,13 @@ use Rattle.promises_of_units.specs.Called.Call.{writes, reads, runs, records, an
 use Rattle.promises_of_units.specs.Called.Called.{makes, loads as was_loaded, calls as was_Called}
 use Rattle.promises_of_units.specs.Asked.{Asked, left, left_all, resets_or_loads, NoResetOrLoad, bad-file-leaves}
 use Rattle.promises_of_units.specs.Asked.Asked.{calls, saves, loads, moves}
-use Rattle.promises_of_sharing.specs.Shared.{Spent, IsBound}
+use Rattle.promises_of_sharing.specs.Shared.{IsBound}
 use Rattle.promises_of_sharing.specs.SharedTokens.{TokensGoOn, not-both}
-use Rattle.promises_of_sharing.specs.TokensOverCalls.{tokens-go-on-between-resets, a-reset-forgets-the-tokens}
-use Rattle.promises_of_sharing.specs.PacketsTaken.CalledOn.{not_yet, calls-on}
+use Rattle.promises_of_sharing.specs.TokensOverCalls.{CalledOn, tokens-go-on-between-resets, a-reset-forgets-the-tokens}
+use Rattle.promises_of_sharing.specs.TokensOverCalls.CalledOn.{not_yet, calls-on}
 use Rattle.promises_of_sharing.specs.NamesKept.{KeepsNamesBut}
 use Rattle.promises_of_sharing.specs.NamesOverCalls.{names_since, a-bound-token-keeps-its-names-between-resets}
-use Rattle.promises_of_sharing.specs.PacketsTaken.{CalledOn, packets_since}
+use Rattle.promises_of_sharing.specs.PacketsTaken.{packets_since}
 use Rattle.promises_of_sharing.specs.TokenLives.{Some, Exports, Spends, TokensLive, tokens-live-between-resets}
 use Rattle.promises_of_sharing.specs.TokenMeans.{TokensMean, tokens-mean-between-resets}
 
@@ -47,7 +46,7 @@ asked_on (a ∷ qs) s n = then_on (one_on a s n.0) (asked_on qs (left a s) n.1)
 -- so the theorems between resets are of such
 pub record BetweenResetsAndLoads (s t : State) (k : Called s) (q : CalledOn s t) : Type 0 where
   pub used-and-spent : TokensGoOn s.belongings.tokens t.belongings.tokens
-  pub names : KeepsNamesBut (names_since s t k q) s.belongings t.belongings
+  pub names : KeepsNamesBut (names_since s t k q).by_good s.belongings t.belongings
   pub tokens : TokensLive (packets_since s t k q).by_good s.belongings.tokens t.belongings.tokens
   pub resources : TokensMean (packets_since s t k q).by_good s.belongings t.belongings
 

@@ -1,7 +1,7 @@
 -- Wish 5, "two programs, one surface": a token lives from one submission to the next. One that is bound, or exported since, is bound over any calls
 -- between resets, exactly unless a submission answered good has released it or destroyed the last name of its resource since. And import's own test finds
 -- it, so an import of it in a later submission, with a free handle and room, is accepted. Assumes nothing.
-use Rattle.std.specs.Prelude.{◌≡◌, refl, Bool, true, false, ◌&&◌, ◌⊎◌, ℕ, ◌<◌, eqb, length, take}
+use Rattle.std.specs.Prelude.{◌≡◌, refl, false, ◌⊎◌, ℕ, ◌<◌, eqb, length, take}
 use Rattle.std.proofs.Common.{sym, subst, ◌∙◌, arith, eqb-true, ne_eqb}
 use Rattle.std.proofs.Math.Path.{ap}
 use mathlib.Core.List.{List, [], ◌∷◌, ◌++◌}
@@ -12,7 +12,7 @@ use Rattle.rules.specs.Numbers.{most, no_name}
 use Rattle.rules.specs.Lists.{Found, lookup, pushed}
 use Rattle.rules.specs.Lists.Found.{none, found}
 use Rattle.rules.specs.Names.{token_of, renamed, lower, lowest_left, tokens_left, tokens_with, of_another, is_new, with_token, without_token}
-use Rattle.rules.specs.Packets.{Outcome, Holdings, handle_of, live, without, bound_in, bound, apply, Progress, Passed, Belongings, left_by, passed, target_after, tokens_after, pass, pass_frame, take_packet}
+use Rattle.rules.specs.Packets.{Outcome, handle_of, live, without, bound_in, bound, apply, Progress, Passed, Belongings, passed, target_after, tokens_after, pass, pass_frame, take_packet}
 use Rattle.rules.specs.Stream.{left, frame_of, packet_of}
 use Rattle.rules.specs.State.{State, Work, World, working}
 use Rattle.rules.specs.State.Work.{packets}
@@ -22,7 +22,6 @@ use Rattle.rules.specs.declared.Job.{Job}
 use Rattle.rules.specs.declared.Resource.{Resource}
 use Rattle.rules.specs.declared.Stream.{Stream}
 use Rattle.rules.specs.declared.Token.{Token}
-use Rattle.rules.specs.declared.DestroyResource.{DestroyResource}
 use Rattle.rules.specs.declared.ExportSurface.{ExportSurface}
 use Rattle.rules.specs.declared.ImportSurface.{ImportSurface}
 use Rattle.rules.specs.declared.ReleaseToken.{ReleaseToken}
@@ -40,12 +39,12 @@ use Rattle.promises_of_units.specs.Called.{Called}
 use Rattle.promises_of_units.specs.Ranges.{called-sound}
 use Rattle.promises_of_units.specs.Units.{Next, unit-is-step}
 use Rattle.promises_of_units.specs.Units.Unit.{works-on}
-use Rattle.promises_of_sharing.specs.Shared.{Used, Spent, IsBound, NameOf, OneResource, SecondName, destroying_a_name_leaves_the_others, an-import-is-a-second-name}
+use Rattle.promises_of_sharing.specs.Shared.{Spent, IsBound, SecondName, destroying_a_name_leaves_the_others, an-import-is-a-second-name}
 use Rattle.promises_of_sharing.specs.SharedTokens.{TokensGoOn, go-on-same, go-on-both, tokens-stay, not-both}
 use Rattle.promises_of_sharing.specs.BoundTokens.{ReleaseOf, DestroyOfItsLastName, a-bound-token-is-spent-only-by-its-release-or-with-its-last-name}
 use Rattle.promises_of_sharing.specs.SharedPackets.{when-an-import-is-accepted, when-a-release-is-accepted}
-use Rattle.promises_of_sharing.specs.TokensOverCalls.{what-is-held-is-sound}
-use Rattle.promises_of_sharing.specs.PacketsTaken.{CalledOn, Taken, Packets, packets_since, Carries, InWork, carried-between-resets, carried-in-work}
+use Rattle.promises_of_sharing.specs.TokensOverCalls.{CalledOn, what-is-held-is-sound}
+use Rattle.promises_of_sharing.specs.PacketsTaken.{Taken, packets_since, Carries, InWork, carried-between-resets, carried-in-work}
 
 -- ---- one of a list
 

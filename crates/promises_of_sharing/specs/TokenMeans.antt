@@ -27,13 +27,13 @@ use Rattle.rules.specs.declared.Packet.TheVariants.{Export, Import}
 use Rattle.rows.specs.Keys.{same_or_not, lookup-pushed-same, lookup-pushed-other}
 use Rattle.promises_of_packets.specs.Names.{none-not-found, found-same, in_found, moved, rebound, renamed-own, renamed-other, lookup-unreleased, lookup-released}
 use Rattle.promises_of_packets.specs.SoundNames.{SoundNames, Bindable, one-resource, lowest-apart, gone, others-left, new-found, name-after-destroy, token-after-destroy, BoundTo, bound-is, sound-bound, old-name, then-here, name-after-import, token-after-import}
-use Rattle.promises_of_packets.specs.Effects.{Fresh, Exported, Imported, destroyed, imported, pass-or, export-or}
+use Rattle.promises_of_packets.specs.Effects.{Fresh, Exported, Imported, pass-or, export-or}
 use Rattle.promises_of_packets.specs.Held.{Every, every-none, every-both, SoundProgress}
 use Rattle.promises_of_units.specs.Called.{Called}
-use Rattle.promises_of_sharing.specs.Shared.{Meaning, meaning_of, meaning_in, means, Spent, IsBound, SecondName, an-import-is-a-second-name}
-use Rattle.promises_of_sharing.specs.SharedTokens.{spent_or_bound, not-both}
-use Rattle.promises_of_sharing.specs.TokensOverCalls.{what-is-held-is-sound}
-use Rattle.promises_of_sharing.specs.PacketsTaken.{CalledOn, Taken, packets_since, Carries, InWork, carried-between-resets, carried-in-work}
+use Rattle.promises_of_sharing.specs.Shared.{Meaning, meaning_of, meaning_in, means, IsBound, SecondName, an-import-is-a-second-name}
+use Rattle.promises_of_sharing.specs.SharedTokens.{not-both}
+use Rattle.promises_of_sharing.specs.TokensOverCalls.{CalledOn, what-is-held-is-sound}
+use Rattle.promises_of_sharing.specs.PacketsTaken.{Taken, packets_since, Carries, InWork, carried-between-resets, carried-in-work}
 use Rattle.promises_of_sharing.specs.TokenLives.{Some, Exports, TokensLive, live-over}
 
 -- ---- what a token means

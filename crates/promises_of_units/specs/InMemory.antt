@@ -210,8 +210,11 @@ answer-call-lies w good k h =
 
 written-lies : (s s' : State) (offset v : ℕ) → Lies s → Written s offset v s' → Lies s'
 unfolding reset
-written-lies s s' offset v h (keeps r n c e) = h
-written-lies s s' offset v h (drops e) = omega arith
+written-lies s s' offset v h = by-written s'
+  where
+    by-written : (x : State) → Written s offset v x → Lies x
+    by-written x (keeps r n c e) = h
+    by-written x (drops e) = omega arith
 
 pub write-call-lies : (s : State) (offset v : ℕ) → Lies s → Lies (call_write s offset v).state
 write-call-lies s offset v h = written-lies s (call_write s offset v).state offset v h (write-keeps-or-drops s offset v)

@@ -44,8 +44,11 @@ answer-call-keeps-sound w good n s =
 -- a write keeps it: it changes registers alone and not the last error, or drops everything but that
 written-sound : (s s' : State) (offset v : ℕ) → SoundState s → Written s offset v s' → SoundState s'
 unfolding reset reset_registers
-written-sound s s' offset v k (keeps r n c e) = record { belongings = k.belongings; work = k.work; error = subst SoundError (sym e) k.error }
-written-sound s s' offset v k (drops h) = record { belongings = (made-sound 0).belongings; work = (made-sound 0).work; error = k.error }
+written-sound s s' offset v k = by-written s'
+  where
+    by-written : (x : State) → Written s offset v x → SoundState x
+    by-written x (keeps r n c e) = record { belongings = k.belongings; work = k.work; error = subst SoundError (sym e) k.error }
+    by-written x (drops h) = record { belongings = (made-sound 0).belongings; work = (made-sound 0).work; error = k.error }
 
 pub write-call-keeps-sound : (s : State) (offset v : ℕ) → SoundState s → SoundState (call_write s offset v).state
 write-call-keeps-sound s offset v k = written-sound s (call_write s offset v).state offset v k (write-keeps-or-drops s offset v)

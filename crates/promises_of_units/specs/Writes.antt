@@ -67,8 +67,11 @@ write-keeps-or-drops s offset v = by-control (eqb offset 0x10c) refl
 
 -- a write that is no reset leaves what is in work, and every resource
 pub write-keeps-work : (s s' : State) (offset v : ℕ) → resets offset v ≡ false → Written s offset v s' → (s'.work ≡ s.work) × (s'.belongings ≡ s.belongings)
-write-keeps-work s s' offset v n (keeps r h c e) = (refl, refl)
-write-keeps-work s s' offset v n (drops h) = absurd (let z : ◌≡◌ {A = ℕ} 0 1 = cc in omega arith)
+write-keeps-work s s' offset v n = by-written s'
+  where
+    by-written : (x : State) → Written s offset v x → (x.work ≡ s.work) × (x.belongings ≡ s.belongings)
+    by-written x (keeps r h c e) = (refl, refl)
+    by-written x (drops h) = absurd (let z : ◌≡◌ {A = ℕ} 0 1 = cc in omega arith)
 
 -- ---- by the test alone
 

@@ -1,3 +1,4 @@
 pub mod Said
 pub mod Saying
+pub mod LoadedWhole
 pub mod Difference

@@ -1,11 +1,10 @@
 -- What the exports say: the values of the rules' own call.
 use Rattle.std.specs.Prelude.{◌≡◌, Bool, List, ℕ}
-use Rattle.rules.specs.Numbers.{done}
 use Rattle.rules.specs.Calls.{Ran, call_read, call_run, call_record, call_answer}
 use Rattle.rules.specs.Saved.{call_save}
 use Rattle.rules.specs.Loaded.{call_load, call_move}
 use Rattle.rules.specs.declared.Form.{Form}
-use Rattle.run_state.specs.Views.{state_in, Lent, desk_of, Refused, Rests}
+use Rattle.run_state.specs.Views.{state_in, Lent, desk_of, Refused}
 use Rattle.export_numbers.specs.Numbers.{said_beside, said_long, said_value, said_run, record_words}
 use Rattle.dump_listing.specs.Views.{call_dump}
 
@@ -44,8 +43,6 @@ pub record SaysLoaded (s a ft file : List ℕ) (said : ℕ) (s' a' ft' : List �
   pub place : (e b st c : List ℕ) → said ≡ said_beside (call_load (state_in s e a b ft st c) file).place (call_load (state_in s e a b ft st c) file).answer
   pub state : (e b st c : List ℕ) → state_in s' e a' b ft' st c ≡ (call_load (state_in s e a b ft st c) file).state
   pub still : (e b st c : List ℕ) → Refused (call_load (state_in s e a b ft st c) file).answer → (s' ≡ s) × ((a' ≡ a) × (ft' ≡ ft))
-  -- done, no word is left of what was in work
-  pub rests : (e b st c : List ℕ) → (call_load (state_in s e a b ft st c) file).answer ≡ done → Rests s'
 
 -- the rules' move of a file
 pub record SaysMoved (file buffer : List ℕ) (said : ℕ) (buffer' : List ℕ) : Type 0 where

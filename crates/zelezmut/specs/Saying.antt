@@ -48,7 +48,6 @@ says-loaded s a ft file s' a' ft' n x k p =
       place = λ e b st c. p ∙ ap (λ (y : Loaded). said_beside y.place y.answer) (k.loads e b st c);
       state = λ e b st c. ap (λ (y : Loaded). y.state) (k.loads e b st c);
       still = λ e b st c z. k.refused (λ d. z (sym (ap (λ (y : Loaded). y.answer) (k.loads e b st c)) ∙ d));
-      rests = λ e b st c d. k.rests (ap (λ (y : Loaded). y.answer) (k.loads e b st c) ∙ d);
     }
 
 pub says-moved : (file buffer buffer' : List ℕ) (n : ℕ) (x : FileSaved) → saved_of x buffer' ≡ call_move file buffer → n ≡ said_beside x.length x.answer → SaysMoved file buffer n buffer'
