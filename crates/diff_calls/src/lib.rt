@@ -1,5 +1,7 @@
 // What differs between two dumps (02, wish 8), asked of any bytes: whether they are valid streams, where they part, how the packets with an index
 // compare and where these differ. A cursor goes over all packets in one pass.
+#![tactic(auto)]
+
 ghost use Rattle.std.specs.Prelude.{◌≡◌};
 ghost use Rattle.rules.specs.Difference.{check, parts, class_asked, next_asked, start, pair_at, next_at, onward, behind};
 

@@ -1,4 +1,6 @@
 // The packets at two places of two streams' own bytes: how they compare, and where they differ.
+#![tactic(auto)]
+
 ghost use Rattle.std.specs.Prelude.{◌≡◌, ◌≤◌, length};
 ghost use Rattle.rules.specs.Layouts.{stream_header_size};
 ghost use Rattle.rules.specs.Difference.{class_both, class_of, offsets_both, offsets_of, next_from, packet_at, size_at, pair_in, parted};

@@ -1,5 +1,7 @@
 // The text of a dump, written into a lent buffer: a line a packet, in order, and how it ends. A program calls `list` with room for every listing; a
 // host calls `list_dump` with any buffer.
+#![tactic(auto)]
+
 ghost use Rattle.std.specs.Prelude.{◌≡◌, ◌≤◌, length};
 ghost use Rattle.rules.specs.Layouts.{stream_header_size};
 ghost use Rattle.rules.specs.Dump.{text_of, dump_of, bad_input, listing};

@@ -1,6 +1,8 @@
 // Whether the text of a dump has room in a buffer, told before a byte of the buffer is written. A buffer with room for the longest text of such a dump
 // is told by its length; for any other, each line is written into a buffer of its own and measured. The writers ask for exactly the room of their text,
 // so a text that fits a buffer to the last byte is not refused.
+#![tactic(auto)]
+
 ghost use Rattle.std.specs.Prelude.{◌≡◌, not, ◌+◌, ◌*◌, ◌≤◌, ltb, length};
 ghost use Rattle.rules.specs.Layouts.{stream_header_size};
 ghost use Rattle.rules.specs.Dump.{text_of, dump_of};

@@ -1,4 +1,6 @@
 // What the exports about two dumps say, in numbers: an answer beside one word, a pair in five words, a cursor in two.
+#![tactic(auto)]
+
 ghost use Rattle.std.specs.Prelude.{◌≡◌, [], ◌∷◌};
 ghost use Rattle.export_difference.specs.Numbers.{class_number, said_is, said_none, said_refused, Says, checked_said, parting_said, parts_said, class_said, offset_said, next_said, cursor_in, cursor_words, pair_words, SaysStart};
 

@@ -1,5 +1,7 @@
 // The totals of a month by value (02, wish 13): a feed and a merge take the totals and give them back beside their answer. No call asks
 // anything of its caller.
+#![tactic(auto)]
+
 ghost use Rattle.std.specs.Prelude.{◌≡◌, []};
 ghost use Rattle.rules.specs.Month.{totals, fed, merged};
 ghost use Rattle.month_feed.specs.Views.{finished};

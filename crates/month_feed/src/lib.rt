@@ -1,4 +1,6 @@
 // Feeds a finished submission to the totals of a month (02, wish 13): its error, its units and its records, which are the first rows of a table.
+#![tactic(auto)]
+
 ghost use Rattle.std.specs.Prelude.{◌≡◌, true, ◌≤◌, ◌<◌, max};
 ghost use Rattle.rules.specs.Numbers.{most, writes};
 ghost use Rattle.kept_resources.specs.Views.{records_of};

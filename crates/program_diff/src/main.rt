@@ -1,5 +1,7 @@
 // What differs between two dumps: reads the length of the first, the first and the second from standard input, and prints the report. One pass
 // over both: a cursor goes from packet to packet.
+#![tactic(auto)]
+
 ghost use Rattle.std.specs.Prelude.{◌≡◌, length};
 
 use diff_calls::{next_at, onward, pair_at, parts};

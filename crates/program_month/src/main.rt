@@ -1,5 +1,7 @@
 // The month in numbers (02, wish 13), as docs/MONTH.md publishes it: reads finished submissions from standard input, prints a line for each
 // that is not counted, then a line for each total, and `bad input` if the input ends inside a submission.
+#![tactic(auto)]
+
 mod input;
 mod lines;
 

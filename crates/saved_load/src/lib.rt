@@ -1,4 +1,6 @@
 // Loading: a device that was saved is read back from a file of either form, in place. A bad file changes nothing.
+#![tactic(auto)]
+
 ghost use Rattle.saved_fields.specs.Good.{GoodFile};
 ghost use Rattle.saved_load.specs.Views.{LoadsGood, Loads};
 

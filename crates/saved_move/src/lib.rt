@@ -1,5 +1,7 @@
 // A saved desk moved to the other form (02, wish 11): what the file says is loaded into a device of its own, and saved in the other form. Only
 // files are lent, and a refused move writes nothing.
+#![tactic(auto)]
+
 ghost use Rattle.std.specs.Prelude.{◌≡◌};
 ghost use Rattle.rules.specs.Loaded.{other_form, call_move};
 ghost use Rattle.saved_save.specs.Views.{saved_of};

@@ -1,0 +1,9 @@
+-- `say_class` meets its contract. Assumes nothing.
+use Rattle.export_difference.specs.Saying.{saying_class}
+use Rattle.export_difference.proofs.say_class.Goals as goal
+
+pub returns-in-Is : goal.returns-in-Is
+returns-in-Is c = search saying_class
+
+pub returns-in-Refused : goal.returns-in-Refused
+returns-in-Refused c = search saying_class
