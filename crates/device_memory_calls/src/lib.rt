@@ -1,5 +1,7 @@
 // The calls on a device's words and tables that are lent guest memory: run and answer. Another memory than the device was made for is
 // refused before anything else; a refused call writes no word, no row and no byte.
+#![tactic(auto)]
+
 ghost use Rattle.std.specs.Prelude.{◌≡◌};
 ghost use Rattle.device_memory_calls.specs.Views.{refused_with, Runs, Answers};
 

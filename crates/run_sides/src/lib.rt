@@ -1,4 +1,6 @@
 // A run over the arrays that a host lends, whichever of two tables of resources is the device's.
+#![tactic(auto)]
+
 ghost use Rattle.run_sides.specs.Views.{RanOn};
 
 use kept_entries::Entries;

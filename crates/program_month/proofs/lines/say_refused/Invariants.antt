@@ -3,7 +3,7 @@ use Rattle.std.proofs.Common.{◌-◌, ◌≤◌}
 use Rattle.program_month.proofs.lines.say_refused.Given as goal
 
 abbrev pub invariant-loop-at : goal.invariant-loop-at
-invariant-loop-at l = at ≤ 22
+invariant-loop-at l = l.at ≤ 22
 
 abbrev pub decreases-loop-at : goal.decreases-loop-at
-decreases-loop-at l = 22 - at
+decreases-loop-at l = 22 - l.at
