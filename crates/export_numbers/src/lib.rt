@@ -1,5 +1,7 @@
 // What the exports say, in numbers: a value beside an answer, what a run spent, a record in five words; and the number of the layout of what a
 // host lends.
+#![tactic(auto)]
+
 ghost use Rattle.std.specs.Prelude.{◌≡◌, ◌≤◌, ◌<◌};
 ghost use Rattle.rules.specs.Calls.{ended_number};
 ghost use Rattle.export_numbers.specs.Numbers.{record_words, said_beside, said_long, said_spent};

@@ -25,17 +25,15 @@ use Rattle.rules.specs.declared.Packet.TheVariants.{Buffer}
 use Rattle.promises_of_saving.specs.SameDevice.{SameDevice}
 use Rattle.promises_of_units.specs.Called.{after}
 use Rattle.promises_of_units.specs.Called.Call.{writes, runs}
-use Rattle.promises_of_same_desks.specs.Desks.{SameDesk}
-use Rattle.promises_of_same_desks.specs.ForEver.{same-devices-for-ever}
 use Rattle.promises_of_units.specs.Asked.{Asked, left, left_all}
 use Rattle.promises_of_units.specs.Asked.Asked.{calls}
-use Rattle.promises_of_same_desks.specs.Witness.{held_after, having, having-sound}
+use Rattle.promises_of_same_desks.specs.Witness.{held_after, having}
 use Rattle.promises.specs.NightLog.{zeros}
 use Rattle.promises.specs.Witness.{in_bytes, ring_words}
 use Rattle.promises.specs.StateWitness.{textured, destroyed, stream_with}
 use Rattle.promises.specs.SharedWitness.{exported, imported, shared, sharing, sharing_guest}
 
-abbrev buffered : ℕ → Packet
+abbrev pub buffered : ℕ → Packet
 buffered k = Buffer (record { handle = k; size = 4096; backing = 0; offset = 0 })
 
 abbrev a_buffer : ℕ → Resource
@@ -102,8 +100,3 @@ pub record InTheMidst : Type 0 where
 pub rows_differ_in_the_midst : InTheMidst
 unfolding rising_order other_order having held_after into_the_midst left_all left exported imported shared textured destroyed stream_with sharing sharing_guest zeros ring_words in_bytes le bytes_of over lookup index_of nth rename rebind lowest_left ring_header descriptor stream_header power_of_two good_header good_ring ring_opening opening_of descriptor_rules range_rules submission_rules submission_opening wrong_header stream_rules texture_fields export_fields import_fields known least_size frame_rules frame_of packet_of block_bytes halvings full_chain good_shape create_hosted create on_buffer_packet on_texture_packet on_export_packet bound on_import_packet apply target_after tokens_after pass take_packet open_step packet_step step go run_while call_run call_write write_of controlled after
 rows_differ_in_the_midst = record { first = refl; second = refl }
-
--- so the devices are not equal there, and are the same desk
-pub one-desk-in-the-midst : SameDesk (left_all into_the_midst rising_order) (left_all into_the_midst other_order)
-unfolding rising_order other_order
-one-desk-in-the-midst = (same-devices-for-ever rising_order other_order (having-sound 272 _) (having-sound 272 _) two-orders-one-device).left into_the_midst

@@ -1,18 +1,18 @@
 -- Wish 7's theorems are of something: streams with a target, a viewport, a scissor and a clear, judged by the rules, each by computation.
 -- Assumes nothing.
 use Rattle.std.specs.Prelude.{◌≡◌, refl, true, false, List, [], ◌∷◌, ◌++◌, ℕ, ◌+◌, ◌*◌, pos, negsuc, length}
-use Rattle.std.proofs.Common.{sym, ap, subst, arith}
+use Rattle.std.proofs.Common.{arith}
 use Rattle.std.specs.Float.Ieee.{of_bits, to_bits}
 use Rattle.machine.specs.Machine.{run_while}
 use Rattle.rules.specs.Numbers.{stream_magic, version, create_texture, destroy, set_target, set_viewport, set_scissor, clear}
 use Rattle.rules.specs.Bytes.{le, bytes_of}
-use Rattle.rules.specs.Lists.{over, removed, nth, lookup, index_of}
+use Rattle.rules.specs.Lists.{over, nth, lookup}
 use Rattle.rules.specs.Judging.Finding.{fine, broken}
-use Rattle.rules.specs.Layouts.{ring_header, descriptor, stream_header, texture_fields, destroy_fields, target_fields, viewport_fields, signed, scissor_fields, clear_fields}
+use Rattle.rules.specs.Layouts.{ring_header, descriptor, stream_header, texture_fields, target_fields, viewport_fields, signed, scissor_fields, clear_fields}
 use Rattle.rules.specs.Floats.{is_nan_bits, not_finite, key, below}
 use Rattle.rules.specs.Shapes.{block_bytes, halvings, full_chain, good_shape}
 use Rattle.rules.specs.StatePackets.{bad_bounds, bad_viewport, bad_values, bad_clear, bad_sides, common, clip_of}
-use Rattle.rules.specs.Packets.{at_first, create_hosted, create, on_texture_packet, on_destroy_packet, live_texture, on_target_packet, on_viewport_packet, on_scissor_packet, on_clear_packet, apply, Progress, target_after, pass, take_packet, tokens_after}
+use Rattle.rules.specs.Packets.{at_first, create_hosted, create, on_texture_packet, live_texture, on_target_packet, on_viewport_packet, on_scissor_packet, on_clear_packet, apply, Progress, target_after, pass, take_packet, tokens_after}
 use Rattle.rules.specs.Stream.{stream_rules, known, least_size, frame_rules, frame_of, packet_of, cut, packets_of}
 use Rattle.rules.specs.Headers.{wrong_header}
 use Rattle.rules.specs.Table.{entries_from, judge_entries}
@@ -21,24 +21,16 @@ use Rattle.rules.specs.State.{World, made, with_regs, registers_of, no_error, wo
 use Rattle.rules.specs.State.Work.{packets, waiting}
 use Rattle.rules.specs.Steps.{open_step, packet_step, step, go}
 use Rattle.rules.specs.Unsliced.{Reckoned, judge_packets, submission, submitted}
-use Rattle.rules.specs.Registers.{controlled, write_of}
-use Rattle.rules.specs.Calls.{RecordRead, call_write, call_run, call_record}
-use Rattle.rules.specs.Names.{rename}
+use Rattle.rules.specs.Calls.{call_run, call_record}
 use Rattle.rules.specs.declared.Job.{Job}
 use Rattle.rules.specs.declared.Stream.{Stream}
 use Rattle.rules.specs.declared.Shape.{Shape}
 use Rattle.rules.specs.declared.SetScissor.{SetScissor}
 use Rattle.rules.specs.declared.Kind.TheVariants.{Texture}
-use Rattle.promises_of_packets.specs.Held.{LiveTexture, OfAKind}
 use Rattle.promises.specs.NightLog.{zeros}
 use Rattle.promises_of_submissions.specs.LentBytes.{OfBytes, bytes-of, both_bytes}
-use Rattle.promises_of_units.specs.Called.{Called, after}
-use Rattle.promises_of_units.specs.Called.Call.{writes, runs}
-use Rattle.promises_of_units.specs.Called.Called.{makes, calls}
-use Rattle.promises_of_units.specs.Ranges.{kinds-at-the-record-call}
-use Rattle.promises_of_submissions.specs.Clipping.{ClippedTo, clip-is-the-common-part}
-use Rattle.promises_of_sharing.specs.Targets.{called-target-lives, first-packet-finds-no-target}
-use Rattle.promises_of_submissions.specs.FloatBits.{ViewportCarried, viewport-is-carried}
+use Rattle.promises_of_units.specs.Called.{after}
+use Rattle.promises_of_units.specs.Called.Call.{runs}
 use Rattle.promises.specs.Witness.{in_bytes, ring_words}
 
 -- ---- packets, word by word
@@ -104,19 +96,6 @@ pub record StateStreams : Type 0 where
   -- handle 0 is no live texture
   pub target-0 : (judged_words (textured 1 ++ targeted 0)).finding ≡ broken (record { code = 18; place = 80 })
 
-pub state_streams : StateStreams
-unfolding textured targeted destroyed viewed scissored cleared stream_with judged_words drawing in_bytes le bytes_of lookup index_of removed over rename texture_fields target_fields destroy_fields viewport_fields signed scissor_fields clear_fields known least_size frame_rules frame_of packet_of cut is_nan_bits not_finite key below bad_bounds bad_viewport bad_values bad_clear bad_sides common clip_of block_bytes halvings full_chain good_shape create_hosted create on_texture_packet on_destroy_packet live_texture on_target_packet on_viewport_packet on_scissor_packet on_clear_packet apply target_after tokens_after pass judge_packets of_bits to_bits
-state_streams =
-    record {
-      all-are-fine = refl;
-      minus-zero = refl;
-      not-a-number = refl;
-      no_end = refl;
-      no_target = refl;
-      made_again = refl;
-      target-0 = refl;
-    }
-
 -- ---- a guest that sends the first of them, with no table
 
 unfoldable pub drawing_guest : List ℕ
@@ -155,42 +134,12 @@ drawing_guest_is = record { accepted = refl; run-accepted = refl; handed_out = r
 
 -- ---- so the theorems speak of them
 
-asked_is_called : Called drawing_asked.state
-unfolding drawing_asked after call_write write_of lookup controlled
-asked_is_called = calls (writes 0x200 0) [] (calls (writes 0x10c 1) [] (calls (writes 0x108 128) [] (makes 316)))
-
-run_is_called : (n : ℕ) → Called (after (runs n) drawing_asked).state
-run_is_called n = calls (runs n) drawing_asked.mem asked_is_called
-
--- the first packet finds no target
-pub begins-with-none : (at_first nothing_owned).target ≡ 0
-begins-with-none = first-packet-finds-no-target (after (runs 1) drawing_asked).state (run_is_called 1) the_job the_stream 24 [] (at_first nothing_owned) drawing_guest_is.opened refl
-
--- and the one that was set is a live texture
-pub its-target-lives : LiveTexture 1 (record { resources = drawn.holdings.resources; records = [] })
-its-target-lives =
-    called-target-lives (after (runs 3) drawing_asked).state (run_is_called 3) the_job the_stream 96 [] _ drawing_guest_is.targeted-at (λ z. omega arith)
-
--- what is handed out is of kind 4
-pub its-record-is-of-a-kind : OfAKind (call_record drawing_waits.state 0).range
-its-record-is-of-a-kind =
-    kinds-at-the-record-call drawing_waits.state (subst (λ (w : World). Called w.state) drawing_guest_is.run-accepted (run_is_called 65535)) 0
-    (ap (λ (r : RecordRead). r.answer) drawing_guest_is.handed_out)
-
 -- and is what the texture and the scissor, from -5, 3 on, have in common
-abbrev the_scissor : SetScissor
+abbrev pub the_scissor : SetScissor
 the_scissor = record { x = negsuc 4; y = pos 3; width = pos 20; height = pos 100 }
 
-pub its-clip : ClippedTo the_shape the_scissor (call_record drawing_waits.state 0).range
-unfolding bad_sides common clip_of
-its-clip = subst (ClippedTo the_shape the_scissor) (sym (ap (λ (r : RecordRead). r.range) drawing_guest_is.handed_out)) (clip-is-the-common-part the_shape the_scissor refl)
-
 -- a viewport's words, and its floats' bits
-words-are-bytes : (ws : List ℕ) → OfBytes (in_bytes ws)
+pub words-are-bytes : (ws : List ℕ) → OfBytes (in_bytes ws)
 unfolding in_bytes
 words-are-bytes [] i = omega arith
 words-are-bytes (w ∷ ws) i = both_bytes (bytes_of 4 w) (in_bytes ws) (bytes-of 4 w) (words-are-bytes ws) i
-
-pub viewport-bits : ViewportCarried (in_bytes (viewed 0x80000000)) (viewport_fields (in_bytes (viewed 0x80000000)))
-unfolding viewed in_bytes le bytes_of is_nan_bits
-viewport-bits = (viewport-is-carried (in_bytes (viewed 0x80000000)) (words-are-bytes (viewed 0x80000000)) refl).1

@@ -1,21 +1,18 @@
 -- One call that a host made, in any layer: it says and leaves what the rules do; what a record call hands out, and what a run of one unit
 -- reads; and two devices that mean the same state cannot be told apart. Assumes nothing.
-use Rattle.std.specs.Prelude.{◌≡◌, Bool, true, List, [], ◌∷◌, ℕ, eqb, length}
+use Rattle.std.specs.Prelude.{◌≡◌, Bool, List, [], ◌∷◌, ℕ, eqb}
 use Rattle.std.proofs.Math.Path.{refl, ap}
-use Rattle.std.proofs.Common.{sym, subst, ◌∙◌}
+use Rattle.std.proofs.Common.{sym, ◌∙◌}
 use Rattle.machine.specs.Machine.{pick}
 use Rattle.rules.specs.Numbers.{done, clips}
 use Rattle.rules.specs.State.{State, World}
-use Rattle.rules.specs.Steps.{go}
-use Rattle.rules.specs.Calls.{RecordRead, call_run, call_record, call_answer}
-use Rattle.promises_of_units.specs.Called.{Call, after, units_of, taken_by, Called}
+use Rattle.rules.specs.Calls.{call_run, call_record, call_answer}
+use Rattle.promises_of_units.specs.Called.{Call, after, units_of, taken_by}
 use Rattle.promises_of_units.specs.Called.Call.{writes, reads, runs, records, answers}
-use Rattle.promises_of_units.specs.Called.Called.{makes, loads, calls}
 use Rattle.promises_of_units.specs.Acts.{Act, in_a_row, acts_of}
 use Rattle.promises_of_units.specs.Acts.Act.{write, answer}
-use Rattle.promises_of_units.specs.Ranges.{InOneEntry, ranges-at-the-record-call}
 use Rattle.promises_of_units.specs.Replies.{reply_to}
-use Rattle.promises_of_submissions.specs.Locality.{lent, SameWhereRead, SameEnd, SameRun, run-of-one-reads-only}
+use Rattle.promises_of_submissions.specs.Locality.{lent, SameRun}
 use Rattle.promises_of_calls.specs.Layers.{taken_in, Layer, standing}
 
 -- ---- one call that was made
@@ -37,10 +34,10 @@ module _ {L : Layer} {c : Call} (k : CallMade L c) where
   abbrev pub afterwards : World
   afterwards = standing L k.leaves k.memory
 
-  says-the-reply : k.said ≡ L.said c (reply_to c before)
+  pub says-the-reply : k.said ≡ L.said c (reply_to c before)
   says-the-reply = L.gives-reply k.of k.over c k.said k.leaves k.memory k.gives
 
-  leaves-the-world : afterwards ≡ after c before
+  pub leaves-the-world : afterwards ≡ after c before
   leaves-the-world = L.gives-world k.of k.over c k.said k.leaves k.memory k.gives
 
 -- the acts of a call that said these units and this answer
@@ -60,28 +57,19 @@ reply-units (records i) w = refl
 reply-units (answers good n) w = refl
 
 module _ (L : Layer) (w : World) (x : L.Said) where
-  says-units : (c : Call) → x ≡ L.said c (reply_to c w) → L.units c x ≡ units_of c w
+  pub says-units : (c : Call) → x ≡ L.said c (reply_to c w) → L.units c x ≡ units_of c w
   says-units c e = ap (L.units c) e ∙ (L.units-read c w ∙ reply-units c w)
 
-  says-answered : (good : Bool) (n : ℕ) → x ≡ L.said (answers good n) (reply_to (answers good n) w) → L.answered x ≡ (call_answer w good n).answer
+  pub says-answered : (good : Bool) (n : ℕ) → x ≡ L.said (answers good n) (reply_to (answers good n) w) → L.answered x ≡ (call_answer w good n).answer
   says-answered good n e = ap L.answered e ∙ L.answered-as good n w
 
-  says-taken : (c : Call) → x ≡ L.said c (reply_to c w) → taken_in c (L.answered x) ≡ taken_by c w
+  pub says-taken : (c : Call) → x ≡ L.said c (reply_to c w) → taken_in c (L.answered x) ≡ taken_by c w
   unfolding taken_by
   says-taken (writes offset v) e = refl
   says-taken (reads offset) e = refl
   says-taken (runs n) e = refl
   says-taken (records i) e = refl
   says-taken (answers good n) e = ap (taken_in (answers good n)) (says-answered good n e)
-
-  says-acts : (c : Call) → x ≡ L.said c (reply_to c w) → acts_in c (L.units c x) (L.answered x) ≡ acts_of c w
-  unfolding acts_of units_of
-  says-acts (writes offset v) e = refl
-  says-acts (reads offset) e = refl
-  says-acts (runs n) e = ap in_a_row (says-units (runs n) e)
-  says-acts (records i) e = refl
-  says-acts (answers good n) e =
-      ap (λ u. acts_in (answers good n) u (L.answered x)) (says-units (answers good n) e) ∙ ap (acts_in (answers good n) (call_answer w good n).units) (says-answered good n e)
 
 -- what it says and leaves is what the rules say and leave
 pub record AsCall {L : Layer} {c : Call} (k : CallMade L c) : Type 0 where
@@ -90,17 +78,6 @@ pub record AsCall {L : Layer} {c : Call} (k : CallMade L c) : Type 0 where
   pub units : L.units c k.said ≡ units_of c (before k)
   pub taken : taken_in c (L.answered k.said) ≡ taken_by c (before k)
   pub acts : acts_in c (L.units c k.said) (L.answered k.said) ≡ acts_of c (before k)
-
--- of every call
-pub call-is-the-rules : {L : Layer} {c : Call} (k : CallMade L c) → AsCall k
-call-is-the-rules {L} {c} k =
-    record {
-      reply = says-the-reply k;
-      world = leaves-the-world k;
-      units = says-units L (before k) k.said c (says-the-reply k);
-      taken = says-taken L (before k) k.said c (says-the-reply k);
-      acts = says-acts L (before k) k.said c (says-the-reply k);
-    }
 
 -- ---- a device that was made and called
 
@@ -111,28 +88,12 @@ pub data MadeAndCalled (L : Layer) : L.Device → Type 0 where
   loaded-one : {d : L.Device} (b : List ℕ) → L.Loads b d → MadeAndCalled L d
   called-one : {d d' : L.Device} (m m' : List ℕ) (c : Call) (x : L.Said) → L.Gives d m c x d' m' → MadeAndCalled L d → MadeAndCalled L d'
 
--- its state is one that the rules' calls lead to
-pub made_and_called : (L : Layer) (d : L.Device) → MadeAndCalled L d → Called (L.state d)
-made_and_called L d (made_one memory k) = subst Called (sym (L.makes-made memory d k)) (makes memory)
-made_and_called L d (loaded-one b k) =
-    let l = L.loads-loaded b d k in subst Called (sym l.1) (loads b l.0)
-made_and_called L d (called-one {d = b} m m' c x k earlier) =
-    subst (λ (w : World). Called w.state) (sym (L.gives-world b m c x d m' k)) (calls c m (made_and_called L b earlier))
-
 -- ---- record calls
 
 module _ {L : Layer} (i : ℕ) (k : CallMade L (records i)) where
-  hands_out : L.record_read k.said ≡ call_record (L.state k.of) i
+  pub hands_out : L.record_read k.said ≡ call_record (L.state k.of) i
   unfolding reply_to
   hands_out = ap L.record_read (says-the-reply k) ∙ L.record-read-as i (reply_to (records i) (before k))
-
-  -- of a device that was made and called: a range handed out, a record of kind 1 to 3, lies inside exactly one entry of the table of the
-  -- submission that waits, and inside memory
-  pub handed-out-in-one-entry : MadeAndCalled L k.of → (L.record_read k.said).answer ≡ done → ((L.record_read k.said).range.kind ≡ clips → ⊥)
-      → InOneEntry (L.state k.of) i (L.record_read k.said).range
-  handed-out-in-one-entry c =
-      subst (λ (h : RecordRead). h.answer ≡ done → (h.range.kind ≡ clips → ⊥) → InOneEntry (L.state k.of) i h.range) (sym hands_out)
-      (ranges-at-the-record-call (L.state k.of) (made_and_called L k.of c) i)
 
 -- ---- the same call of two devices that mean the same state
 
@@ -148,19 +109,6 @@ one-to-every-call {L} {c} k l same lends =
       ap (λ (w : World). w.mem) end,
     )
 
-same-reply : (w v : World) (m n : List ℕ) → SameRun m n (call_run w 1) (call_run v 1) → reply_to (runs 1) w ≡ reply_to (runs 1) v
+pub same-reply : (w v : World) (m n : List ℕ) → SameRun m n (call_run w 1) (call_run v 1) → reply_to (runs 1) w ≡ reply_to (runs 1) v
 unfolding reply_to
 same-reply w v m n r = rw (r.answer, r.units, r.ended)
-
--- a run of one unit over two memories of one length that hold the same bytes where the unit reads, whatever stands elsewhere: it says the
--- same, comes to the same state and writes the same. So a front that has read ahead, or reads again what it has kept, is shut out
-pub run-of-one-reads-only-there : {L : Layer} (k l : CallMade L (runs 1)) → L.state k.of ≡ L.state l.of → length k.over ≡ length l.over
-    → (go (before k) ≡ true → SameWhereRead (L.state k.of) k.over l.over) → (k.said ≡ l.said) × SameEnd k.over l.over (afterwards k) (afterwards l)
-unfolding after
-run-of-one-reads-only-there {L} k l same len read =
-    let there : lent (L.state k.of) l.over ≡ before l = ap (λ (s : State). lent s l.over) same in
-    let r : SameRun k.over l.over (call_run (before k) 1) (call_run (before l) 1) =
-    subst (λ w. SameRun k.over l.over (call_run (before k) 1) (call_run w 1)) there (run-of-one-reads-only (L.state k.of) k.over l.over len read) in (
-      says-the-reply k ∙ (ap (L.said (runs 1)) (same-reply (before k) (before l) k.over l.over r) ∙ sym (says-the-reply l)),
-      rw (leaves-the-world k, leaves-the-world l) r.end,
-    )

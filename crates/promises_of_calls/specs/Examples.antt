@@ -3,7 +3,7 @@
 -- and it is answered; and one is refused. Assumes nothing.
 use Rattle.std.specs.Prelude.{◌≡◌, true, List, [], ◌∷◌, ◌++◌, ℕ, ◌+◌, ◌*◌, get_or}
 use Rattle.std.proofs.Math.Path.{refl}
-use Rattle.std.proofs.Common.{sym, ap, arith}
+use Rattle.std.proofs.Common.{ap, arith}
 use Rattle.machine.specs.Machine.{run_while}
 use Rattle.rules.specs.Bytes.{le, bytes_of}
 use Rattle.rules.specs.Lists.{over, nth, lookup}
@@ -13,7 +13,6 @@ use Rattle.rules.specs.Table.{header_rules, entry_rules, take_entry, entries_fro
 use Rattle.rules.specs.Stream.{known, stream_rules, least_size, frame_rules, frame_of, packet_of, cut}
 use Rattle.rules.specs.Ring.{descriptor_rules, range_rules, submission_rules, submission_opening, power_of_two, good_header, good_ring, ring_opening, opening_of}
 use Rattle.rules.specs.Packets.{create_backed, create, on_buffer_packet, apply, target_after, tokens_after, pass, take_packet}
-use Rattle.rules.specs.State.{State}
 use Rattle.rules.specs.Settle.{faulted, signalled, ended_by, written, head_written, page_written, marked, settled}
 use Rattle.rules.specs.Registers.{controlled, write_of}
 use Rattle.rules.specs.Steps.{open_step, entry_step, packet_step, step, go, answered}
@@ -24,39 +23,31 @@ use Rattle.run_state.specs.Views.{count_in, token_count_in, world_in, rested}
 use Rattle.device.specs.Views.{state_of, world_of}
 use Rattle.device.specs.declared.Device.{Device}
 use Rattle.promises.specs.NightLog.{zeros}
-use Rattle.promises_of_packets.specs.Held.{Every}
 use Rattle.zelezmut.specs.Said.{SaysRun, SaysAnswer, SaysRecord}
 use Rattle.register_writes.specs.Views.{Writes}
 use Rattle.device_calls.specs.Views.{Makes}
-use Rattle.promises.specs.Chains.{Served}
-use Rattle.promises_of_submissions.specs.Night.{Night}
-use Rattle.promises_of_units.specs.Ranges.{InOneEntry}
-use Rattle.promises_of_submissions.specs.Locality.{lent, SameWhereRead, SameEnd, SameWhenRead}
-use Rattle.promises_of_submissions.specs.Locality.SameWhenRead.{unit}
 use Rattle.promises_of_units.specs.Called.{Call}
 use Rattle.promises_of_units.specs.Called.Call.{writes, runs, records, answers}
-use Rattle.promises.specs.Witness.{in_bytes, ring_words, slot_words, table_words, entry_words, stream_words, guest, asking, begun, held, the_entry, awaiting, opening_alone, read_alone}
+use Rattle.promises.specs.Witness.{in_bytes, ring_words, slot_words, table_words, entry_words, stream_words, guest, asking, begun, held, the_entry, awaiting, opening_alone}
 use Rattle.promises.specs.StateWitness.{drawing_guest, drawing_asked, drawing_waits}
-use Rattle.promises_of_calls.specs.Layers.{standing}
 use Rattle.promises_of_calls.specs.OverLent.{lent_of}
 use Rattle.promises_of_calls.specs.Exports.{returning, Gives, exports}
 use Rattle.promises_of_calls.specs.Exports.Gives.{zelezmut-write, zelezmut-run, zelezmut-record, zelezmut-answer}
-use Rattle.promises_of_calls.specs.Chains.{Chain, chain_on, chain-called, units_said, answers_taken, acts_said, chain_is_unsliced, chain-serves}
+use Rattle.promises_of_calls.specs.Chains.{Chain, chain_on, chain-called, units_said, answers_taken}
 use Rattle.promises_of_calls.specs.Chains.Chain.{no_call, call_then}
-use Rattle.promises_of_calls.specs.Calls.{MadeAndCalled, handed-out-in-one-entry}
+use Rattle.promises_of_calls.specs.Calls.{MadeAndCalled}
 use Rattle.promises_of_calls.specs.Calls.MadeAndCalled.{made_one, called-one}
-use Rattle.promises_of_calls.specs.CallContracts.{export-run-reads-only-there}
 
 -- ---- words and tables
 
 -- words 0 to 13 of a device for the guest of n entries, its ring at 0: the ring's size, whether it is enabled, the completed fence, the two
 -- status bits, the last error's three numbers, the doorbell flag, the tag of what is in work; then the other words
-abbrev words_of : ℕ → ℕ → ℕ → ℕ → ℕ → ℕ → ℕ → ℕ → ℕ → ℕ → ℕ → List ℕ → List ℕ
+abbrev pub words_of : ℕ → ℕ → ℕ → ℕ → ℕ → ℕ → ℕ → ℕ → ℕ → ℕ → ℕ → List ℕ → List ℕ
 words_of n size enabled completed fenced failed code fence count rung tag more =
     (216 + n * 32) ∷ 0 ∷ size ∷ enabled ∷ 0 ∷ completed ∷ fenced ∷ failed ∷ 0 ∷ code ∷ fence ∷ count ∷ rung ∷ tag ∷ more
 
 -- with empty tables
-abbrev bare : List ℕ → Device
+abbrev pub bare : List ℕ → Device
 bare s = record { words = s; entries = zeros 256; first = zeros 768; second = zeros 768; firsttokens = zeros 512; secondtokens = zeros 512; records = zeros 320 }
 
 -- just made, and after each of three register writes; the last is a device that the submission is asked of
@@ -73,7 +64,7 @@ unfoldable pub asking_device : ℕ → Device
 asking_device n = bare (words_of n 128 1 0 0 0 0 0 0 1 0 (zeros 22))
 
 -- its entry's row, its resource's in a table of its own, and its record's
-abbrev with_rows : List ℕ → Device
+abbrev pub with_rows : List ℕ → Device
 with_rows s =
     record {
       words = s;
@@ -152,11 +143,11 @@ takes-the-answer = record { spent = refl; world = refl; still = λ z. absurd (z 
 -- ---- chains of them
 
 -- the registers written
-abbrev beginning : List Call
+abbrev pub beginning : List Call
 beginning = writes 0x108 128 ∷ writes 0x10c 1 ∷ writes 0x200 0 ∷ []
 
 -- the submission served: run, its record asked for, answered
-abbrev serving : List Call
+abbrev pub serving : List Call
 serving = runs 65535 ∷ records 0 ∷ answers true 0 ∷ []
 
 unfoldable pub some_beginning : (n : ℕ) → Chain exports (new_device n) (guest n) beginning (asking_device n) (guest n)
@@ -181,42 +172,21 @@ pub serving-says : (units_said some_serving ≡ 3) × (answers_taken some_servin
 unfolding some_serving units_said answers_taken
 serving-says = (refl, refl)
 
--- so it is a night of one whole submission and one answer
-pub some_night : Night (asking 1) (true ∷ []) 3 (answered true awaiting)
-unfolding Every some_serving units_said answers_taken world_in
-some_night =
-    rw (← asks 1, ← has-answered)
-    (chain_is_unsliced some_serving (refl, (refl, (refl, omega arith))) refl refl)
-
 -- and the device that waits was made and called, so that its record lies in its one entry
 pub waiting-was-called : MadeAndCalled exports waiting_device
 waiting-was-called =
     called-one (guest 1) (guest 1) (runs 65535) (returning (0 + (256 * 1 + 65536 * 3))) (zelezmut-run 65535 (0 + (256 * 1 + 65536 * 3)) waiting_device (guest 1) runs-to-waiting)
     (chain-called (some_beginning 1) (made_one 248 (is_made 1)))
 
-pub its-record-in-one-entry : InOneEntry (state_of waiting_device) 0 (record { kind = 1; handle = 1; id = 5; gpa = 80; length = 32 })
-its-record-in-one-entry =
-    handed-out-in-one-entry 0
-    (record { of = waiting_device; over = guest 1; said = record { number = 0; words = 1 ∷ 1 ∷ 5 ∷ 80 ∷ 32 ∷ [] }; leaves = waiting_device; memory = guest 1; gives = asks-record })
-    waiting-was-called refl (λ z. omega arith)
-
 -- from the new device on, with the register writes before it: one whole submission was served
 pub some_chain : Chain exports (new_device 1) (guest 1) (beginning ++ serving) answered_device (answered true awaiting).mem
 some_chain = chain_on (some_beginning 1) some_serving
-
-pub some_chain_serves : Served (standing exports (new_device 1) (guest 1)) (acts_said some_chain) (standing exports answered_device (answered true awaiting).mem)
-unfolding Every new_device answered_device world_in
-some_chain_serves = (chain-serves some_chain (refl, (refl, (refl, (refl, (refl, (refl, omega arith)))))) refl refl).0
 
 -- a chain in which a submission is refused, and the night that it is
 unfoldable pub some_refusal : Chain exports (asking_device 2) (guest 2) (runs 3 ∷ []) refused_device (submitted (asking 2)).state.mem
 some_refusal =
     call_then (returning (0 + (256 * 2 + 65536 * 3)))
     (zelezmut-run 3 (0 + (256 * 2 + 65536 * 3)) refused_device (submitted (asking 2)).state.mem runs-to-refusal) no_call
-
-pub refused_night : Night (standing exports (asking_device 2) (guest 2)) [] 3 (standing exports refused_device (submitted (asking 2)).state.mem)
-unfolding Every some_refusal units_said answers_taken asking_device refused_device world_in
-refused_night = chain_is_unsliced some_refusal (refl, omega arith) refl refl
 
 -- ---- two devices that no call tells apart: other numbers in the words and rows that nothing reads
 
@@ -252,15 +222,6 @@ opens = record { spent = refl; world = refl; still = λ z. absurd (z refl) }
 pub opens-alone : SaysRun 1 (lent_of scrawled_device opening_alone) (0 + (256 * 2 + 65536 * 1)) (lent_of opened_device opening_alone)
 unfolding scrawled_device opened_device world_in count_in token_count_in tab row_at table zeros in_bytes ring_words slot_words table_words entry_words stream_words opening_alone le bytes_of ring_header descriptor table_header stream_header power_of_two good_header good_ring ring_opening opening_of descriptor_rules range_rules submission_rules submission_opening wrong_header header_rules stream_rules open_step step go run_while call_run ending
 opens-alone = record { spent = refl; world = refl; still = λ z. absurd (z refl) }
-
-the-first : {s : State} {m m' : List ℕ} {ms ms' : List (List ℕ)} → SameWhenRead s (m ∷ ms) (m' ∷ ms') → go (lent s m) ≡ true → SameWhereRead s m m'
-the-first (unit m m' len same later) = same
-
-pub opening-reads-only-there : SameEnd (guest 1) opening_alone (world_of opened_device (guest 1)) (world_of opened_device opening_alone)
-unfolding guest opening_alone in_bytes ring_words slot_words table_words entry_words stream_words zeros bytes_of asking_device asking world_in count_in token_count_in tab row_at table
-opening-reads-only-there =
-    (export-run-reads-only-there (asking_device 1) scrawled_device opened_device opened_device (guest 1) opening_alone (guest 1) opening_alone
-    (sym one-state-of-two) refl (the-first read_alone) (0 + (256 * 2 + 65536 * 1)) (0 + (256 * 2 + 65536 * 1)) opens opens-alone).1
 
 -- ---- a device that waits with a clipped rectangle: its target stands in word 31
 

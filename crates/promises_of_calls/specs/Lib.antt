@@ -4,7 +4,6 @@ pub mod OverLent
 pub mod Exports
 pub mod Calls
 pub mod Chains
-pub mod CallContracts
 pub mod TokensOfCalls
 pub mod PlacesOfCalls
 pub mod AskedOfExports

@@ -1,6 +1,6 @@
 -- "No difference is left out and none is reported of equal bytes." The list of differing offsets has exactly the offsets past the shorter packet's end
 -- and those where the bytes differ; it rises; and asking for the next offset again and again gives all of it. Assumes nothing.
-use Rattle.std.specs.Prelude.{◌≡◌, Bool, not, ◌||◌, ◌&&◌, ◌⊎◌, ltb, eqb, length}
+use Rattle.std.specs.Prelude.{◌≡◌, Bool, not, ◌||◌, ◌&&◌, ltb, eqb, length}
 use Rattle.std.proofs.Math.Path.{refl, ap}
 use Rattle.std.proofs.Common.{sym, ◌∙◌, ⊎_elim, arith, le-ltb, eq-eqb, ne_eqb, eqb-true}
 use Rattle.std.proofs.Math.Bool.{true, false}
@@ -11,7 +11,7 @@ use Rattle.words.specs.Over.{below_or_not}
 use Rattle.rules.specs.Difference.{differing_from, differing, next_from}
 use Rattle.rules.specs.declared.Offset.{Offset}
 use Rattle.rules.specs.declared.Offset.TheVariants.{At, Nowhere}
-use Rattle.diff_bytes.specs.Differing.{differs_at, differs-second, first_of, from_offset, none-there, there-or-not, next_start}
+use Rattle.diff_bytes.specs.Differing.{differs_at, differs-second, from_offset, none-there, there-or-not}
 
 -- ---- the list has exactly the differing offsets
 
@@ -94,7 +94,7 @@ offsets-rise x y = rising 0 0 x y (omega arith)
 -- ---- the next offset, asked again and again
 
 -- what a question gives from an offset on, each time asked from the offset after the one that was found; at most k times
-abbrev then_on : Offset → (ℕ → List ℕ) → List ℕ
+abbrev pub then_on : Offset → (ℕ → List ℕ) → List ℕ
 then_on Nowhere ask-on = []
 then_on (At i) ask-on = i ∷ ask-on (i + 1)
 
@@ -103,7 +103,7 @@ asked_on ask zero from = []
 asked_on ask (suc k) from = then_on (ask from) (asked_on ask k)
 
 module _ (x y : List ℕ) where
-  abbrev ask : ℕ → Offset
+  abbrev pub ask : ℕ → Offset
   ask from = next_from from (differing x y)
 
   split-here : (from i : ℕ) (rest : List ℕ) (t : Bool) → (from_offset x y (from + 1) ≡ i ∷ rest → rest ≡ from_offset x y (i + 1))
@@ -115,26 +115,13 @@ module _ (x y : List ℕ) where
   split-here from i rest false f e = f e
 
   -- behind the first of the list is the list from the offset after it
-  split_off : (n from i : ℕ) (rest : List ℕ) → max (length x) (length y) - from ≤ n → from_offset x y from ≡ i ∷ rest → rest ≡ from_offset x y (i + 1)
+  pub split_off : (n from i : ℕ) (rest : List ℕ) → max (length x) (length y) - from ≤ n → from_offset x y from ≡ i ∷ rest → rest ≡ from_offset x y (i + 1)
   split_off zero from i rest h e = absurd (let f : ◌≡◌ {A = List ℕ} [] (i ∷ rest) = sym (none-there x y from (omega arith)) ∙ e in let z : ◌≡◌ {A = ℕ} 0 1 = cc in omega arith)
   split_off (suc n) from i rest h e =
       ⊎_elim
       (λ l. split-here from i rest (differs_at x y from) (split_off n (from + 1) i rest (omega arith)) (sym (there-or-not x y from l) ∙ e))
       (λ l. absurd (let f : ◌≡◌ {A = List ℕ} [] (i ∷ rest) = sym (none-there x y from l) ∙ e in let z : ◌≡◌ {A = ℕ} 0 1 = cc in omega arith))
       (below_or_not from (max (length x) (length y)))
-
-  asks : (k from : ℕ) (l : List ℕ) → from_offset x y from ≡ l → length l ≤ k → asked_on ask k from ≡ l
-  unfolding asked_on
-  asks zero from [] e h = refl
-  asks zero from (i ∷ l) e h = absurd (omega arith)
-  asks (suc k) from [] e h = ap (λ o. then_on o (asked_on ask k)) (next_start x y from ∙ ap first_of e)
-  asks (suc k) from (i ∷ l) e h =
-      ap (λ o. then_on o (asked_on ask k)) (next_start x y from ∙ ap first_of e)
-      ∙ ap (λ r. i ∷ r) (asks k (i + 1) l (sym (split_off (max (length x) (length y)) from i l (omega arith) e)) (omega arith))
-
-  -- from offset 0 on, this gives the whole list, in order
-  pub next-gives-all : (k : ℕ) → length (differing x y) ≤ k → asked_on ask k 0 ≡ differing x y
-  next-gives-all k h = asks k 0 (differing x y) refl h
 
 -- ---- the list is empty exactly for equal bytes
 

@@ -21,10 +21,8 @@ use Rattle.promises_of_submissions.specs.Locality.{lent}
 use Rattle.promises_of_units.specs.Memory.{touched-length, unit-writes-by-settling}
 use Rattle.promises_of_units.specs.Called.{Call}
 use Rattle.promises_of_leftovers.specs.Unit.{bytes-agree, still-agree}
-use Rattle.promises_of_leftovers.specs.Fixed.{listed-is-fixed}
-use Rattle.promises_of_leftovers.specs.Submissions.{openings, listed_there, listed_in_work}
+use Rattle.promises_of_leftovers.specs.Submissions.{openings, listed_in_work}
 use Rattle.promises_of_leftovers.specs.Along.{openings-kept, any-calls}
-use Rattle.promises_of_leftovers.specs.Matter.{SameResults, AgreeOnListed, bytes-not-listed-cannot-matter}
 
 -- the head's own four bytes, of a ring
 abbrev pub head_of : ℕ → Named
@@ -45,7 +43,7 @@ Unwritten m v = Every (λ (f : Named). (f ≡ head_of v.state.regs.ring) ⊎ Sam
 -- ---- the bytes of such a memory
 
 module _ (m now : List ℕ) (ring : ℕ) (long : length m ≡ length now) where
-  headed-length : length (headed m ring now) ≡ length m
+  pub headed-length : length (headed m ring now) ≡ length m
   unfolding headed
   headed-length = written-length (ring + head_offset) (take 4 (drop (ring + head_offset) now)) m
 
@@ -104,17 +102,12 @@ module _ (m now : List ℕ) (ring : ℕ) (long : length m ≡ length now) where
   field-now f (inl e) = rw e (bytes-agree (headed m ring now) now (headed-length ∙ long) (ring + head_offset) 4 headed-in)
   field-now f (inr s) = still-agree m now (headed m ring now) now (headed-length ∙ long) headed-still f.at f.width s
 
-  fields-now : (fs : List Named) → Every (λ (f : Named). (f ≡ head_of ring) ⊎ SameIn m now f) fs → AgreeOn (headed m ring now) now fs
+  pub fields-now : (fs : List Named) → Every (λ (f : Named). (f ≡ head_of ring) ⊎ SameIn m now f) fs → AgreeOn (headed m ring now) now fs
   unfolding Every
   fields-now [] h = h
   fields-now (f ∷ fs) h = (field-now f h.0, fields-now fs h.1)
 
 -- ---- what is listed at first is what is listed there
-
-listed-since : (m : List ℕ) (v : World) → length m ≡ length v.mem → Unwritten m v → listed_at_first m v ≡ listed_there v
-listed-since m v long h =
-    listed-is-fixed (headed m v.state.regs.ring v.mem) v.mem (headed-length m v.mem v.state.regs.ring long ∙ long) v.state.regs.ring v.state.regs.ringsize
-    (fields-now m v.mem v.state.regs.ring long (listed_at_first m v) h)
 
 -- the two memories agree on what is listed in the first of them; and, of each submission that the calls open, no listed field has been written since but the head's own
 pub record AgreeAtFirst (cs : List Call) (s : State) (m m' : List ℕ) : Type 0 where
@@ -127,22 +120,3 @@ pub same-lengths : (cs : List Call) (w : World) → Every (λ (v : World). lengt
 same-lengths cs w =
     openings-kept (λ (v : World). length w.mem ≡ length v.mem) (λ v e. e ∙ sym (touched-length v v.state.work (step v).mem (unit-writes-by-settling v)))
     (λ good v e. e ∙ sym (answered-keeps-length good v)) (λ offset. 0 ≤ 0) (λ v offset n k e. e) cs w (any-calls cs) refl
-
-module _ (m m' : List ℕ) where
-  there-now : (vs : List World) → Every (λ (v : World). length m ≡ length v.mem) vs → Every (Unwritten m) vs → Every (λ (v : World). AgreeOn m m' (listed_at_first m v)) vs
-      → Every (λ (v : World). AgreeOn m m' (listed_there v)) vs
-  unfolding Every
-  there-now [] l h s = s
-  there-now (v ∷ vs) l h s = (subst (AgreeOn m m') (listed-since m v l.0 h.0) s.0, there-now vs l.1 h.1 s.1)
-
-pub agree-at-first : (cs : List Call) (s : State) (m m' : List ℕ) → AgreeAtFirst cs s m m' → AgreeOnListed cs s m m'
-agree-at-first cs s m m' same =
-    record {
-      as_long = same.as_long;
-      in_work = same.in_work;
-      opened = there-now m m' (openings cs (lent s m)) (same-lengths cs (lent s m)) same.unwritten same.opened;
-    }
-
--- "and beyond if the head and fence writes touch no listed byte but the head's own"
-pub beyond-the-settling : (cs : List Call) (s : State) (m m' : List ℕ) → AgreeAtFirst cs s m m' → SameResults cs s m m'
-beyond-the-settling cs s m m' same = bytes-not-listed-cannot-matter cs s m m' (agree-at-first cs s m m' same)

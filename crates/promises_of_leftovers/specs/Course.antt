@@ -2,22 +2,19 @@
 -- comes to the same state. This is the theorem from which the rest follows; what a whole submission lists, from its opening on, covers what its units do
 -- (Cover.antt). Assumes nothing.
 use Rattle.std.proofs.Math.Path.{◌≡◌, ap}
-use Rattle.std.specs.Prelude.{refl, Bool, List, [], ◌∷◌, ◌++◌, ℕ, zero, suc, ◌+◌, eqb, length}
-use Rattle.std.proofs.Common.{sym, subst, ◌∙◌, arith}
-use Rattle.std.proofs.Math.Bool.{true, false}
-use Rattle.machine.specs.Machine.{pick, Out, run_none, run-stop, run-go}
-use Rattle.rules.specs.Numbers.{done, other_memory, nothing_waits}
+use Rattle.std.specs.Prelude.{refl, Bool, List, [], ◌∷◌, ◌++◌, ℕ, zero, suc, eqb, length}
+use Rattle.std.proofs.Common.{subst}
+use Rattle.machine.specs.Machine.{Out}
+use Rattle.rules.specs.Numbers.{done}
 use Rattle.rules.specs.State.{State, World}
-use Rattle.rules.specs.Steps.{step, go, run_for, waits, answered}
-use Rattle.rules.specs.Calls.{lent_another, not_run, ending, Ran, ran, call_write, call_run, call_answer}
+use Rattle.rules.specs.Steps.{step, go, answered}
+use Rattle.rules.specs.Calls.{lent_another, not_run, ending, Ran, ran, call_run, call_answer}
 use Rattle.rules.specs.Listed.{Named, where_true, unit_listed}
 use Rattle.promises_of_submissions.specs.Reads.{AgreeOn}
 use Rattle.promises_of_submissions.specs.Locality.{lent, answer-reads-nothing}
-use Rattle.promises_of_units.specs.Runs.{of-answer, taken-and-run}
-use Rattle.promises_of_units.specs.Called.{Call, after, after_all}
+use Rattle.promises_of_units.specs.Called.{Call, after}
 use Rattle.promises_of_units.specs.Called.Call.{writes, reads, runs, records, answers}
-use Rattle.promises_of_leftovers.specs.Opening.{front_of, back-of}
-use Rattle.promises_of_leftovers.specs.Unit.{unit-by-the-listed, SameStill, still-on, end-still, still-agree-on}
+use Rattle.promises_of_leftovers.specs.Unit.{SameStill, end-still, still-agree-on}
 
 -- ---- what units list, and calls
 
@@ -47,7 +44,7 @@ Alike x x' fs = AgreeOn x.mem x'.mem fs
 abbrev pub Still : World → World → World → World → Type 0
 Still x x' y y' = SameStill x.mem x'.mem y y'
 
-same-go : (x x' : World) → x.state ≡ x'.state → go x ≡ go x'
+pub same-go : (x x' : World) → x.state ≡ x'.state → go x ≡ go x'
 unfolding go
 same-go x x' e = rw e
 
@@ -55,42 +52,18 @@ same-go x x' e = rw e
 pub after-still : (x x' y y' : World) → Still x x' y y' → (fs : List Named) → Alike x x' fs → Alike y y' fs
 after-still x x' y y' k fs = still-agree-on x.mem x'.mem y.mem y'.mem k.long k.still fs
 
-unit-alike : (x x' : World) → x.state ≡ x'.state → length x.mem ≡ length x'.mem → Alike x x' (unit_listed x.state.regs x.state.work x.mem)
-    → Still x x' (step x) (step x')
-unit-alike x x' e len same =
-    subst (λ (s : State). Still x x' (step x) (step (lent s x'.mem))) e
-    (end-still x.mem x'.mem _ _ len (unit-by-the-listed x.state x.mem x'.mem len same))
-
-answered-alike : (good : Bool) (x x' : World) → x.state ≡ x'.state → length x.mem ≡ length x'.mem → Still x x' (answered good x) (answered good x')
+pub answered-alike : (good : Bool) (x x' : World) → x.state ≡ x'.state → length x.mem ≡ length x'.mem → Still x x' (answered good x) (answered good x')
 answered-alike good x x' e len =
     subst (λ (s : State). Still x x' (answered good x) (answered good (lent s x'.mem))) e
     (end-still x.mem x'.mem _ _ len (answer-reads-nothing x.state x.mem x'.mem good))
 
-stands : (x x' : World) → x.state ≡ x'.state → length x.mem ≡ length x'.mem → Still x x' x x'
+pub stands : (x x' : World) → x.state ≡ x'.state → length x.mem ≡ length x'.mem → Still x x' x x'
 stands x x' e len = record { state = e; long = len; still = λ i h. h }
 
 -- two runs that have spent the same number of units
 pub record SameUnits (x x' : World) (o o' : Out World) : Type 0 where
   pub units : o.units ≡ o'.units
   pub end : Still x x' o.state o'.state
-
-pub run-alike : (n : ℕ) (x x' : World) → x.state ≡ x'.state → length x.mem ≡ length x'.mem → Alike x x' (units_listed n x) → SameUnits x x' (run_for n x) (run_for n x')
-unfolding units_listed
-run-alike zero x x' e len same = rw (run_none go step x, run_none go step x') (record { units = refl; end = stands x x' e len })
-run-alike (suc n) x x' e len same = by_test (go x) refl same (run-alike n (step x) (step x'))
-  where
-    by_test : (t : Bool) → go x ≡ t → Alike x x' (where_true t (unit_listed x.state.regs x.state.work x.mem ++ units_listed n (step x)))
-        → ((step x).state ≡ (step x').state → length (step x).mem ≡ length (step x').mem → Alike (step x) (step x') (units_listed n (step x))
-        → SameUnits (step x) (step x') (run_for n (step x)) (run_for n (step x')))
-        → SameUnits x x' (run_for (suc n) x) (run_for (suc n) x')
-    by_test true g s later =
-        let one : Still x x' (step x) (step x') = unit-alike x x' e len (front_of x.mem x'.mem _ _ s) in
-        let rest : SameUnits (step x) (step x') (run_for n (step x)) (run_for n (step x')) =
-        later one.state one.long (after-still x x' (step x) (step x') one (units_listed n (step x)) (back-of x.mem x'.mem (unit_listed x.state.regs x.state.work x.mem) _ s)) in
-        rw (run-go go step n x g, run-go go step n x' (sym (same-go x x' e) ∙ g))
-        (record { units = ap (λ (k : ℕ). 1 + k) rest.units; end = still-on one.still rest.end })
-    by_test false g s later =
-        rw (run-stop go step (suc n) x g, run-stop go step (suc n) x' (sym (same-go x x' e) ∙ g)) (record { units = refl; end = stands x x' e len })
 
 -- ---- a call
 
@@ -101,67 +74,11 @@ pub record SameReport (x x' : World) (r r' : Ran) : Type 0 where
   pub ended : r.ended ≡ r'.ended
   pub end : Still x x' r.world r'.world
 
-same-lent : (x x' : World) → x.state ≡ x'.state → length x.mem ≡ length x'.mem → lent_another x ≡ lent_another x'
+pub same-lent : (x x' : World) → x.state ≡ x'.state → length x.mem ≡ length x'.mem → lent_another x ≡ lent_another x'
 same-lent x x' e len = rw (e, len)
 
-refused-alike : (x x' : World) (a : ℕ) → x.state ≡ x'.state → length x.mem ≡ length x'.mem → SameReport x x' (not_run a x) (not_run a x')
+pub refused-alike : (x x' : World) (a : ℕ) → x.state ≡ x'.state → length x.mem ≡ length x'.mem → SameReport x x' (not_run a x) (not_run a x')
 refused-alike x x' a e len = record { answer = refl; units = refl; ended = refl; end = stands x x' e len }
 
-ran-alike : (x x' : World) (o o' : Out World) → SameUnits x x' o o' → SameReport x x' (ran o) (ran o')
+pub ran-alike : (x x' : World) (o o' : Out World) → SameUnits x x' o o' → SameReport x x' (ran o) (ran o')
 ran-alike x x' o o' k = record { answer = refl; units = k.units; ended = ap ending k.end.state; end = k.end }
-
-module _ (x x' : World) (e : x.state ≡ x'.state) (len : length x.mem ≡ length x'.mem) where
-  pub run-call-alike : (n : ℕ) → Alike x x' (call_units_listed (runs n) x) → SameReport x x' (call_run x n) (call_run x' n)
-  unfolding call_run call_units_listed
-  run-call-alike n same = rw (← same-lent x x' e len) (by_test (lent_another x) same)
-    where
-      by_test : (t : Bool) → Alike x x' (where_true (eqb (pick t (not_run other_memory x) (ran (run_for n x))).answer done) (units_listed n x))
-          → SameReport x x' (pick t (not_run other_memory x) (ran (run_for n x))) (pick t (not_run other_memory x') (ran (run_for n x')))
-      by_test true s = refused-alike x x' other_memory e len
-      by_test false s = ran-alike x x' (run_for n x) (run_for n x') (run-alike n x x' e len s)
-
-  pub answer-call-alike : (good : Bool) (n : ℕ) → Alike x x' (call_units_listed (answers good n) x) → SameReport x x' (call_answer x good n) (call_answer x' good n)
-  unfolding call_units_listed
-  answer-call-alike good n =
-      of-answer (λ (r : Ran). Alike x x' (where_true (eqb r.answer done) (units_listed n (answered good x))) → SameReport x x' r (call_answer x' good n)) x good n
-      (λ l s. rw (other (sym (same-lent x x' e len) ∙ l)) (refused-alike x x' other_memory e len))
-      (λ l k s. rw (nothing (sym (same-lent x x' e len) ∙ l) (ap waits (sym e) ∙ k)) (refused-alike x x' nothing_waits e len))
-      (λ l k s. rw (taken-and-run x' good n (sym (same-lent x x' e len) ∙ l) (ap waits (sym e) ∙ k)) (taken s))
-    where
-      other : lent_another x' ≡ true → call_answer x' good n ≡ not_run other_memory x'
-      other l =
-          of-answer (λ (r : Ran). r ≡ not_run other_memory x') x' good n (λ k. refl) (λ k q. absurd (let z : ◌≡◌ {A = ℕ} 0 1 = cc in omega arith))
-          (λ k q. absurd (let z : ◌≡◌ {A = ℕ} 0 1 = cc in omega arith))
-
-      nothing : lent_another x' ≡ false → waits x'.state ≡ false → call_answer x' good n ≡ not_run nothing_waits x'
-      nothing l h =
-          of-answer (λ (r : Ran). r ≡ not_run nothing_waits x') x' good n (λ k. absurd (let z : ◌≡◌ {A = ℕ} 0 1 = cc in omega arith)) (λ k q. refl)
-          (λ k q. absurd (let z : ◌≡◌ {A = ℕ} 0 1 = cc in omega arith))
-
-      taken : Alike x x' (units_listed n (answered good x)) → SameReport x x' (ran (run_for n (answered good x))) (ran (run_for n (answered good x')))
-      taken s =
-          let one : Still x x' (answered good x) (answered good x') = answered-alike good x x' e len in
-          let rest : SameUnits (answered good x) (answered good x') (run_for n (answered good x)) (run_for n (answered good x')) =
-          run-alike n (answered good x) (answered good x') one.state one.long (after-still x x' (answered good x) (answered good x') one (units_listed n (answered good x)) s) in
-          ran-alike x x' (run_for n (answered good x)) (run_for n (answered good x')) (record { units = rest.units; end = still-on one.still rest.end })
-
-  -- where a call leads
-  pub call-leads-alike : (c : Call) → Alike x x' (call_units_listed c x) → Still x x' (after c x) (after c x')
-  unfolding after
-  call-leads-alike (writes offset v) s = record { state = ap (λ (t : State). (call_write t offset v).state) e; long = len; still = λ i h. h }
-  call-leads-alike (reads offset) s = stands x x' e len
-  call-leads-alike (runs n) s = (run-call-alike n s).end
-  call-leads-alike (records i) s = stands x x' e len
-  call-leads-alike (answers good n) s = (answer-call-alike good n s).end
-
--- ---- and any calls
-
-pub calls-lead-alike : (cs : List Call) (x x' : World) → x.state ≡ x'.state → length x.mem ≡ length x'.mem → Alike x x' (calls_units_listed cs x)
-    → Still x x' (after_all cs x) (after_all cs x')
-unfolding calls_units_listed after_all
-calls-lead-alike [] x x' e len same = stands x x' e len
-calls-lead-alike (c ∷ cs) x x' e len same =
-    let one : Still x x' (after c x) (after c x') = call-leads-alike x x' e len c (front_of x.mem x'.mem _ _ same) in
-    still-on one.still
-    (calls-lead-alike cs (after c x) (after c x') one.state one.long
-    (after-still x x' (after c x) (after c x') one (calls_units_listed cs (after c x)) (back-of x.mem x'.mem (call_units_listed c x) _ same)))

@@ -32,10 +32,8 @@ use Rattle.promises_of_units.specs.Asked.{Asked}
 use Rattle.promises_of_units.specs.Asked.Asked.{calls, saves, loads, moves}
 use Rattle.promises_of_units.specs.Replies.{reply_to, spending, handing}
 use Rattle.promises_of_leftovers.specs.Submissions.{run_openings, call_openings, openings, listed_there}
-use Rattle.promises_of_leftovers.specs.Matter.{replies_of, as_it_is, AgreeOnListed, SameResults, bytes-not-listed-cannot-matter}
-use Rattle.promises_of_leftovers.specs.AskedOver.{asked_openings, SameResultsAsked, whatever-is-asked-bytes-not-listed-cannot-matter}
+use Rattle.promises_of_leftovers.specs.Matter.{replies_of, as_it_is}
 use Rattle.promises_of_leftovers.specs.Beyond.{headed, listed_at_first}
-use Rattle.promises_of_leftovers.specs.Touch.{Untouched, TouchNoListed, AgreeInFirst}
 
 -- ---- the desk, word by word
 
@@ -97,7 +95,7 @@ unfoldable pub agrees : List ℕ → List ℕ → List Named → Bool
 agrees m m' [] = true
 agrees m m' (f ∷ fs) = same_bytes (take f.width (drop f.at m)) (take f.width (drop f.at m')) && agrees m m' fs
 
-agrees-true : (m m' : List ℕ) (fs : List Named) → agrees m m' fs ≡ true → AgreeOn m m' fs
+pub agrees-true : (m m' : List ℕ) (fs : List Named) → agrees m m' fs ≡ true → AgreeOn m m' fs
 unfolding agrees Every
 agrees-true m m' [] h = omega arith
 agrees-true m m' (f ∷ fs) h = (same-bytes-true _ _ (both_left _ _ h), agrees-true m m' fs (both_right (same_bytes (take f.width (drop f.at m)) _) _ h))
@@ -106,11 +104,6 @@ unfoldable pub agrees_each : List ℕ → List ℕ → List World → Bool
 agrees_each m m' [] = true
 agrees_each m m' (v ∷ vs) = agrees m m' (listed_there v) && agrees_each m m' vs
 
-agrees-each-true : (m m' : List ℕ) (vs : List World) → agrees_each m m' vs ≡ true → Every (λ (v : World). AgreeOn m m' (listed_there v)) vs
-unfolding agrees_each Every
-agrees-each-true m m' [] h = omega arith
-agrees-each-true m m' (v ∷ vs) h = (agrees-true m m' (listed_there v) (both_left _ _ h), agrees-each-true m m' vs (both_right (agrees m m' (listed_there v)) _ h))
-
 -- ---- the night over two desks
 
 -- what is told of it, whatever the number: a record and a resource among it
@@ -118,23 +111,6 @@ pub told-of-any : (x : ℕ) → replies_of as_it_is night (lent rung (desk x))
     ≡ spending 0 2 Paused ∷ spending 0 2 Waiting ∷ handing 0 (record { kind = 1; handle = 1; id = 5; gpa = 80; length = 32 }) ∷ spending 0 1 Waiting ∷ spending 0 1 Idle ∷ []
 unfolding in_bytes times ring_words slot_words table_words stream_words desk rung night replies_of reply_to le bytes_of over nth lookup ring_header descriptor table_header entry stream_header buffer_fields page_bytes wrong_header header_rules entry_rules take_entry known stream_rules least_size frame_rules frame_of packet_of descriptor_rules range_rules submission_rules submission_opening power_of_two good_header good_ring ring_opening opening_of create_backed create on_buffer_packet apply target_after pass take_packet tokens_after faulted signalled doorbell_cleared ended_by written head_written page_written marked settled open_step entry_step packet_step step go run_while answered ending call_run call_record answer_alone call_answer after
 told-of-any x = refl
-
-listed-agrees : (x y : ℕ) → agrees_each (desk x) (desk y) (openings night (lent rung (desk x))) ≡ true
-unfolding in_bytes times ring_words slot_words table_words stream_words desk rung night same_bytes agrees agrees_each openings call_openings run_openings placed packet_layout ranges_listed slot_listed opening_listed entries_listed packet_listed packets_listed submission_listed le bytes_of over nth lookup ring_header descriptor table_header entry stream_header buffer_fields page_bytes wrong_header header_rules entry_rules take_entry known packet_row stream_rules least_size frame_rules frame_of packet_of descriptor_rules range_rules submission_rules submission_opening power_of_two good_header good_ring ring_opening opening_of create_backed create on_buffer_packet apply target_after pass take_packet tokens_after faulted signalled doorbell_cleared ended_by written head_written page_written marked settled open_step entry_step packet_step step go run_while answered ending call_run call_record answer_alone call_answer after
-listed-agrees x y = refl
-
--- the two agree on all that is listed
-pub desks-agree : (x y : ℕ) → AgreeOnListed night rung (desk x) (desk y)
-unfolding in_bytes times ring_words slot_words table_words stream_words desk rung night bytes_of Every
-desks-agree x y =
-    record {
-      as_long = refl;
-      in_work = omega arith;
-      opened = agrees-each-true (desk x) (desk y) (openings night (lent rung (desk x))) (listed-agrees x y);
-    }
-
-pub desks-are-told-alike : (x y : ℕ) → SameResults night rung (desk x) (desk y)
-desks-are-told-alike x y = bytes-not-listed-cannot-matter night rung (desk x) (desk y) (desks-agree x y)
 
 -- and with a save and a move between its calls, of any form, buffers and file, and at its end a load of any file
 unfoldable pub asked_night : Form → List ℕ → List ℕ → List Asked
@@ -148,12 +124,6 @@ asked_night f buffer b =
     ∷ calls (answers false 8) []
     ∷ loads b
     ∷ []
-
-pub desks-are-told-alike-whatever-is-asked : (f : Form) (buffer b : List ℕ) (x y : ℕ) → SameResultsAsked (asked_night f buffer b) rung (desk x) (desk y)
-unfolding night asked_night openings asked_openings
-desks-are-told-alike-whatever-is-asked f buffer b x y =
-    whatever-is-asked-bytes-not-listed-cannot-matter (asked_night f buffer b) rung (desk x) (desk y)
-    (record { as_long = (desks-agree x y).as_long; in_work = (desks-agree x y).in_work; opened = (desks-agree x y).opened })
 
 -- and yet they differ, in a byte of each kind: the ring header's gaps (20, 32), a slot's gaps (72, 92, 108, 120) and what its stride leaves (128, 208), the table header's gap
 -- (244), an entry's last words (272) and what its stride leaves (280), behind the table's header size (288), the stream header's gaps (308), an unknown packet's payload (328), a
@@ -172,66 +142,31 @@ is_untouched ring page f =
     (eqb f.at (ring + head_offset) && eqb f.width 4)
     || ((leb (f.at + f.width) (ring + head_offset) || leb (ring + head_offset + 4) f.at) && (leb (f.at + f.width) page || leb (page + 16) f.at))
 
-apart : (i n at k : ℕ) → leb (i + n) at || leb (at + k) i ≡ true → Apart i n at k
+pub apart : (i n at k : ℕ) → leb (i + n) at || leb (at + k) i ≡ true → Apart i n at k
 apart i n at k h = by_test (leb (i + n) at) refl h
   where
     by_test : (t : Bool) → leb (i + n) at ≡ t → t || leb (at + k) i ≡ true → Apart i n at k
     by_test true e h = inl (leb-true (i + n) at e)
     by_test false e h = inr (leb-true (at + k) i h)
 
-untouched-true : (ring page : ℕ) (f : Named) → is_untouched ring page f ≡ true → Untouched ring page f
-unfolding is_untouched
-untouched-true ring page f h = by_test (eqb f.at (ring + head_offset) && eqb f.width 4) refl h
-  where
-    by_test : (t : Bool) → eqb f.at (ring + head_offset) && eqb f.width 4 ≡ t
-        → t || ((leb (f.at + f.width) (ring + head_offset) || leb (ring + head_offset + 4) f.at) && (leb (f.at + f.width) page || leb (page + 16) f.at)) ≡ true → Untouched ring page f
-    by_test true e h =
-        let a : f.at ≡ ring + head_offset = eqb-true f.at (ring + head_offset) (both_left _ _ e) in
-        let w : f.width ≡ 4 = eqb-true f.width 4 (both_right (eqb f.at (ring + head_offset)) _ e) in
-        inl (ap {B = Named} (λ (i : ℕ). record { at = i; width = f.width }) a ∙ ap {B = Named} (λ (n : ℕ). record { at = ring + head_offset; width = n }) w)
-    by_test false e h = inr (apart f.at f.width (ring + head_offset) 4 (both_left _ _ h), inr (apart f.at f.width page 16 (both_right (leb (f.at + f.width) (ring + head_offset) || leb (ring + head_offset + 4) f.at) _ h)))
-
 unfoldable pub all_untouched : ℕ → ℕ → List Named → Bool
 all_untouched ring page [] = true
 all_untouched ring page (f ∷ fs) = is_untouched ring page f && all_untouched ring page fs
-
-all-untouched-true : (ring page : ℕ) (fs : List Named) → all_untouched ring page fs ≡ true → Every (Untouched ring page) fs
-unfolding all_untouched Every
-all-untouched-true ring page [] h = omega arith
-all-untouched-true ring page (f ∷ fs) h = (untouched-true ring page f (both_left _ _ h), all-untouched-true ring page fs (both_right (is_untouched ring page f) _ h))
 
 unfoldable pub first_each : (List Named → Bool) → List ℕ → List World → Bool
 first_each test m [] = true
 first_each test m (v ∷ vs) = test (listed_at_first m v) && first_each test m vs
 
-first-each-true : (test : List Named → Bool) (P : List Named → Type 0) → ((fs : List Named) → test fs ≡ true → P fs) → (m : List ℕ) (vs : List World) → first_each test m vs ≡ true
+pub first-each-true : (test : List Named → Bool) (P : List Named → Type 0) → ((fs : List Named) → test fs ≡ true → P fs) → (m : List ℕ) (vs : List World) → first_each test m vs ≡ true
     → Every (λ (v : World). P (listed_at_first m v)) vs
 unfolding first_each Every
 first-each-true test P sound m [] h = omega arith
 first-each-true test P sound m (v ∷ vs) h = (sound (listed_at_first m v) (both_left _ _ h), first-each-true test P sound m vs (both_right (test (listed_at_first m v)) _ h))
 
-first-agrees : (x y : ℕ) → first_each (agrees (desk x) (desk y)) (desk x) (openings night (lent rung (desk x))) ≡ true
+pub first-agrees : (x y : ℕ) → first_each (agrees (desk x) (desk y)) (desk x) (openings night (lent rung (desk x))) ≡ true
 unfolding in_bytes times ring_words slot_words table_words stream_words desk rung night headed same_bytes agrees first_each openings call_openings run_openings placed packet_layout ranges_listed slot_listed opening_listed entries_listed packet_listed packets_listed submission_listed le bytes_of over nth lookup ring_header descriptor table_header entry stream_header buffer_fields page_bytes wrong_header header_rules entry_rules take_entry known packet_row stream_rules least_size frame_rules frame_of packet_of descriptor_rules range_rules submission_rules submission_opening power_of_two good_header good_ring ring_opening opening_of create_backed create on_buffer_packet apply target_after pass take_packet tokens_after faulted signalled doorbell_cleared ended_by written head_written page_written marked settled open_step entry_step packet_step step go run_while answered ending call_run call_record answer_alone call_answer after
 first-agrees x y = refl
 
-first-untouched : (x : ℕ) → first_each (all_untouched 0 400) (desk x) (openings night (lent rung (desk x))) ≡ true
+pub first-untouched : (x : ℕ) → first_each (all_untouched 0 400) (desk x) (openings night (lent rung (desk x))) ≡ true
 unfolding in_bytes times ring_words slot_words table_words stream_words desk rung night headed is_untouched all_untouched first_each openings call_openings run_openings placed packet_layout ranges_listed slot_listed opening_listed entries_listed packet_listed packets_listed submission_listed le bytes_of over nth lookup ring_header descriptor table_header entry stream_header buffer_fields page_bytes wrong_header header_rules entry_rules take_entry known packet_row stream_rules least_size frame_rules frame_of packet_of descriptor_rules range_rules submission_rules submission_opening power_of_two good_header good_ring ring_opening opening_of create_backed create on_buffer_packet apply target_after pass take_packet tokens_after faulted signalled doorbell_cleared ended_by written head_written page_written marked settled open_step entry_step packet_step step go run_while answered ending call_run call_record answer_alone call_answer after
 first-untouched x = refl
-
-pub desks-agree-at-first : (x y : ℕ) → AgreeInFirst night rung (desk x) (desk y)
-unfolding in_bytes times ring_words slot_words table_words stream_words desk rung night bytes_of Every
-desks-agree-at-first x y =
-    record {
-      as_long = refl;
-      in_work = omega arith;
-      opened = first-each-true (agrees (desk x) (desk y)) (AgreeOn (desk x) (desk y)) (agrees-true (desk x) (desk y)) (desk x) (openings night (lent rung (desk x))) (first-agrees x y);
-    }
-
-pub the-night-touches-no-listed-byte : (x : ℕ) → TouchNoListed night rung (desk x)
-unfolding night rung Every
-the-night-touches-no-listed-byte x =
-    record {
-      places = (omega arith, (omega arith, (omega arith, (omega arith, (omega arith, omega arith)))));
-      on-ring = omega arith;
-      untouched = first-each-true (all_untouched 0 400) (Every (Untouched 0 400)) (all-untouched-true 0 400) (desk x) (openings night (lent rung (desk x))) (first-untouched x);
-    }

@@ -8,28 +8,22 @@ use Prim.Native.Nat.{ℕ, zero, suc, ◌+◌, ◌-◌}
 use Rattle.std.proofs.lemmas.Bool.{eqb-false}
 use Rattle.std.proofs.Math.Dec.{leb}
 use Rattle.rules.specs.Judging.{◌▹◌}
-use Rattle.rules.specs.Layouts.{ring_header, ring_header_size, descriptor, stream_header_size, ring_header_layout, descriptor_layout, entry_layout}
-use Rattle.rules.specs.Table.{entry_place}
+use Rattle.rules.specs.Layouts.{ring_header, ring_header_size, descriptor, stream_header_size, ring_header_layout, descriptor_layout}
 use Rattle.rules.specs.Stream.{frame_of, size_of, left}
-use Rattle.rules.specs.Ring.{descriptor_rules, range_rules, good_ring, slot_place, opening_of}
-use Rattle.rules.specs.State.{Work}
-use Rattle.rules.specs.State.Work.{resting, entries, packets, waiting}
-use Rattle.rules.specs.Listed.{placed, Named, where_true, where_fine, ranges_listed, slot_listed, opening_listed, entries_listed, packet_listed, behind, packets_listed, opened_listed, started_listed, submission_listed, listed_at}
+use Rattle.rules.specs.Ring.{descriptor_rules, range_rules, good_ring, slot_place}
+use Rattle.rules.specs.Listed.{placed, Named, where_true, where_fine, ranges_listed, slot_listed, opening_listed, entries_listed, packet_listed, behind, packets_listed, opened_listed}
 use Rattle.rules.specs.declared.Descriptor.{Descriptor}
 use Rattle.rules.specs.declared.RingHeader.{RingHeader}
-use Rattle.rules.specs.declared.Registers.{Registers}
 use Rattle.rules.specs.declared.Stream.{Stream}
 use Rattle.rules.specs.declared.Opened.{Opened}
 use Rattle.rules.specs.declared.Frame.{Frame}
 use Rattle.rules.specs.declared.Frame.TheVariants.{Whole, Misframed}
 use Rattle.rules.specs.declared.Verdict.{Verdict}
 use Rattle.rules.specs.declared.Verdict.TheVariants.{Fine, Broken}
-use Rattle.rules.specs.declared.Opening.{Opening}
-use Rattle.rules.specs.declared.Opening.TheVariants.{BadRing, NoWork, Refused, Started}
 use Rattle.promises_of_submissions.specs.Reads.{AgreeOn}
 use Rattle.promises_of_submissions.specs.OpeningRead.{RangesRead, SlotRead, OpeningRead, same-table-rules, same_good, same-header}
 use Rattle.promises_of_submissions.specs.LocalPackets.{left-length}
-use Rattle.promises_of_leftovers.specs.Opening.{front_of, back-of, opening-read, listed-opening}
+use Rattle.promises_of_leftovers.specs.Opening.{front_of, back-of}
 use Rattle.promises_of_leftovers.specs.Packet.{listed-frame}
 
 module _ (m m' : List ℕ) (len : length m ≡ length m') where
@@ -49,7 +43,7 @@ module _ (m m' : List ℕ) (len : length m ≡ length m') where
       by-verdicts Fine (Broken r) p q = refl
       by-verdicts (Broken r) v p q = refl
 
-  same-opening-listed : (ring size : ℕ) → OpeningRead m m' ring size → opening_listed m ring size ≡ opening_listed m' ring size
+  pub same-opening-listed : (ring size : ℕ) → OpeningRead m m' ring size → opening_listed m ring size ≡ opening_listed m' ring size
   unfolding opening_listed
   same-opening-listed ring size same = rw (← len, ← same_good m m' len ring size same) (ap (λ (l : List Named). where_true (leb ring_header_size size && leb (ring + size) (length m)) (placed ring ring_header_layout) ++ l) (by-ring (good_ring m ring size) refl))
     where
@@ -76,7 +70,7 @@ module _ (m m' : List ℕ) (len : length m ≡ length m') where
   unfolding packet_listed
   same-packet-listed s at same = rw (left-length s at m m' len, listed-frame s at m m' len same)
 
-  same-packets : (k : ℕ) (s : Stream) (at : ℕ) → AgreeOn m m' (packets_listed k m s at) → packets_listed k m s at ≡ packets_listed k m' s at
+  pub same-packets : (k : ℕ) (s : Stream) (at : ℕ) → AgreeOn m m' (packets_listed k m s at) → packets_listed k m s at ≡ packets_listed k m' s at
   unfolding packets_listed
   same-packets zero s at same = refl
   same-packets (suc k) s at same =
@@ -92,30 +86,7 @@ module _ (m m' : List ℕ) (len : length m ≡ length m') where
 
   -- ---- a submission
 
-  same-opened : (o : Opened) (i : ℕ) → AgreeOn m m' (opened_listed m o i) → opened_listed m o i ≡ opened_listed m' o i
+  pub same-opened : (o : Opened) (i : ℕ) → AgreeOn m m' (opened_listed m o i) → opened_listed m o i ≡ opened_listed m' o i
   same-opened o i same =
       ap (λ (l : List Named). entries_listed o.table i (o.table.count - i) ++ l)
       (same-packets (suc o.stream.size) o.stream stream_header_size (back-of m m' (entries_listed o.table i (o.table.count - i)) _ same))
-
-  -- the next submission of a ring
-  pub listed-is-fixed : (ring size : ℕ) → AgreeOn m m' (submission_listed m ring size) → submission_listed m ring size ≡ submission_listed m' ring size
-  unfolding submission_listed
-  listed-is-fixed ring size same =
-      let here : AgreeOn m m' (opening_listed m ring size) = front_of m m' _ _ same in
-      rw (← same-opening-listed ring size (opening-read m m' ring size here), ← listed-opening m m' ring size here len)
-      (ap (λ (l : List Named). opening_listed m ring size ++ l) (by-opening (opening_of m ring size) (back-of m m' (opening_listed m ring size) _ same)))
-    where
-      by-opening : (v : Opening) → AgreeOn m m' (started_listed m v) → started_listed m v ≡ started_listed m' v
-      by-opening BadRing same = refl
-      by-opening NoWork same = refl
-      by-opening (Refused j r) same = refl
-      by-opening (Started o) same = same-opened o 0 same
-
-  -- and what is listed of a device, whatever it has in work
-  pub listed-is-fixed-at : (r : Registers) (k : Work) → AgreeOn m m' (listed_at r k m) → listed_at r k m ≡ listed_at r k m'
-  listed-is-fixed-at r resting same = listed-is-fixed r.ring r.ringsize same
-  listed-is-fixed-at r (entries o kept) same =
-      ap (λ (l : List Named). placed (entry_place o.table (length kept)) entry_layout ++ l)
-      (same-opened o (suc (length kept)) (back-of m m' (placed (entry_place o.table (length kept)) entry_layout) _ same))
-  listed-is-fixed-at r (packets j s at es h) same = same-packets (suc s.size) s at same
-  listed-is-fixed-at r (waiting j es h) same = refl

@@ -1,22 +1,21 @@
 -- Two memories that agree on what an opening lists open alike. Assumes nothing.
-use Rattle.std.specs.Prelude.{◌≡◌, Bool, true, ◌&&◌, List, ◌++◌, ℕ, ◌+◌, eqb, length}
-use Rattle.std.proofs.Math.Bool.{not}
-use borrow.Author.Tests.{le-leb, ne_eqb}
+use Rattle.std.specs.Prelude.{◌≡◌, Bool, true, List, ◌++◌, ℕ, length}
+use borrow.Author.Tests.{le-leb}
 use Rattle.std.proofs.Math.Dec.{leb}
 use Rattle.rules.specs.Judging.{◌▹◌}
-use Rattle.rules.specs.Layouts.{ring_header, ring_header_size, descriptor, table_header_size, stream_header_size, descriptor_layout}
-use Rattle.rules.specs.Ring.{descriptor_rules, range_rules, good_ring, slot_place, opening_of}
-use Rattle.rules.specs.Listed.{placed, Named, where_true, where_fine, ranges_listed, slot_listed, opening_listed, table_fine}
+use Rattle.rules.specs.Layouts.{descriptor, table_header_size, stream_header_size, descriptor_layout}
+use Rattle.rules.specs.Ring.{descriptor_rules, range_rules}
+use Rattle.rules.specs.Listed.{placed, Named, where_true, where_fine, ranges_listed, slot_listed, table_fine}
 use Rattle.rules.specs.declared.Descriptor.{Descriptor}
 use Rattle.rules.specs.declared.Verdict.{Verdict}
 use Rattle.rules.specs.declared.Verdict.TheVariants.{Fine}
 use Rattle.promises_of_packets.specs.Held.{every_front, every_back}
-use Rattle.promises_of_submissions.specs.Reads.{AgreeOn, SameIn, named-ring-header, named-descriptor, named-table-header, named-stream-header}
-use Rattle.promises_of_submissions.specs.OpeningRead.{RangesRead, SlotRead, OpeningRead, read-opening}
+use Rattle.promises_of_submissions.specs.Reads.{AgreeOn, SameIn, named-descriptor, named-table-header, named-stream-header}
+use Rattle.promises_of_submissions.specs.OpeningRead.{RangesRead, SlotRead}
 
 module _ (m m' : List ℕ) where
   -- what is listed where a test holds, and it does
-  on-true : (t : Bool) (l : List Named) → t ≡ true → AgreeOn m m' (where_true t l) → AgreeOn m m' l
+  pub on-true : (t : Bool) (l : List Named) → t ≡ true → AgreeOn m m' (where_true t l) → AgreeOn m m' l
   on-true t l e s = rw e at s
 
   on_fine : (v : Verdict) (l : List Named) → v ≡ Fine → AgreeOn m m' (where_fine v l) → AgreeOn m m' l
@@ -38,7 +37,7 @@ module _ (m m' : List ℕ) where
             (on-true (leb stream_header_size d.cmdsize) _ (le-leb _ _ h) (on_fine (table_fine m d) _ f (back-of (where_true (leb table_header_size d.tablesize) _) _ s)));
       }
 
-  slot_read : (at stride : ℕ) → AgreeOn m m' (slot_listed m at stride) → SlotRead m m' at stride
+  pub slot_read : (at stride : ℕ) → AgreeOn m m' (slot_listed m at stride) → SlotRead m m' at stride
   unfolding slot_listed
   slot_read at stride s =
       record {
@@ -47,22 +46,3 @@ module _ (m m' : List ℕ) where
             ranges-read (descriptor m at)
             (on_fine (descriptor_rules stride (descriptor m at) ▹ range_rules (length m) (descriptor m at)) _ (rw (f, g)) (back-of (placed at descriptor_layout) _ s));
       }
-
-  module _ (ring size : ℕ) (s : AgreeOn m m' (opening_listed m ring size)) where
-    pub opening-read : OpeningRead m m' ring size
-    unfolding opening_listed
-    opening-read =
-        record {
-          header = λ h k.
-              named-ring-header m m' ring
-              (on-true (leb ring_header_size size && leb (ring + size) (length m)) _ (rw (le-leb ring_header_size size h, le-leb (ring + size) (length m) k)) (front_of _ _ s));
-          pending = λ good some.
-              slot_read (slot_place ring (ring_header m ring)) (ring_header m ring).stride
-              (on-true (good_ring m ring size && not (eqb (ring_header m ring).head (ring_header m ring).tail)) _
-              (rw (good, ne_eqb (ring_header m ring).head (ring_header m ring).tail some))
-              (back-of (where_true (leb ring_header_size size && leb (ring + size) (length m)) _) _ s));
-        }
-
-    -- the same opening, whatever the other bytes are
-    pub listed-opening : length m ≡ length m' → opening_of m ring size ≡ opening_of m' ring size
-    listed-opening len = read-opening m m' len ring size opening-read

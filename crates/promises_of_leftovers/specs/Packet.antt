@@ -11,18 +11,14 @@ use Rattle.std.proofs.Math.ListN.{length}
 use Rattle.rules.specs.Fields.{Field, width_of}
 use Rattle.rules.specs.Layouts.{packet_header_size, packet_header_layout}
 use Rattle.rules.specs.Stream.{least_size, frame_rules, frame_of, left}
-use Rattle.rules.specs.Packets.{Progress, pass, take_packet}
 use Rattle.rules.specs.Listed.{placed, where_true, frame_listed, packet_listed, packet_layout}
-use Rattle.rules.specs.declared.Entry.{Entry}
 use Rattle.rules.specs.declared.Stream.{Stream}
-use Rattle.rules.specs.declared.Packet.{Packet}
-use Rattle.rules.specs.declared.Frame.{Frame}
-use Rattle.rules.specs.declared.Frame.TheVariants.{Whole, Misframed}
+use Rattle.rules.specs.declared.Frame.TheVariants.{Whole}
 use Rattle.stream_packets.specs.Framing.{FrameFits, frame-sound}
 use Rattle.promises_of_packets.specs.Held.{Every}
 use Rattle.promises_of_submissions.specs.LocalBytes.{Agree, front_read}
-use Rattle.promises_of_submissions.specs.LocalPackets.{framed-is-read, left-inside, left-length}
-use Rattle.promises_of_submissions.specs.Reads.{AgreeOn, Ends, named-packet, named-inside}
+use Rattle.promises_of_submissions.specs.LocalPackets.{left-inside, left-length}
+use Rattle.promises_of_submissions.specs.Reads.{AgreeOn, Ends, named-inside}
 use Rattle.promises_of_leftovers.specs.Opening.{front_of, back-of}
 
 in-more : (n n' : ℕ) (fs : List Field) → n ≤ n' → Ends n fs → Ends n' fs
@@ -55,7 +51,7 @@ module _ (s : Stream) (at : ℕ) where
 -- ---- some bytes, whatever they are a part of
 
 module _ (b b' : List ℕ) (len : length b ≡ length b') (header : packet_header_size ≤ length b → AgreeOn b b' (placed 0 packet_header_layout)) where
-  named-frame : frame_of b ≡ frame_of b'
+  pub named-frame : frame_of b ≡ frame_of b'
   unfolding frame_of frame_rules Every placed
   named-frame = by_test (ltb (length b') packet_header_size) refl
     where
@@ -65,26 +61,16 @@ module _ (b b' : List ℕ) (len : length b ≡ length b') (header : packet_heade
           let s : AgreeOn b b' (placed 0 packet_header_layout) = header (rw len (ltb-false (length b') packet_header_size t)) in
           rw (len, s.0, s.1.0)
 
-  named-taken : (es : List Entry) (h : Progress) → ((op size : ℕ) → frame_of b ≡ Whole op size → AgreeOn b b' (placed 0 (packet_layout op))) → take_packet es h b ≡ take_packet es h b'
-  unfolding take_packet
-  named-taken es h same = by_frame (frame_of b) refl
-    where
-      by_frame : (f : Frame) → frame_of b ≡ f → take_packet es h b ≡ take_packet es h b'
-      by_frame (Whole op size) e =
-          framed-is-read b es h op size e
-          ∙ (ap (λ (p : Packet). pass es h p) (named-packet op b b' (same op size e)) ∙ sym (framed-is-read b' es h op size (sym named-frame ∙ e)))
-      by_frame (Misframed r) e = rw (e, sym named-frame ∙ e)
-
 -- ---- the packet at a place
 
 module _ (s : Stream) (at : ℕ) (m m' : List ℕ) (len : length m ≡ length m') (same : AgreeOn m m' (packet_listed m s at)) where
-  header-same : packet_header_size ≤ length (left m s at) → AgreeOn (left m s at) (left m' s at) (placed 0 packet_header_layout)
+  pub header-same : packet_header_size ≤ length (left m s at) → AgreeOn (left m s at) (left m' s at) (placed 0 packet_header_layout)
   unfolding packet_listed Every
   header-same h =
       left-same s at m m' len packet_header_layout (omega arith, (omega arith, omega arith))
       (rw (le-leb packet_header_size (length (left m s at)) h) at (front_of m m' (where_true (leb packet_header_size (length (left m s at))) (placed (s.gpa + at) packet_header_layout)) _ same))
 
-  fields-same : (op size : ℕ) → frame_of (left m s at) ≡ Whole op size → AgreeOn (left m s at) (left m' s at) (placed 0 (packet_layout op))
+  pub fields-same : (op size : ℕ) → frame_of (left m s at) ≡ Whole op size → AgreeOn (left m s at) (left m' s at) (placed 0 (packet_layout op))
   unfolding packet_listed
   fields-same op size e =
       let fits : FrameFits (left m s at) op size = frame-sound (left m s at) op size e in
@@ -93,6 +79,3 @@ module _ (s : Stream) (at : ℕ) (m m' : List ℕ) (len : length m ≡ length m'
 
   pub listed-frame : frame_of (left m s at) ≡ frame_of (left m' s at)
   listed-frame = named-frame (left m s at) (left m' s at) (left-length s at m m' len) header-same
-
-  pub listed-taken : (es : List Entry) (h : Progress) → take_packet es h (left m s at) ≡ take_packet es h (left m' s at)
-  listed-taken es h = named-taken (left m s at) (left m' s at) (left-length s at m m' len) header-same es h fields-same

@@ -1,35 +1,30 @@
 -- Wish 12, "beyond": where ring and fence page stay where they are, the head and fence writes are those of that ring and that page. It is then enough that no listed byte but the
 -- head's own lies in the ring's head or in the page. Assumes nothing.
-use Rattle.std.specs.Prelude.{◌≡◌, Bool, ◌⊎◌, ℕ, ◌+◌, ◌≤◌, ◌<◌, ltb, eqb, length}
+use Rattle.std.specs.Prelude.{◌≡◌, Bool, ◌⊎◌, ℕ, ◌+◌, ◌≤◌, ltb, eqb, length}
 use Rattle.std.proofs.Math.Path.{refl, sym}
-use Rattle.std.proofs.Common.{ap, subst, ◌∙◌, inl, inr, arith, eq-eqb}
+use Rattle.std.proofs.Common.{subst, ◌∙◌, inl, inr, arith, eq-eqb}
 use Rattle.std.proofs.Math.Bool.{true, false}
-use mathlib.Core.List.{List, [], ◌∷◌}
+use mathlib.Core.List.{List, []}
 use Rattle.std.proofs.Math.ListN.{get_or}
 use Rattle.machine.specs.Machine.{pick}
 use Rattle.rules.specs.Bytes.{bytes_of}
-use Rattle.rules.specs.Lists.{Found, lookup}
-use Rattle.rules.specs.Lists.Found.{none, found}
 use Rattle.rules.specs.Judging.{Finding}
-use Rattle.rules.specs.Judging.Finding.{broken}
 use Rattle.rules.specs.Layouts.{ring_header, head_offset, descriptor, stream_header_size}
 use Rattle.rules.specs.Ring.{job_of, opened_of, concluded, slot_place, submission_rules, submission_opening, good_ring, ring_opening, opening_of}
-use Rattle.rules.specs.Registers.{bit_of, with_enabled, reset_registers, reset, controlled, Write, write_offset, writable, write_of}
+use Rattle.rules.specs.Registers.{bit_of, with_enabled, reset_registers, reset, controlled, Write}
 use Rattle.rules.specs.Packets.{Progress, Belongings, at_first, take_packet}
 use Rattle.rules.specs.Table.{take_entry}
 use Rattle.rules.specs.Stream.{left}
-use Rattle.rules.specs.State.{Work, State, World, with_regs, with_state}
+use Rattle.rules.specs.State.{Work, State, World, with_regs}
 use Rattle.rules.specs.State.Work.{resting, entries, packets, waiting}
-use Rattle.rules.specs.Settle.{faulted, doorbell_cleared, ended_by, next_head, head_written, page_written, marked, settled}
-use Rattle.rules.specs.Steps.{packets_at, entries_at, next_place, step, answer_on, answered}
-use Rattle.rules.specs.Calls.{wrote, call_write}
+use Rattle.rules.specs.Settle.{ended_by, next_head, head_written, page_written, marked, settled}
+use Rattle.rules.specs.Steps.{packets_at, entries_at, next_place, answer_on, answered}
 use Rattle.rules.specs.Listed.{Named}
 use Rattle.rules.specs.declared.Entry.{Entry}
 use Rattle.rules.specs.declared.Job.{Job}
 use Rattle.rules.specs.declared.Registers.{Registers}
 use Rattle.rules.specs.declared.Opened.{Opened}
 use Rattle.rules.specs.declared.Stream.{Stream}
-use Rattle.rules.specs.declared.Fault.{Fault}
 use Rattle.rules.specs.declared.Descriptor.{Descriptor}
 use Rattle.rules.specs.declared.RingHeader.{RingHeader}
 use Rattle.rules.specs.declared.Verdict.{Verdict}
@@ -37,19 +32,15 @@ use Rattle.rules.specs.declared.Verdict.TheVariants.{Fine, Broken}
 use Rattle.rules.specs.declared.Opening.{Opening}
 use Rattle.rules.specs.declared.Opening.TheVariants.{BadRing, NoWork, Refused, Started}
 use Rattle.settle.specs.Only.{Apart, head_at, written_byte, only-head-and-page, settling-keeps-ring, settling-keeps-page}
-use Rattle.promises_of_packets.specs.Held.{Every, every-found}
-use Rattle.promises_of_packets.specs.Names.{found-key}
-use Rattle.promises_of_submissions.specs.Reads.{AgreeOn, SameIn}
+use Rattle.promises_of_packets.specs.Held.{Every}
+use Rattle.promises_of_submissions.specs.Reads.{AgreeOn}
 use Rattle.promises_of_submissions.specs.LocalWrites.{AgreeAt}
 use Rattle.promises_of_submissions.specs.Locality.{lent}
-use Rattle.promises_of_units.specs.Units.{Next, Breaks, Unit, unit}
-use Rattle.promises_of_units.specs.Units.Unit.{works-on, finds-bad-ring, finds-no-work, settles}
+use Rattle.promises_of_units.specs.Units.{Next}
 use Rattle.promises_of_units.specs.Called.{Call}
-use Rattle.promises_of_leftovers.specs.Unit.{bytes-agree}
 use Rattle.promises_of_leftovers.specs.Submissions.{openings, listed_in_work}
-use Rattle.promises_of_leftovers.specs.Along.{WritesOnly, openings-kept}
-use Rattle.promises_of_leftovers.specs.Matter.{SameResults}
-use Rattle.promises_of_leftovers.specs.Beyond.{head_of, listed_at_first, Unwritten, same-lengths, beyond-the-settling}
+use Rattle.promises_of_leftovers.specs.Along.{WritesOnly}
+use Rattle.promises_of_leftovers.specs.Beyond.{head_of, listed_at_first}
 
 -- the submission in work was opened on this ring
 abbrev pub OnRing : ℕ → Work → Type 0
@@ -69,7 +60,7 @@ Untouched ring page f =
 
 -- ---- the ring of what is opened
 
-abbrev RingIs : ℕ → Opening → Type 0
+abbrev pub RingIs : ℕ → Opening → Type 0
 RingIs ring BadRing = 0 ≤ 0
 RingIs ring NoWork = 0 ≤ 0
 RingIs ring (Refused j r) = j.ring ≡ ring
@@ -93,19 +84,19 @@ opening_ring m ring size = by_tests (good_ring m ring size) (eqb h.head h.tail) 
 
 -- ---- a write of another register
 
-record SamePlaces (s t : State) : Type 0 where
-  ring : t.regs.ring ≡ s.regs.ring
-  page : t.regs.fencepage ≡ s.regs.fencepage
-  work : (r : ℕ) → OnRing r s.work → OnRing r t.work
+pub record SamePlaces (s t : State) : Type 0 where
+  pub ring : t.regs.ring ≡ s.regs.ring
+  pub page : t.regs.fencepage ≡ s.regs.fencepage
+  pub work : (r : ℕ) → OnRing r s.work → OnRing r t.work
 
 module _ (s : State) (v : ℕ) where
-  abbrev Fits : Write → Type 0
+  abbrev pub Fits : Write → Type 0
   Fits x = MovesNeither x.offset → SamePlaces s x.state
 
-  alike : {t : State} → t.regs.ring ≡ s.regs.ring → t.regs.fencepage ≡ s.regs.fencepage → ((r : ℕ) → OnRing r s.work → OnRing r t.work) → SamePlaces s t
+  pub alike : {t : State} → t.regs.ring ≡ s.regs.ring → t.regs.fencepage ≡ s.regs.fencepage → ((r : ℕ) → OnRing r s.work → OnRing r t.work) → SamePlaces s t
   alike a b c = record { ring = a; page = b; work = c }
 
-  control-fits : SamePlaces s (controlled v s)
+  pub control-fits : SamePlaces s (controlled v s)
   unfolding controlled reset reset_registers
   control-fits = by_bit (bit_of 1 v)
     where
@@ -113,32 +104,18 @@ module _ (s : State) (v : ℕ) where
       by_bit true = alike refl refl (λ r h. omega arith)
       by_bit false = alike refl refl (λ r h. h)
 
-  all_fit : Every Fits (writable s v)
-  unfolding Every
-  all_fit =
-      (λ k. absurd (k.0 refl), (λ k. absurd (k.1.0 refl), (λ k. alike refl refl (λ r h. h), (λ k. control-fits, (λ k. absurd (k.1.1.0 refl), (λ k. absurd (k.1.1.1 refl), (λ k. alike refl refl (λ r h. h), (λ k. alike refl refl (λ r h. h), (λ k. alike refl refl (λ r h. h), omega arith)))))))))
-
-  write-fits : (offset : ℕ) → MovesNeither offset → SamePlaces s (call_write s offset v).state
-  unfolding call_write write_of
-  write-fits offset k = by_found (lookup write_offset offset (writable s v)) refl
-    where
-      by_found : (f : Found Write) → lookup write_offset offset (writable s v) ≡ f → SamePlaces s (wrote s f).state
-      by_found none e = alike refl refl (λ r h. h)
-      by_found (found x) e =
-          every-found Fits write_offset offset (writable s v) x e all_fit (subst MovesNeither (sym (found-key write_offset offset (writable s v) x e)) k)
-
 -- ---- what is kept from world to world
 
 module _ (m : List ℕ) (ring page : ℕ) where
-  abbrev Outside : ℕ → Type 0
+  abbrev pub Outside : ℕ → Type 0
   Outside i = Apart i 1 (ring + head_offset) 4 × ((page ≡ 0) ⊎ Apart i 1 page 16)
 
   -- ring and page are where they were, what is in work is of that ring, and a byte outside its head and the page is what it was
-  record Stays (w : World) : Type 0 where
-    its-ring : w.state.regs.ring ≡ ring
-    its-page : w.state.regs.fencepage ≡ page
-    its-work : OnRing ring w.state.work
-    bytes : (i : ℕ) → Outside i → AgreeAt i m w.mem
+  pub record Stays (w : World) : Type 0 where
+    pub its-ring : w.state.regs.ring ≡ ring
+    pub its-page : w.state.regs.fencepage ≡ page
+    pub its-work : OnRing ring w.state.work
+    pub bytes : (i : ℕ) → Outside i → AgreeAt i m w.mem
 
   -- settling writes that ring's head and that page
   marked-outside : (j : Job) (r : Registers) (x : List ℕ) (i : ℕ) → j.ring ≡ ring → r.fencepage ≡ page → Outside i → get_or (marked j r x) i 0 ≡ get_or x i 0
@@ -149,7 +126,7 @@ module _ (m : List ℕ) (ring page : ℕ) where
       by-page (inl z) = rw (eq-eqb r.fencepage 0 (p ∙ z)) (written_byte (head_at j) (bytes_of 4 (next_head j.head)) x i (rw e h.0))
       by-page (inr q) = only-head-and-page j r x i (rw e h.0) (rw p q)
 
-  settled-stays : (j : Job) (v : Finding) (owned : Belongings) (w : World) → j.ring ≡ ring → Stays w → Stays (settled j v owned w)
+  pub settled-stays : (j : Job) (v : Finding) (owned : Belongings) (w : World) → j.ring ≡ ring → Stays w → Stays (settled j v owned w)
   unfolding settled
   settled-stays j v owned w e k =
       record {
@@ -174,33 +151,17 @@ module _ (m : List ℕ) (ring page : ℕ) where
       by_test false = packets-on-ring o.job o.stream stream_header_size kept (at_first owned) e
 
   -- the opening of this world is on the ring
-  opened-ring : (w : World) (v : Opening) → w.state.regs.ring ≡ ring → opening_of w.mem w.state.regs.ring w.state.regs.ringsize ≡ v → RingIs ring v
+  pub opened-ring : (w : World) (v : Opening) → w.state.regs.ring ≡ ring → opening_of w.mem w.state.regs.ring w.state.regs.ringsize ≡ v → RingIs ring v
   opened-ring w v e h = subst (RingIs ring) h (subst (λ (r : ℕ). RingIs r (opening_of w.mem w.state.regs.ring w.state.regs.ringsize)) e (opening_ring w.mem w.state.regs.ring w.state.regs.ringsize))
 
-  next-on-ring : (w : World) (k next : Work) → w.state.regs.ring ≡ ring → Next w k next → OnRing ring k → OnRing ring next
+  pub next-on-ring : (w : World) (k next : Work) → w.state.regs.ring ≡ ring → Next w k next → OnRing ring k → OnRing ring next
   next-on-ring w resting next e h on = rw h.first (entries-on-ring h.what [] w.state.belongings (opened-ring w (Started h.what) e h.here))
   next-on-ring w (entries o kept) next e h on = rw h.1 (entries-on-ring o (take_entry w.mem o.table kept).kept w.state.belongings on)
   next-on-ring w (packets j t at es held) next e h on =
       rw h.1 (packets-on-ring j t (next_place at (left w.mem t at)) es (take_packet es held (left w.mem t at)).held on)
   next-on-ring w (waiting j es held) next e h on = rw h on
 
-  breaks-on-ring : (w : World) (k : Work) (j : Job) (f : Fault) → w.state.regs.ring ≡ ring → Breaks w k j f → OnRing ring k → j.ring ≡ ring
-  breaks-on-ring w resting j f e h on = opened-ring w (Refused j h.why) e h.here
-  breaks-on-ring w (entries o kept) j f e h on = ap (λ (x : Job). x.ring) h.0 ∙ on
-  breaks-on-ring w (packets k t at es held) j f e h on = ap (λ (x : Job). x.ring) h.0 ∙ on
-  breaks-on-ring w (waiting k es held) j f e h on = absurd h
-
-  -- a unit, an answer, a write of another register
-  unit-stays : (w w' : World) → Unit w w' → Stays w → Stays w'
-  unfolding faulted doorbell_cleared
-  unit-stays w w' (works-on next h) k =
-      record { its-ring = k.its-ring; its-page = k.its-page; its-work = next-on-ring w w.state.work next k.its-ring h k.its-work; bytes = k.bytes }
-  unit-stays w w' (finds-bad-ring e h) k = record { its-ring = k.its-ring; its-page = k.its-page; its-work = k.its-work; bytes = k.bytes }
-  unit-stays w w' (finds-no-work e h) k = record { its-ring = k.its-ring; its-page = k.its-page; its-work = k.its-work; bytes = k.bytes }
-  unit-stays w w' (settles j f h) k =
-      settled-stays j (broken f) w.state.belongings w (breaks-on-ring w w.state.work j f k.its-ring h k.its-work) k
-
-  answer-stays : (good : Bool) (w : World) → Stays w → Stays (answered good w)
+  pub answer-stays : (good : Bool) (w : World) → Stays w → Stays (answered good w)
   unfolding answered
   answer-stays good w k = by-work good w.state.work k.its-work
     where
@@ -211,36 +172,7 @@ module _ (m : List ℕ) (ring page : ℕ) where
       by-work true (waiting j es h) on = settled-stays j _ _ w on k
       by-work false (waiting j es h) on = settled-stays j _ _ w on k
 
-  write-stays : (w : World) (offset v : ℕ) → MovesNeither offset → Stays w → Stays (with_state (call_write w.state offset v).state w)
-  write-stays w offset v free k =
-      let same : SamePlaces w.state (call_write w.state offset v).state = write-fits w.state v offset free in
-      record { its-ring = same.ring ∙ k.its-ring; its-page = same.page ∙ k.its-page; its-work = same.work ring k.its-work; bytes = k.bytes }
-
   -- ---- so a field outside both has not been written
-
-  unwritten-field : (v : World) → length m ≡ length v.mem → Stays v → (f : Named) → Untouched ring page f → (f ≡ head_of v.state.regs.ring) ⊎ SameIn m v.mem f
-  unwritten-field v long k f (inl e) = inl (e ∙ ap head_of (sym k.its-ring))
-  unwritten-field v long k f (inr h) = inr (bytes-agree m v.mem long f.at f.width (λ i b. k.bytes (f.at + i) (byte-apart (ring + head_offset) 4 h.0 i b, by-page h.1 i b)))
-    where
-      byte-apart : (at n : ℕ) → Apart f.at f.width at n → (i : ℕ) → i < f.width → Apart (f.at + i) 1 at n
-      byte-apart at n (inl q) i b = inl (omega arith)
-      byte-apart at n (inr q) i b = inr (omega arith)
-
-      by-page : (page ≡ 0) ⊎ Apart f.at f.width page 16 → (i : ℕ) → i < f.width → (page ≡ 0) ⊎ Apart (f.at + i) 1 page 16
-      by-page (inl z) i b = inl z
-      by-page (inr q) i b = inr (byte-apart page 16 q i b)
-
-  unwritten-there : (v : World) → length m ≡ length v.mem → Stays v → (fs : List Named) → Every (Untouched ring page) fs
-      → Every (λ (f : Named). (f ≡ head_of v.state.regs.ring) ⊎ SameIn m v.mem f) fs
-  unfolding Every
-  unwritten-there v long k [] h = h
-  unwritten-there v long k (f ∷ fs) h = (unwritten-field v long k f h.0, unwritten-there v long k fs h.1)
-
-  all-unwritten : (vs : List World) → Every (λ (v : World). length m ≡ length v.mem) vs → Every Stays vs → Every (λ (v : World). Every (Untouched ring page) (listed_at_first m v)) vs
-      → Every (Unwritten m) vs
-  unfolding Every
-  all-unwritten [] l k h = h
-  all-unwritten (v ∷ vs) l k h = (unwritten-there v l.0 k.0 (listed_at_first m v) h.0, all-unwritten vs l.1 k.1 h.1)
 
 -- ---- the theorem
 
@@ -255,18 +187,3 @@ pub record AgreeInFirst (cs : List Call) (s : State) (m m' : List ℕ) : Type 0 
   pub as_long : length m ≡ length m'
   pub in_work : AgreeOn m m' (listed_in_work s m)
   pub opened : Every (λ (v : World). AgreeOn m m' (listed_at_first m v)) (openings cs (lent s m))
-
-pub beyond-if-no-listed-byte-is-touched : (cs : List Call) (s : State) (m m' : List ℕ) → AgreeInFirst cs s m m' → TouchNoListed cs s m → SameResults cs s m m'
-beyond-if-no-listed-byte-is-touched cs s m m' same clear =
-    beyond-the-settling cs s m m'
-    (record {
-      as_long = same.as_long;
-      in_work = same.in_work;
-      opened = same.opened;
-      unwritten =
-          all-unwritten m s.regs.ring s.regs.fencepage (openings cs (lent s m)) (same-lengths cs (lent s m))
-          (openings-kept (Stays m s.regs.ring s.regs.fencepage) (λ w k. unit-stays m s.regs.ring s.regs.fencepage w (step w) (unit w) k)
-          (answer-stays m s.regs.ring s.regs.fencepage) MovesNeither (write-stays m s.regs.ring s.regs.fencepage) cs (lent s m) clear.places
-          (record { its-ring = refl; its-page = refl; its-work = clear.on-ring; bytes = λ i h. refl }))
-          clear.untouched;
-    })

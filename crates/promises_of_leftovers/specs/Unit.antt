@@ -5,15 +5,9 @@ use Rattle.std.proofs.Common.{sym, ap, ◌∙◌, arith, length-take, length-dro
 use mathlib.Core.List.{List, [], ◌∷◌}
 use Rattle.std.proofs.Math.Nat.{min-le_left}
 use Rattle.rules.specs.Layouts.{entry_layout}
-use Rattle.rules.specs.Judging.{at_place}
 use Rattle.rules.specs.Table.{entry_place, take_entry}
-use Rattle.rules.specs.Stream.{left}
-use Rattle.rules.specs.Ring.{opening_of}
-use Rattle.rules.specs.Packets.{take_packet}
-use Rattle.rules.specs.State.{Work, State, World}
-use Rattle.rules.specs.State.Work.{resting, entries, packets, waiting}
-use Rattle.rules.specs.Steps.{open_step, entry_step, next_place, packet_step, step_on, step}
-use Rattle.rules.specs.Listed.{placed, Named, unit_listed}
+use Rattle.rules.specs.State.{State, World}
+use Rattle.rules.specs.Listed.{placed, Named}
 use Rattle.rules.specs.declared.Entry.{Entry}
 use Rattle.rules.specs.declared.Table.{Table}
 use Rattle.settle.specs.Only.{marked-length}
@@ -21,34 +15,15 @@ use Rattle.promises_of_packets.specs.Held.{Every}
 use Rattle.promises_of_submissions.specs.LocalBytes.{Agree}
 use Rattle.promises_of_submissions.specs.LocalWrites.{SameWrites, AgreeAt, same-writes-agree}
 use Rattle.promises_of_submissions.specs.LocalWrites.SameWrites.{unwritten, settles}
-use Rattle.promises_of_submissions.specs.Locality.{lent, SameEnd, opening-blind, entry-blind, packet-blind}
+use Rattle.promises_of_submissions.specs.Locality.{lent, SameEnd}
 use Rattle.promises_of_submissions.specs.Reads.{AgreeOn, named-entry}
-use Rattle.promises_of_leftovers.specs.Opening.{listed-opening}
-use Rattle.promises_of_leftovers.specs.Packet.{listed-frame, listed-taken}
 
 -- ---- one unit
 
-listed-entry : (m m' : List ℕ) → length m ≡ length m' → (t : Table) (kept : List Entry) → AgreeOn m m' (placed (entry_place t (length kept)) entry_layout)
+pub listed-entry : (m m' : List ℕ) → length m ≡ length m' → (t : Table) (kept : List Entry) → AgreeOn m m' (placed (entry_place t (length kept)) entry_layout)
     → take_entry m t kept ≡ take_entry m' t kept
 unfolding take_entry
 listed-entry m m' len t kept same = rw (len, named-entry m m' (entry_place t (length kept)) same)
-
-module _ (s : State) (m m' : List ℕ) (len : length m ≡ length m') where
-  on-listed : (k : Work) → AgreeOn m m' (unit_listed s.regs k m) → SameEnd m m' (step_on (lent s m) k) (step_on (lent s m') k)
-  unfolding open_step entry_step packet_step
-  on-listed resting same =
-      rw (← listed-opening m m' s.regs.ring s.regs.ringsize same len) (opening-blind s m m' (opening_of m s.regs.ring s.regs.ringsize))
-  on-listed (entries o kept) same =
-      rw (← listed-entry m m' len o.table kept same) (entry-blind s m m' o (take_entry m o.table kept).kept (at_place (length kept) (take_entry m o.table kept).verdict))
-  on-listed (packets j t at es h) same =
-      rw (← listed-frame t at m m' len same, ← listed-taken t at m m' len same es h)
-      (packet-blind s m m' j t (next_place at (left m t at)) es (take_packet es h (left m t at)).held (at_place at (take_packet es h (left m t at)).verdict))
-  on-listed (waiting j es h) same = record { state = refl; writes = unwritten }
-
-  -- one unit, of one device over two memories of one length that agree on what the unit lists
-  pub unit-by-the-listed : AgreeOn m m' (unit_listed s.regs s.work m) → SameEnd m m' (step (lent s m)) (step (lent s m'))
-  unfolding step
-  unit-by-the-listed same = on-listed s.work same
 
 -- ---- what is written over both
 

@@ -1,8 +1,8 @@
 -- The causes of answer 10, and that there are no others; 9 exactly where there is none of them and a named total would reach 2^64.
 -- Assumes nothing.
 use Rattle.std.proofs.Math.Path.{◌≡◌, refl}
-use Rattle.std.proofs.Common.{sym, ap, ◌∙◌, ⊎_elim, arith}
-use Rattle.std.specs.Prelude.{Bool, ◌&&◌, ◌⊎◌, ℕ, ◌≤◌, ◌<◌, leb}
+use Rattle.std.proofs.Common.{ap, ◌∙◌, ⊎_elim, arith}
+use Rattle.std.specs.Prelude.{Bool, ◌&&◌, ℕ, ◌≤◌, ◌<◌, leb}
 use Rattle.std.proofs.Math.Bool.{true, false}
 use mathlib.Core.List.{List, [], ◌∷◌, ◌++◌}
 use borrow.Author.Tests.{eq-eqb, ne_eqb, le-leb, lt-leb}
@@ -13,8 +13,7 @@ use Rattle.rules.specs.declared.Record.{Record}
 use Rattle.rules.specs.Month.{Finished, alone, every, listed_kind, good_feed, feed_answer}
 use Rattle.rows.specs.Keys.{same_or_not}
 use Rattle.words.specs.Over.{below_or_not}
-use Rattle.promises_of_months.specs.Counted.{ten-when, exactly}
-use Rattle.promises_of_months.specs.Named.{Small, nine-exactly}
+use Rattle.promises_of_months.specs.Named.{Small}
 
 -- "An unlisted error or kind, more than 64 records, or records beside an error": the listed errors are 10 to 30
 pub data Cause (s : Finished) : Type 0 where
@@ -35,7 +34,7 @@ unfolding every
 with-unlisted [] after c h = rw h
 with-unlisted (b ∷ before) after c h = rw (with-unlisted before after c h) (and-false (listed_kind b))
 
-cause-bad : (s : Finished) → Cause s → good_feed s ≡ false
+pub cause-bad : (s : Finished) → Cause s → good_feed s ≡ false
 unfolding good_feed
 cause-bad s (error-below p h) = rw (ne_eqb s.error 0 p, lt-leb 10 s.error h)
 cause-bad s (error-above h) = rw (ne_eqb s.error 0 (λ e. omega arith), le-leb 10 s.error (omega arith), lt-leb s.error 30 h)
@@ -81,7 +80,7 @@ module _ (s : Finished) (bad : good_feed s ≡ false) where
       let u : Unlisted s.records = find-unlisted s.records kinds in
       unlisted-kind u.before u.after u.one u.whole u.kind
 
-  cause-of : Cause s
+  pub cause-of : Cause s
   cause-of =
       ⊎_elim
       (λ p. ⊎_elim (λ h. cause-of-records p (omega arith)) (λ h. above-64 h) (below_or_not (length s.records) 65))
@@ -95,21 +94,7 @@ pub record Ten (xs : List Finished) (s : Finished) : Type 0 where
   pub only : feed_answer xs s ≡ bad_feed → Cause s
   pub when : Cause s → feed_answer xs s ≡ bad_feed
 
-pub ten-exactly : (xs : List Finished) (s : Finished) → Ten xs s
-ten-exactly xs s = record { only = λ h. cause-of s ((exactly xs s).ten h); when = λ c. ten-when xs s (cause-bad s c) }
-
 -- 9 exactly where none of them holds and a named total would reach 2^64
 pub record NineBelow (xs : List Finished) (s : Finished) : Type 0 where
   pub only : feed_answer xs s ≡ too_much → (Cause s → ⊥) × (Small (pushed xs s) → ⊥)
   pub when : (Cause s → ⊥) → (Small (pushed xs s) → ⊥) → feed_answer xs s ≡ too_much
-
-pub nine-after-ten : (xs : List Finished) (s : Finished) → NineBelow xs s
-nine-after-ten xs s =
-    record {
-      only = λ h. (λ c. let e : feed_answer xs s ≡ 10 = ten-when xs s (cause-bad s c) in absurd (omega arith), ((nine-exactly xs s).only h).1);
-      when = λ n m. by_test n m (good_feed s) refl;
-    }
-  where
-    by_test : (Cause s → ⊥) → (Small (pushed xs s) → ⊥) → (g : Bool) → good_feed s ≡ g → feed_answer xs s ≡ too_much
-    by_test n m true e = (nine-exactly xs s).when e m
-    by_test n m false e = absurd (n (cause-of s e))

@@ -1,13 +1,13 @@
 -- Which submissions are counted, when each answer is given, and that the totals after any feeds are the sums over exactly the counted ones.
 -- Assumes nothing.
-use Rattle.std.specs.Prelude.{◌≡◌, refl, Bool, true, false, List, [], ◌∷◌, ◌++◌, ◌<◌, eqb}
-use Rattle.std.proofs.Common.{sym, ap, ◌∙◌, arith, eqb-true}
+use Rattle.std.specs.Prelude.{◌≡◌, refl, Bool, true, false, List, [], ◌∷◌, ◌++◌}
+use Rattle.std.proofs.Common.{sym, ap, ◌∙◌}
 use Rattle.machine.specs.Machine.{pick}
 use Rattle.rules.specs.Numbers.{done}
 use Rattle.rules.specs.Lists.{pushed}
 use Rattle.rules.specs.Month.{Finished, Totals, totals, below, joined, merged, fed, fed_all, told_all, good_feed, feed_answer, with_fed, counted_after, answers_after, counted, answers}
 use Rattle.rules.specs.Numbers.{too_much, bad_feed}
-use Rattle.promises_of_months.specs.Sums.{totals-append, below-nothing, largest-below}
+use Rattle.promises_of_months.specs.Sums.{totals-append}
 
 -- ---- one feed, on any totals
 
@@ -59,20 +59,6 @@ module _ (xs : List Finished) (s : Finished) where
     -- "counts nothing"
     pub leaves : (feed_answer xs s ≡ done → ⊥) → with_fed xs s ≡ xs
 
-  pub exactly : Exactly
-  exactly = by_test (good_feed s) (below (totals (pushed xs s))) refl refl
-    where
-      by_test : (g b : Bool) → good_feed s ≡ g → below (totals (pushed xs s)) ≡ b → Exactly
-      by_test false b p q =
-          let e : feed_answer xs s ≡ 10 = ten-when p in
-          record { ten = λ r. p; nine = λ r. absurd (omega arith); counts = λ r. absurd (omega arith); leaves = λ r. rw e }
-      by_test true false p q =
-          let e : feed_answer xs s ≡ 9 = nine-when p q in
-          record { ten = λ r. absurd (omega arith); nine = λ r. (p, q); counts = λ r. absurd (omega arith); leaves = λ r. rw e }
-      by_test true true p q =
-          let e : feed_answer xs s ≡ 0 = counts-when p q in
-          record { ten = λ r. absurd (omega arith); nine = λ r. absurd (omega arith); counts = λ r. (p, q); leaves = λ r. absurd (r e) }
-
   -- fed to totals alone: the same answer, and the totals of what is counted then
   pub fed-totals : fed (totals xs) s ≡ record { answer = feed_answer xs s; totals = totals (with_fed xs s) }
   fed-totals = by_test (good_feed s) (below (totals (pushed xs s))) refl refl
@@ -99,31 +85,12 @@ told-all-answers xs [] = refl
 told-all-answers xs (s ∷ ss) =
     ap (λ f. f.answer ∷ told_all f.totals ss) (fed-totals xs s) ∙ ap (λ rs. feed_answer xs s ∷ rs) (told-all-answers (with_fed xs s) ss)
 
--- "Totals stay below 2^64"
-with-fed-below : (xs : List Finished) (s : Finished) → below (totals xs) ≡ true → below (totals (with_fed xs s)) ≡ true
-with-fed-below xs s h = by_test (eqb (feed_answer xs s) done) refl
-  where
-    by_test : (t : Bool) → eqb (feed_answer xs s) done ≡ t → below (totals (with_fed xs s)) ≡ true
-    by_test true e = rw e ((exactly xs s).counts (eqb-true (feed_answer xs s) done e)).1
-    by_test false e = rw e h
-
-pub counted-below : (xs ss : List Finished) → below (totals xs) ≡ true → below (totals (counted_after xs ss)) ≡ true
-unfolding counted_after
-counted-below xs [] h = h
-counted-below xs (s ∷ ss) h = counted-below (with_fed xs s) ss (with-fed-below xs s h)
-
 module _ (ss : List Finished) where
   pub month-totals : fed_all (totals []) ss ≡ totals (counted ss)
   month-totals = fed-all-totals [] ss
 
   pub month-answers : told_all (totals []) ss ≡ answers ss
   month-answers = told-all-answers [] ss
-
-  pub month-below : below (totals (counted ss)) ≡ true
-  month-below = counted-below [] ss below-nothing
-
-  pub month-largest : (totals (counted ss)).largest < 18446744073709551616
-  month-largest = largest-below (counted ss) month-below
 
 -- "whatever split they were fed in"
 pub counted-split : (xs ss ts : List Finished) → counted_after xs (ss ++ ts) ≡ counted_after (counted_after xs ss) ts

@@ -1,15 +1,14 @@
 -- The totals by their names: each is below 2^64, and each word is the sum that its name says. Assumes nothing.
-use Rattle.std.specs.Prelude.{◌≡◌, refl, Bool, true, false, List, [], ◌∷◌, map, ℕ, suc, ◌-◌, ◌≤◌, ◌<◌, length, get_or}
+use Rattle.std.specs.Prelude.{◌≡◌, refl, true, List, [], ◌∷◌, map, ℕ, suc, ◌-◌, ◌≤◌, ◌<◌, length, get_or}
 use Rattle.std.proofs.Common.{sym, ap, ◌∙◌, arith, ltb-true, lt-ltb, get_or-take}
 use Rattle.rules.specs.Numbers.{reads, writes, done}
 use Rattle.rules.specs.Lists.{pushed}
-use Rattle.rules.specs.Month.{Finished, sum, greatest, every, small, below, totals, counts, ended_with, bytes_in, largest_write, counted, good_feed, feed_answer}
+use Rattle.rules.specs.Month.{Finished, sum, greatest, every, small, below, totals, counts, ended_with, bytes_in, largest_write, good_feed, feed_answer}
 use Rattle.rules.specs.Numbers.{too_much}
 use Rattle.month_totals.specs.Views.{totals_in}
 use Rattle.month_totals.specs.Summing.{every-at}
 use Rattle.month_feed.specs.Judging.{AllFrom, between}
 use Rattle.promises_of_months.specs.Sums.{largest-below}
-use Rattle.promises_of_months.specs.Counted.{month-below, exactly, nine-when}
 
 -- the 26 words, where these submissions were counted
 pub record Words (l : List ℕ) (xs : List Finished) : Type 0 where
@@ -65,10 +64,6 @@ all_small xs h =
     each : AllFrom (λ e. sum (ended_with e) xs < 18446744073709551616) 21 10
     each = (at 1 (omega arith), (at 2 (omega arith), (at 3 (omega arith), (at 4 (omega arith), (at 5 (omega arith), (at 6 (omega arith), (at 7 (omega arith), (at 8 (omega arith), (at 9 (omega arith), (at 10 (omega arith), (at 11 (omega arith), (at 12 (omega arith), (at 13 (omega arith), (at 14 (omega arith), (at 15 (omega arith), (at 16 (omega arith), (at 17 (omega arith), (at 18 (omega arith), (at 19 (omega arith), (at 20 (omega arith), (at 21 (omega arith), omega arith)))))))))))))))))))))
 
--- of any feeds
-pub month-small : (ss : List Finished) → Small (counted ss)
-month-small ss = all_small (counted ss) (month-below ss)
-
 -- and the other way round
 every-by : (l : List ℕ) → ((i : ℕ) → i < length l → get_or l i 0 < 18446744073709551616) → every small l ≡ true
 unfolding every
@@ -86,14 +81,3 @@ small-below xs m = every-by (map (λ c. sum c xs) counts) (λ i p. between (λ i
 pub record Nine (xs : List Finished) (s : Finished) : Type 0 where
   pub only : feed_answer xs s ≡ too_much → (good_feed s ≡ true) × (Small (pushed xs s) → ⊥)
   pub when : good_feed s ≡ true → (Small (pushed xs s) → ⊥) → feed_answer xs s ≡ too_much
-
-pub nine-exactly : (xs : List Finished) (s : Finished) → Nine xs s
-nine-exactly xs s =
-    record {
-      only = λ h. (((exactly xs s).nine h).0, λ m. absurd (let z : ◌≡◌ {A = Bool} false true = sym ((exactly xs s).nine h).1 ∙ small-below (pushed xs s) m in let y : ◌≡◌ {A = ℕ} 0 1 = cc in omega arith));
-      when = λ g m. by_test g m (below (totals (pushed xs s))) refl;
-    }
-  where
-    by_test : good_feed s ≡ true → (Small (pushed xs s) → ⊥) → (b : Bool) → below (totals (pushed xs s)) ≡ b → feed_answer xs s ≡ too_much
-    by_test g m true e = absurd (m (all_small (pushed xs s) e))
-    by_test g m false e = nine-when xs s g e

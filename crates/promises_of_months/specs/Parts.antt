@@ -9,8 +9,8 @@ use Rattle.rules.specs.Numbers.{done}
 use Rattle.rules.specs.Lists.{pushed}
 use Rattle.rules.specs.Month.{Finished, Totals, every, totals, below, joined, merged, good_feed, counted_after, answers_after, counted, answers}
 use Rattle.rules.specs.Numbers.{too_much}
-use Rattle.promises_of_months.specs.Sums.{both_true, totals-append, below-front, below-back}
-use Rattle.promises_of_months.specs.Counted.{ten-when, nine-when, counts-when, month-below, answers-split}
+use Rattle.promises_of_months.specs.Sums.{both_true, totals-append, below-front}
+use Rattle.promises_of_months.specs.Counted.{ten-when, nine-when, counts-when}
 
 -- the submissions that are not refused with 10
 unfoldable pub good_ones : List Finished → List Finished
@@ -34,7 +34,7 @@ module _ (s : Finished) (ss : List Finished) where
   with_append ts ih true p = rw (p, ih)
   with_append ts ih false p = rw (p, ih)
 
-good-append : (ss ts : List Finished) → good_ones (ss ++ ts) ≡ good_ones ss ++ good_ones ts
+pub good-append : (ss ts : List Finished) → good_ones (ss ++ ts) ≡ good_ones ss ++ good_ones ts
 unfolding good_ones
 good-append [] ts = refl
 good-append (s ∷ ss) ts = with_append s ss ts (good-append ss ts) (good_feed s) refl
@@ -110,18 +110,11 @@ unfolding merged
 merged-totals xs ys = rw (totals-append xs ys)
 
 module _ (ss ts : List Finished) where
-  together : counted ss ≡ good_ones ss → counted ts ≡ good_ones ts → below (totals (good_ones ss ++ good_ones ts)) ≡ true
+  pub together : counted ss ≡ good_ones ss → counted ts ≡ good_ones ts → below (totals (good_ones ss ++ good_ones ts)) ≡ true
       → merged (totals (counted ss)) (totals (counted ts)) ≡ record { answer = done; totals = totals (counted (ss ++ ts)) }
   together p q h =
       let all : counted (ss ++ ts) ≡ good_ones ss ++ good_ones ts = good-counted [] (ss ++ ts) (ap (λ g. below (totals g)) (good-append ss ts) ∙ h) ∙ good-append ss ts in
       merged-totals (counted ss) (counted ts) ∙ rw (p, q, all, h)
-
-  -- the totals of parts, merged, are the totals of all: where no 9 arises in feeding all
-  pub parts-of-all : no_nine (answers (ss ++ ts)) ≡ true → merged (totals (counted ss)) (totals (counted ts)) ≡ record { answer = done; totals = totals (counted (ss ++ ts)) }
-  parts-of-all h =
-      let all : counted (ss ++ ts) ≡ good_ones ss ++ good_ones ts = no-nine-counted [] (ss ++ ts) h ∙ good-append ss ts in
-      let small : below (totals (good_ones ss ++ good_ones ts)) ≡ true = ap (λ g. below (totals g)) (sym all) ∙ month-below (ss ++ ts) in
-      together (good-counted [] ss (below-front (good_ones ss) (good_ones ts) small)) (good-counted [] ts (below-back (good_ones ss) (good_ones ts) small)) small
 
   -- or in feeding the parts and in merging them
   pub parts-apart : no_nine (answers ss) ≡ true → no_nine (answers ts) ≡ true → (merged (totals (counted ss)) (totals (counted ts))).answer ≡ done
@@ -143,18 +136,9 @@ unfoldable pub merged_all : Totals → List (List Finished) → Totals
 merged_all t [] = t
 merged_all t (p ∷ ps) = merged_all (merged t (totals (counted p))).totals ps
 
-no-nine-front : (rs qs : List ℕ) → no_nine (rs ++ qs) ≡ true → no_nine rs ≡ true
+pub no-nine-front : (rs qs : List ℕ) → no_nine (rs ++ qs) ≡ true → no_nine rs ≡ true
 unfolding every
 no-nine-front [] qs h = refl
 no-nine-front (r ∷ rs) qs h =
     let b : (not (eqb r 9) ≡ true) × (no_nine (rs ++ qs) ≡ true) = both_true (not (eqb r 9)) (no_nine (rs ++ qs)) h in
     rw b.0 (no-nine-front rs qs b.1)
-
-pub parts-many : (ss : List Finished) (ps : List (List Finished)) → no_nine (answers (ss ++ all_of ps)) ≡ true → merged_all (totals (counted ss)) ps ≡ totals (counted (ss ++ all_of ps))
-unfolding all_of merged_all
-parts-many ss [] h = ap (λ xs. totals (counted xs)) (sym (append-nil ss))
-parts-many ss (p ∷ ps) h =
-    let same : (ss ++ p) ++ all_of ps ≡ ss ++ (p ++ all_of ps) = append_assoc ss p (all_of ps) in
-    let whole : no_nine (answers ((ss ++ p) ++ all_of ps)) ≡ true = ap (λ xs. no_nine (answers xs)) same ∙ h in
-    let front : no_nine (answers (ss ++ p)) ≡ true = no-nine-front (answers (ss ++ p)) _ (sym (ap no_nine (answers-split [] (ss ++ p) (all_of ps))) ∙ whole) in
-    ap (λ f. merged_all f.totals ps) (parts-of-all ss p front) ∙ (parts-many (ss ++ p) ps whole ∙ ap (λ xs. totals (counted xs)) same)

@@ -12,9 +12,9 @@ use Rattle.rules.specs.Lists.Found.{none, found}
 use Rattle.rules.specs.Judging.{refusal}
 use Rattle.rules.specs.Names.{token_of, shareable, with_lowest, under, names_left, tokens_left, names_with, tokens_with, of_another, is_new, with_token, without_token}
 use Rattle.rules.specs.Shapes.{good_shape, good_backed, packed_size, tight}
-use Rattle.rules.specs.StatePackets.{bad_viewport, bad_clear, bad_sides, clip_of}
+use Rattle.rules.specs.StatePackets.{bad_sides, clip_of}
 use Rattle.rules.specs.Table.{matching}
-use Rattle.rules.specs.Packets.{Holdings, Outcome, accepted, refuse, full, live, is_live, on_live, on_kind, on_buffer, on_entry, backed, range_of, recorded, hand_out, stored, create_hosted, create_backed, create, resource_of, on_buffer_packet, on_texture_packet, on_destroy_packet, on_dirty_packet, write_back, on_copy_packet, live_texture, on_texture, on_target_packet, on_viewport_packet, on_clear_packet, on_scissor_packet, without, on_export_packet, bound, on_bound, on_import_packet, on_release_packet, apply, Progress, Passed, passed, target_after, tokens_after, pass}
+use Rattle.rules.specs.Packets.{Holdings, Outcome, accepted, refuse, full, live, is_live, on_live, on_kind, on_buffer, on_entry, backed, range_of, recorded, hand_out, stored, create_hosted, create_backed, create, resource_of, on_destroy_packet, on_dirty_packet, write_back, on_copy_packet, live_texture, on_texture, on_target_packet, on_scissor_packet, without, on_export_packet, bound, on_bound, on_import_packet, on_release_packet, Progress, Passed, passed}
 use Rattle.rules.specs.declared.Entry.{Entry}
 use Rattle.rules.specs.declared.Resource.{Resource}
 use Rattle.rules.specs.declared.Shape.{Shape}
@@ -32,7 +32,6 @@ use Rattle.rules.specs.declared.Verdict.TheVariants.{Fine, Broken}
 use Rattle.rules.specs.declared.Kind.{Kind}
 use Rattle.rules.specs.declared.Kind.TheVariants.{Buffer as BufferKind, Texture as TextureKind}
 use Rattle.rules.specs.declared.Packet.{Packet}
-use Rattle.rules.specs.declared.Packet.TheVariants.{Buffer, Texture, Destroy, Dirty, Copy, Target, Viewport, Scissor, Clear, Export, Import, Release, NotANumber, Unknown}
 use Rattle.rule_laws.specs.Fine.{both_left, both_right}
 use Rattle.rule_laws.specs.Created.{BytesOf, ShapeOf, AsCreated}
 
@@ -322,27 +321,5 @@ module _ (P : Passed → Type 0) (es : List Entry) (h : Progress)
     (imports : (k token : ℕ) (r : Resource) → Imported h k token r → P (imported h k r))
     (releases : (token : ℕ) (r : Resource) → bound token h.tokens h.holdings.resources ≡ found r → P (tokens_now h (without_token token h.tokens))) where
   -- the same of what its rules come to
-  abbrev Of : Packet → Outcome → Type 0
+  abbrev pub Of : Packet → Outcome → Type 0
   Of p o = P (passed p h o)
-
-  pub pass-or : (p : Packet) → P (pass es h p)
-  unfolding pass apply target_after tokens_after on_buffer_packet on_texture_packet on_viewport_packet on_clear_packet
-  pass-or (Buffer c) =
-      create-or (Of (Buffer c)) h.holdings refuses es stores backs-up _ _ refl (buffer-created c.handle c.size c.backing c.offset)
-  pass-or (Texture c) =
-      create-or (Of (Texture c)) h.holdings refuses es stores backs-up _ _ refl (texture-created c.handle c.shape c.pitch c.backing c.offset)
-  pass-or (Destroy c) =
-      destroy-or (Of (Destroy c)) h.holdings refuses c (λ r e. rw e (removes c.handle r e))
-  pass-or (Dirty c) = dirty-or (Of (Dirty c)) h.holdings refuses es keeps hands c
-  pass-or (Copy c) = copy-or (Of (Copy c)) h.holdings refuses es keeps hands c
-  pass-or (Target c) = target-or (Of (Target c)) h.holdings refuses c (targets c.handle)
-  pass-or (Viewport v) = refuse-or (Of (Viewport v)) h.holdings refuses bad_state (bad_viewport v) _ (λ _. keeps)
-  pass-or (Scissor c) = scissor-or (Of (Scissor c)) h.holdings refuses h.target c (λ s k. cuts s c k)
-  pass-or (Clear c) = refuse-or (Of (Clear c)) h.holdings refuses bad_state (bad_clear c) _ (λ _. keeps)
-  pass-or (Export c) = export-or (Of (Export c)) h refuses c (λ r e. rw e.named (exports c.handle c.token r e))
-  pass-or (Import c) =
-      import-or (Of (Import c)) h.holdings refuses h.tokens c (λ r some unused e room.
-      rw e (imports c.handle c.token r (record { some = some; unused = unused; bound-to = e; room = room })))
-  pass-or (Release c) = release-or (Of (Release c)) h.holdings refuses h.tokens c (λ r e. releases c.token r e)
-  pass-or NotANumber = refuses (refusal bad_state)
-  pass-or Unknown = keeps

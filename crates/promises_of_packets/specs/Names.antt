@@ -1,23 +1,23 @@
 -- Names of resources and tokens (02, wish 5): what is found by a name once a resource's lowest name has changed, which is the lowest of the names
 -- that are left, and that every packet keeps names and tokens sound. Assumes nothing.
-use Rattle.std.specs.Prelude.{◌≡◌, Bool, ◌⊎◌, ltb, get_or, take}
+use Rattle.std.specs.Prelude.{◌≡◌, Bool, ◌⊎◌, ltb, get_or}
 use Rattle.std.proofs.Math.Path.{refl, sym, ap}
-use Rattle.std.proofs.Common.{subst, ◌∙◌, inl, inr, ⊎_elim, eq-eqb, ne_eqb, eqb-true, ltb-true, ltb-false}
+use Rattle.std.proofs.Common.{◌∙◌, inl, inr, ⊎_elim, eq-eqb, ne_eqb, ltb-true, ltb-false}
 use Rattle.std.proofs.Math.Bool.{true, false}
-use mathlib.Core.List.{List, [], ◌∷◌, ◌++◌}
-use Prim.Native.Nat.{ℕ, zero, suc, ◌+◌, ◌-◌, ◌≤◌, ◌<◌}
+use mathlib.Core.List.{List, [], ◌∷◌}
+use Prim.Native.Nat.{ℕ, zero, suc, ◌≤◌, ◌<◌}
 use native.Mathlib.Omega.{arith}
 use Rattle.std.proofs.Math.Dec.{eqb}
-use Rattle.std.proofs.Math.ListN.{length, drop}
+use Rattle.std.proofs.Math.ListN.{length}
 use Rattle.machine.specs.Machine.{pick}
 use Rattle.rules.specs.Numbers.{no_name}
-use Rattle.rules.specs.Lists.{Found, lookup, index_of, over}
+use Rattle.rules.specs.Lists.{Found, lookup, index_of}
 use Rattle.rules.specs.Lists.Found.{none, found}
-use Rattle.rules.specs.Names.{token_of, renamed, with_lowest, rename, rebind, lower_of, lowest_left, without_token}
+use Rattle.rules.specs.Names.{token_of, renamed, with_lowest, rename, rebind, lower_of, lowest_left}
 use Rattle.rules.specs.Packets.{handle_of}
 use Rattle.rules.specs.declared.Resource.{Resource}
 use Rattle.rules.specs.declared.Token.{Token}
-use Rattle.rows.specs.Keys.{same_or_not, Once, lookup-nil, lookup-here, lookup-later, index-here, index-later, lookup-none, index-bound}
+use Rattle.rows.specs.Keys.{same_or_not, Once, lookup-nil, lookup-here, lookup-later, lookup-none, index-bound}
 use Rattle.words.specs.Over.{below_or_not}
 
 -- ---- what is found
@@ -256,104 +256,6 @@ module _ (token : ℕ) where
   abbrev pub spent : Token
   spent = record { name = no_name; token = token }
 
-  unfoldable spend : List Token → List Token
+  unfoldable pub spend : List Token → List Token
   spend [] = []
   spend (t ∷ ts) = pick (eqb t.token token) (spent ∷ ts) (t ∷ spend ts)
-
-  nothing-spent : spend [] ≡ []
-  unfolding spend
-  nothing-spent = refl
-
-  spend-here : (t : Token) (ts : List Token) → t.token ≡ token → spend (t ∷ ts) ≡ spent ∷ ts
-  unfolding spend
-  spend-here t ts e = rw (eq-eqb t.token token e)
-
-  spend-later : (t : Token) (ts : List Token) → (t.token ≡ token → ⊥) → spend (t ∷ ts) ≡ t ∷ spend ts
-  unfolding spend
-  spend-later t ts n = rw (ne_eqb t.token token n)
-
-  over-here : (t : Token) (ts : List Token) → over 0 (spent ∷ []) (t ∷ ts) ≡ spent ∷ ts
-  unfolding over
-  over-here t ts = refl
-
-  over-later : (i : ℕ) (t : Token) (ts : List Token) → over (suc i) (spent ∷ []) (t ∷ ts) ≡ t ∷ over i (spent ∷ []) ts
-  unfolding over
-  over-later i t ts = let e : suc i + 1 ≡ suc (i + 1) = omega arith in ap (λ n. t ∷ (take i ts ++ (spent ∷ drop n (t ∷ ts)))) e
-
-  without-is-spend : (ts : List Token) (x : Token) → lookup token_of token ts ≡ found x → without_token token ts ≡ spend ts
-  without-is-spend [] x e = absurd (none-not-found x (sym (lookup-nil token_of token) ∙ e))
-  without-is-spend (t ∷ ts) x e =
-      ⊎_elim
-      (λ h. ap (λ i. over i (spent ∷ []) (t ∷ ts)) (index-here token_of token t ts h) ∙ (over-here t ts ∙ sym (spend-here t ts h)))
-      (λ h. ap (λ i. over i (spent ∷ []) (t ∷ ts)) (index-later token_of token t ts h)
-      ∙ (over-later (index_of token_of token ts) t ts
-      ∙ (ap (λ l. t ∷ l) (without-is-spend ts x (sym (lookup-later token_of token t ts h) ∙ e)) ∙ sym (spend-later t ts h))))
-      (same_or_not t.token token)
-
-  length-spend : (ts : List Token) → length (spend ts) ≡ length ts
-  unfolding spend
-  length-spend [] = refl
-  length-spend (t ∷ ts) = by_test (eqb t.token token) (length-spend ts)
-    where
-      by_test : (b : Bool) → length (spend ts) ≡ length ts → length (pick b (spent ∷ ts) (t ∷ spend ts)) ≡ length (t ∷ ts)
-      by_test true later = refl
-      by_test false later = rw later
-
-  spend-key : (ts : List Token) (d : Token) (i : ℕ) → (get_or (spend ts) i d).token ≡ (get_or ts i d).token
-  unfolding spend
-  spend-key [] d i = refl
-  spend-key (t ∷ ts) d zero = by_test (eqb t.token token) refl
-    where
-      by_test : (b : Bool) → eqb t.token token ≡ b → (get_or (pick b (spent ∷ ts) (t ∷ spend ts)) 0 d).token ≡ t.token
-      by_test true h = sym (eqb-true t.token token h)
-      by_test false h = refl
-  spend-key (t ∷ ts) d (suc i) = by_test (eqb t.token token) (spend-key ts d i)
-    where
-      by_test : (b : Bool) → (get_or (spend ts) i d).token ≡ (get_or ts i d).token → (get_or (pick b (spent ∷ ts) (t ∷ spend ts)) (suc i) d).token ≡ (get_or ts i d).token
-      by_test true later = refl
-      by_test false later = later
-
-  once-spend : (ts : List Token) → Once token_of ts → Once token_of (spend ts)
-  once-spend ts o =
-      record {
-        same = λ d i j p q e. o.same d i j (rw (length-spend ts) at p) (rw (length-spend ts) at q) (sym (spend-key ts d i) ∙ (e ∙ spend-key ts d j));
-      }
-
-  lookup-spend-same : (ts : List Token) (x : Token) → lookup token_of token ts ≡ found x → lookup token_of token (spend ts) ≡ found spent
-  lookup-spend-same [] x e = absurd (none-not-found x (sym (lookup-nil token_of token) ∙ e))
-  lookup-spend-same (t ∷ ts) x e =
-      ⊎_elim
-      (λ h. ap (lookup token_of token) (spend-here t ts h) ∙ lookup-here token_of token spent ts refl)
-      (λ h. ap (lookup token_of token) (spend-later t ts h)
-      ∙ (lookup-later token_of token t (spend ts) h ∙ lookup-spend-same ts x (sym (lookup-later token_of token t ts h) ∙ e)))
-      (same_or_not t.token token)
-
-  lookup-spend-other : (j : ℕ) → (j ≡ token → ⊥) → (ts : List Token) → lookup token_of j (spend ts) ≡ lookup token_of j ts
-  lookup-spend-other j n [] = ap (lookup token_of j) nothing-spent
-  lookup-spend-other j n (t ∷ ts) =
-      ⊎_elim
-      (λ h. ap (lookup token_of j) (spend-here t ts h)
-      ∙ (lookup-later token_of j spent ts (λ u. n (sym u)) ∙ sym (lookup-later token_of j t ts (λ u. n (sym u ∙ h)))))
-      (λ h. ap (lookup token_of j) (spend-later t ts h) ∙ by_key (lookup-spend-other j n ts))
-      (same_or_not t.token token)
-    where
-      by_key : lookup token_of j (spend ts) ≡ lookup token_of j ts → lookup token_of j (t ∷ spend ts) ≡ lookup token_of j (t ∷ ts)
-      by_key later =
-          ⊎_elim
-          (λ h. lookup-here token_of j t (spend ts) h ∙ sym (lookup-here token_of j t ts h))
-          (λ h. lookup-later token_of j t (spend ts) h ∙ (later ∙ sym (lookup-later token_of j t ts h)))
-          (same_or_not t.token j)
-
-  module _ (ts : List Token) (x : Token) (e : lookup token_of token ts ≡ found x) where
-    -- it is spent, every other is as it was, and none is gone
-    pub lookup-released : lookup token_of token (without_token token ts) ≡ found spent
-    lookup-released = ap (lookup token_of token) (without-is-spend ts x e) ∙ lookup-spend-same ts x e
-
-    pub lookup-unreleased : (j : ℕ) → (j ≡ token → ⊥) → lookup token_of j (without_token token ts) ≡ lookup token_of j ts
-    lookup-unreleased j n = ap (lookup token_of j) (without-is-spend ts x e) ∙ lookup-spend-other j n ts
-
-    pub length-released : length (without_token token ts) ≡ length ts
-    length-released = ap length (without-is-spend ts x e) ∙ length-spend ts
-
-    pub once-released : Once token_of ts → Once token_of (without_token token ts)
-    once-released o = subst (Once token_of) (sym (without-is-spend ts x e)) (once-spend ts o)

@@ -6,12 +6,12 @@ use Rattle.std.proofs.Common.{sym, ap, ◌∙◌, inl, inr, ⊎_elim, arith}
 use Rattle.machine.specs.Machine.{pick}
 use Rattle.rules.specs.Lists.{lookup, index_of, pushed, removed}
 use Rattle.rules.specs.Lists.Found.{none, found}
-use Rattle.rules.specs.Names.{token_of, rename, rebind, lowest_left, is_new, with_token, without_token}
+use Rattle.rules.specs.Names.{token_of, rename, rebind, lowest_left, is_new, with_token}
 use Rattle.rules.specs.Packets.{handle_of}
 use Rattle.rules.specs.declared.Resource.{Resource}
 use Rattle.rules.specs.declared.Token.{Token}
 use Rattle.rows.specs.Keys.{same_or_not, Once, lookup-here, lookup-later, lookup_absent, lookup-once, once-removed, length_removed, lookup-removed-same, lookup-removed-other}
-use Rattle.promises_of_packets.specs.Names.{none-not-found, found-place, in_found, moved, rebound, lookup-rename, lookup-rebind, left-least, Left, left_member, lookup-released, lookup-unreleased}
+use Rattle.promises_of_packets.specs.Names.{none-not-found, found-place, in_found, moved, rebound, lookup-rename, lookup-rebind, left-least, Left, left_member}
 use Rattle.promises_of_saving.specs.Those.{or_else, found-in-both}
 
 module _ {A : Type 0} (key : A → ℕ) where
@@ -115,12 +115,3 @@ same-with-token token low ts us same = rw (same token) (by_test (is_new (lookup 
     by_test : (b : Bool) → SameMap token_of (pick b (pushed ts (record { name = low; token = token })) ts) (pick b (pushed us (record { name = low; token = token })) us)
     by_test true = same-pushed token_of ts us (record { name = low; token = token }) same
     by_test false = same
-
-pub same-without-token : (token : ℕ) (ts us : List Token) (t : Token) → lookup token_of token us ≡ found t → SameMap token_of ts us
-    → SameMap token_of (without_token token ts) (without_token token us)
-same-without-token token ts us t e same j =
-    ⊎_elim
-    (λ s. ap (λ n. lookup token_of n (without_token token ts)) s
-    ∙ (lookup-released token ts t (same token ∙ e) ∙ (sym (lookup-released token us t e) ∙ ap (λ n. lookup token_of n (without_token token us)) (sym s))))
-    (λ n. lookup-unreleased token ts t (same token ∙ e) j n ∙ (same j ∙ sym (lookup-unreleased token us t e j n)))
-    (same_or_not j token)

@@ -1,18 +1,17 @@
 -- One packet, put to two submissions that hold the same: it comes to the same, and they hold the same after it. Assumes nothing.
-use Rattle.std.specs.Prelude.{◌≡◌, Bool, true, false, not, ◌&&◌, ◌||◌, List, ℕ, ◌+◌, ◌%◌, length, take}
+use Rattle.std.specs.Prelude.{◌≡◌, Bool, true, false, not, ◌&&◌, ◌||◌, List, ℕ, ◌+◌, ◌%◌, length}
 use Rattle.std.proofs.Math.Path.{refl, ap}
-use Rattle.std.proofs.Common.{sym, ◌∙◌}
+use Rattle.std.proofs.Common.{◌∙◌}
 use Rattle.std.proofs.Math.Dec.{ltb, leb, eqb}
 use Rattle.machine.specs.Machine.{pick}
 use Rattle.rules.specs.Numbers.{bad_handle, too_many, bad_shape, not_in_table, past_entry, read_only, past_resource, host_backed, bad_copy, bad_token, unbound_token, bad_state, most, most_tokens, backs, reads, writes}
-use Rattle.rules.specs.Lists.{Found, lookup, index_of}
+use Rattle.rules.specs.Lists.{Found, lookup}
 use Rattle.rules.specs.Lists.Found.{none, found}
 use Rattle.rules.specs.Judging.{refusal}
-use Rattle.rules.specs.Names.{token_of, shareable, under, rename, rebind, lower, lowest_left, names_left, tokens_left, names_with, of_another, is_new}
-use Rattle.rules.specs.StatePackets.{bad_viewport, bad_clear, bad_sides, clip_of}
+use Rattle.rules.specs.Names.{token_of, shareable, names_left, names_with, of_another, is_new}
+use Rattle.rules.specs.StatePackets.{bad_sides, clip_of}
 use Rattle.rules.specs.Table.{matching}
-use Rattle.rules.specs.Stream.{frame_of, packet_of}
-use Rattle.rules.specs.Packets.{Holdings, Outcome, accepted, refuse, full, handle_of, live, is_live, on_live, on_kind, on_buffer, on_entry, backed, range_of, recorded, hand_out, stored, create_hosted, create_backed, create, on_buffer_packet, on_texture_packet, without, on_destroy_packet, on_dirty_packet, write_back, on_copy_packet, live_texture, on_texture, on_target_packet, on_viewport_packet, on_clear_packet, on_scissor_packet, on_export_packet, bound_in, bound, on_bound, on_import_packet, on_release_packet, apply, Progress, target_after, tokens_after, Passed, passed, pass, pass_frame, take_packet}
+use Rattle.rules.specs.Packets.{Holdings, Outcome, accepted, refuse, full, handle_of, live, is_live, on_live, on_kind, on_buffer, on_entry, backed, range_of, recorded, hand_out, stored, create_hosted, create_backed, create, without, on_destroy_packet, on_dirty_packet, write_back, on_copy_packet, live_texture, on_texture, on_target_packet, on_scissor_packet, on_export_packet, bound_in, bound, on_bound, on_import_packet, on_release_packet, Progress, Passed, passed}
 use Rattle.rules.specs.declared.Entry.{Entry}
 use Rattle.rules.specs.declared.Resource.{Resource}
 use Rattle.rules.specs.declared.Token.{Token}
@@ -27,18 +26,12 @@ use Rattle.rules.specs.declared.ExportSurface.{ExportSurface}
 use Rattle.rules.specs.declared.ImportSurface.{ImportSurface}
 use Rattle.rules.specs.declared.ReleaseToken.{ReleaseToken}
 use Rattle.rules.specs.declared.Refusal.{Refusal}
-use Rattle.rules.specs.declared.Frame.{Frame}
-use Rattle.rules.specs.declared.Frame.TheVariants.{Whole, Misframed}
-use Rattle.rules.specs.declared.Verdict.TheVariants.{Fine, Broken}
+use Rattle.rules.specs.declared.Verdict.TheVariants.{Broken}
 use Rattle.rules.specs.declared.Kind.{Kind}
 use Rattle.rules.specs.declared.Kind.TheVariants.{Buffer as BufferKind, Texture as TextureKind}
 use Rattle.rules.specs.declared.Packet.{Packet}
-use Rattle.rules.specs.declared.Packet.TheVariants.{Buffer, Texture, Destroy, Dirty, Copy, Target, Viewport, Scissor, Clear, Export, Import, Release, NotANumber, Unknown}
-use Rattle.rows.specs.Keys.{Once, once-removed, lookup-removed-other}
-use Rattle.promises_of_packets.specs.Names.{none-not-found, found-place}
-use Rattle.promises_of_packets.specs.SoundNames.{bound-is}
 use Rattle.promises_of_packets.specs.Held.{SoundProgress, texture-same}
-use Rattle.promises_of_same_desks.specs.Maps.{SameMap, same_length, same-pushed, same-removed, same-renamed, same-lowest, same-rebound, same-with-token, same-without-token}
+use Rattle.promises_of_same_desks.specs.Maps.{SameMap}
 
 -- two submissions hold the same: every handle means the same resource or none, every token the same or none, the records are the same in the same
 -- order, and so is the target
@@ -57,7 +50,7 @@ pub record SamePassed (o q : Passed) : Type 0 where
 
 module _ (P : Outcome → Outcome → Type 0) (g h : Holdings)
     (refuses : (r : Refusal) → P (record { verdict = Broken r; held = g }) (record { verdict = Broken r; held = h })) where
-  refuse-both : (n : ℕ) (s t : Bool) (x y : Outcome) → s ≡ t → P x y → P (refuse n s g x) (refuse n t h y)
+  pub refuse-both : (n : ℕ) (s t : Bool) (x y : Outcome) → s ≡ t → P x y → P (refuse n s g x) (refuse n t h y)
   refuse-both n s true x y e k = rw e (refuses (refusal n))
   refuse-both n s false x y e k = rw e k
 
@@ -97,7 +90,7 @@ module _ (P : Outcome → Outcome → Type 0) (g h : Holdings)
 
     module _ (es : List Entry) (few : length g.resources ≡ length h.resources) (stores : (r : Resource) → P (accepted (stored r g)) (accepted (stored r h)))
         (backs-up : (r : Resource) (c : Record) → P (accepted (recorded c (stored r g))) (accepted (recorded c (stored r h)))) where
-      create-both : (good : Bool) (r : Resource) → P (create es g good r) (create es h good r)
+      pub create-both : (good : Bool) (r : Resource) → P (create es g good r) (create es h good r)
       unfolding create create_hosted create_backed
       create-both good r =
           refuse-both bad_handle _ _ _ _ (ap (λ f. eqb r.handle 0 || is_live f) (same r.handle))
@@ -115,7 +108,7 @@ module _ (P : Outcome → Outcome → Type 0) (g h : Holdings)
       unfolding hand_out
       handed-both c = pick-both (eqb c.length 0) _ _ _ _ keeps (refuse-both too_many (full g.records) (full h.records) _ _ full-records (hands c))
 
-      dirty-both : (c : DirtyRange) → P (on_dirty_packet es g c) (on_dirty_packet es h c)
+      pub dirty-both : (c : DirtyRange) → P (on_dirty_packet es g c) (on_dirty_packet es h c)
       unfolding on_dirty_packet
       dirty-both c =
           live_both (live c.handle g) (live c.handle h) _ _ (same c.handle) (λ r _.
@@ -125,7 +118,7 @@ module _ (P : Outcome → Outcome → Type 0) (g h : Holdings)
           refuse-both past_entry (ltb e.size (r.offset + (c.offset + c.size))) _ _ _ refl
           (handed-both (range_of reads r e c.offset c.size))))))
 
-      copy-both : (c : CopyBuffer) → P (on_copy_packet es g c) (on_copy_packet es h c)
+      pub copy-both : (c : CopyBuffer) → P (on_copy_packet es g c) (on_copy_packet es h c)
       unfolding on_copy_packet write_back
       copy-both c =
           buffer-both (live c.dst g) (live c.dst h) _ _ (same c.dst) (λ d.
@@ -141,18 +134,18 @@ module _ (P : Outcome → Outcome → Type 0) (g h : Holdings)
           (handed-both (range_of writes d e c.dstoffset c.size))))))
           keeps)))))
 
-    destroy-both : (c : DestroyResource)
+    pub destroy-both : (c : DestroyResource)
         → ((r : Resource) → live c.handle h ≡ found r
         → P (accepted (record { resources = names_left r (without c.handle g); records = g.records })) (accepted (record { resources = names_left r (without c.handle h); records = h.records })))
         → P (on_destroy_packet g c) (on_destroy_packet h c)
     unfolding on_destroy_packet
     destroy-both c removes = live_both (live c.handle g) (live c.handle h) _ _ (same c.handle) removes
 
-    target-both : (c : SetTarget) → P (accepted g) (accepted h) → P (on_target_packet g c) (on_target_packet h c)
+    pub target-both : (c : SetTarget) → P (accepted g) (accepted h) → P (on_target_packet g c) (on_target_packet h c)
     unfolding on_target_packet
     target-both c keeps = texture-both bad_handle _ _ _ _ (texture-same c.handle g h (same c.handle)) (λ s. keeps)
 
-    scissor-both : (a b : ℕ) (c : SetScissor) → a ≡ b → ((k : Record) → P (accepted (recorded k g)) (accepted (recorded k h)))
+    pub scissor-both : (a b : ℕ) (c : SetScissor) → a ≡ b → ((k : Record) → P (accepted (recorded k g)) (accepted (recorded k h)))
         → P (on_scissor_packet a g c) (on_scissor_packet b h c)
     unfolding on_scissor_packet
     scissor-both a b c e hands =
@@ -161,7 +154,7 @@ module _ (P : Outcome → Outcome → Type 0) (g h : Holdings)
         (refuse-both too_many (full g.records) (full h.records) _ _ full-records (hands (clip_of s c))))
 
     module _ (ts us : List Token) (tokens : SameMap token_of ts us) where
-      bound-same : (token : ℕ) → bound token ts g.resources ≡ bound token us h.resources
+      pub bound-same : (token : ℕ) → bound token ts g.resources ≡ bound token us h.resources
       unfolding bound
       bound-same token = ap (λ f. bound_in f g.resources) (tokens token) ∙ by_found (lookup token_of token us)
         where
@@ -169,7 +162,7 @@ module _ (P : Outcome → Outcome → Type 0) (g h : Holdings)
           by_found none = refl
           by_found (found t) = ap (pick (eqb t.name 0) none) (same t.name)
 
-      export-both : (c : ExportSurface) → length ts ≡ length us → ((r : Resource) → live c.handle h ≡ found r → P (accepted g) (accepted h))
+      pub export-both : (c : ExportSurface) → length ts ≡ length us → ((r : Resource) → live c.handle h ≡ found r → P (accepted g) (accepted h))
           → P (on_export_packet ts g c) (on_export_packet us h c)
       unfolding on_export_packet
       export-both c few exports =
@@ -179,7 +172,7 @@ module _ (P : Outcome → Outcome → Type 0) (g h : Holdings)
           (refuse-both too_many _ _ _ _ (ap (λ f. is_new f && leb most_tokens (length ts)) (tokens c.token) ∙ ap (λ n. is_new (lookup token_of c.token us) && leb most_tokens n) few)
           (exports r e))))
 
-      import-both : (c : ImportSurface) → length g.resources ≡ length h.resources
+      pub import-both : (c : ImportSurface) → length g.resources ≡ length h.resources
           → ((r : Resource) → bound c.token us h.resources ≡ found r
           → P (accepted (record { resources = names_with c.handle r g.resources; records = g.records })) (accepted (record { resources = names_with c.handle r h.resources; records = h.records })))
           → P (on_import_packet ts g c) (on_import_packet us h c)
@@ -189,7 +182,7 @@ module _ (P : Outcome → Outcome → Type 0) (g h : Holdings)
           (bound-both _ _ _ _ (bound-same c.token) (λ r e.
           refuse-both too_many (full g.resources) (full h.resources) _ _ (ap (leb most) few) (imports r e)))
 
-      release-both : (c : ReleaseToken) → ((r : Resource) → bound c.token us h.resources ≡ found r → P (accepted g) (accepted h))
+      pub release-both : (c : ReleaseToken) → ((r : Resource) → bound c.token us h.resources ≡ found r → P (accepted g) (accepted h))
           → P (on_release_packet ts g c) (on_release_packet us h c)
       unfolding on_release_packet
       release-both c releases = bound-both _ _ _ _ (bound-same c.token) releases
@@ -197,154 +190,9 @@ module _ (P : Outcome → Outcome → Type 0) (g h : Holdings)
 -- ---- one packet, whatever it is
 
 module _ (es : List Entry) (g h : Progress) (s : SoundProgress es g) (t : SoundProgress es h) (d : SameHeld g h) where
-  few-names : length g.holdings.resources ≡ length h.holdings.resources
-  few-names = same_length handle_of g.holdings.resources h.holdings.resources s.holdings.resources.once t.holdings.resources.once d.resources
-
-  few-tokens : length g.tokens ≡ length h.tokens
-  few-tokens = same_length token_of g.tokens h.tokens s.tokens.once t.tokens.once d.tokens
-
-  refuses : (r : Refusal) → SamePassed (record { verdict = Broken r; held = g }) (record { verdict = Broken r; held = h })
-  refuses r = record { verdict = refl; held = d }
-
-  keeps : SamePassed (record { verdict = Fine; held = g }) (record { verdict = Fine; held = h })
-  keeps = record { verdict = refl; held = d }
-
-  -- ---- a destroy
-
-  module _ (k : ℕ) (r : Resource) (e : live k h.holdings ≡ found r) where
-    first : live k g.holdings ≡ found r
-    first = d.resources k ∙ e
-
-    same-without : SameMap handle_of (without k g.holdings) (without k h.holdings)
-    same-without = same-removed handle_of k g.holdings.resources h.holdings.resources r s.holdings.resources.once t.holdings.resources.once e d.resources
-
-    -- none of those left is 0
-    some-without : lookup handle_of 0 (without k g.holdings) ≡ none
-    some-without =
-        lookup-removed-other handle_of k 0 (index_of handle_of k g.holdings.resources) g.holdings.resources s.holdings.resources.once refl
-        (found-place handle_of k g.holdings.resources r first)
-        (λ z. none-not-found r (sym s.holdings.resources.some ∙ (ap (λ n. live n g.holdings) z ∙ first)))
-        ∙ s.holdings.resources.some
-
-    once-without : (q : Progress) → SoundProgress es q → live k q.holdings ≡ found r → Once handle_of (without k q.holdings)
-    once-without q u f =
-        once-removed handle_of (index_of handle_of k q.holdings.resources) q.holdings.resources u.holdings.resources.once (found-place handle_of k q.holdings.resources r f)
-
-    lowest-same : lowest_left r.lowest (without k g.holdings) ≡ lowest_left r.lowest (without k h.holdings)
-    lowest-same =
-        same-lowest r.lowest (without k g.holdings) (without k h.holdings) (once-without g s first) (once-without h t e) some-without
-        same-without
-
-    names-left-same : SameMap handle_of (names_left r (without k g.holdings)) (names_left r (without k h.holdings))
-    names-left-same = rw lowest-same (by_test (shareable r.kind))
-      where
-        by_test : (b : Bool)
-            → SameMap handle_of (pick b (rename r.lowest (lowest_left r.lowest (without k h.holdings)) (without k g.holdings)) (without k g.holdings))
-            (pick b (rename r.lowest (lowest_left r.lowest (without k h.holdings)) (without k h.holdings)) (without k h.holdings))
-        by_test true = same-renamed r.lowest (lowest_left r.lowest (without k h.holdings)) (without k g.holdings) (without k h.holdings) same-without
-        by_test false = same-without
-
-    tokens-left-same : SameMap token_of (tokens_left r (without k g.holdings) g.tokens) (tokens_left r (without k h.holdings) h.tokens)
-    tokens-left-same = rw lowest-same (by_test (shareable r.kind))
-      where
-        by_test : (b : Bool)
-            → SameMap token_of (pick b (rebind r.lowest (lowest_left r.lowest (without k h.holdings)) g.tokens) g.tokens)
-            (pick b (rebind r.lowest (lowest_left r.lowest (without k h.holdings)) h.tokens) h.tokens)
-        by_test true = same-rebound r.lowest (lowest_left r.lowest (without k h.holdings)) g.tokens h.tokens d.tokens
-        by_test false = d.tokens
 
   -- ---- an import
 
-  names-with-same : (k : ℕ) (r : Resource) → SameMap handle_of (names_with k r g.holdings.resources) (names_with k r h.holdings.resources)
-  names-with-same k r =
-      same-renamed r.lowest (lower k r.lowest) _ _ (same-pushed handle_of g.holdings.resources h.holdings.resources (under k r) d.resources)
-
   -- the same of what its rules come to
-  abbrev Of : Packet → Outcome → Outcome → Type 0
+  abbrev pub Of : Packet → Outcome → Outcome → Type 0
   Of p o q = SamePassed (passed p g o) (passed p h q)
-
-  stores : (r : Resource) → SameMap handle_of (stored r g.holdings).resources (stored r h.holdings).resources
-  stores r = same-pushed handle_of g.holdings.resources h.holdings.resources r d.resources
-
-  more : (c : Record) → (recorded c g.holdings).records ≡ (recorded c h.holdings).records
-  more c = rw d.records
-
-  handed : (c : Record) → SameHeld (record { holdings = recorded c g.holdings; target = g.target; tokens = g.tokens }) (record { holdings = recorded c h.holdings; target = h.target; tokens = h.tokens })
-  handed c = record { resources = d.resources; records = more c; target = d.target; tokens = d.tokens }
-
-  pub pass_same : (p : Packet) → SamePassed (pass es g p) (pass es h p)
-  unfolding pass apply target_after tokens_after on_buffer_packet on_texture_packet on_viewport_packet on_clear_packet
-  pass_same (Buffer c) =
-      create-both (Of (Buffer c)) g.holdings h.holdings refuses d.resources d.records es few-names
-      (λ r. record { verdict = refl; held = record { resources = stores r; records = d.records; target = d.target; tokens = d.tokens } })
-      (λ r c. record { verdict = refl; held = record { resources = stores r; records = more c; target = d.target; tokens = d.tokens } })
-      _ _
-  pass_same (Texture c) =
-      create-both (Of (Texture c)) g.holdings h.holdings refuses d.resources d.records es few-names
-      (λ r. record { verdict = refl; held = record { resources = stores r; records = d.records; target = d.target; tokens = d.tokens } })
-      (λ r c. record { verdict = refl; held = record { resources = stores r; records = more c; target = d.target; tokens = d.tokens } })
-      _ _
-  pass_same (Destroy c) =
-      destroy-both (Of (Destroy c)) g.holdings h.holdings refuses d.resources d.records c (λ r e.
-      let f : live c.handle g.holdings ≡ found r = d.resources c.handle ∙ e in
-      rw (f, e) (record {
-        verdict = refl;
-        held = record {
-          resources = names-left-same c.handle r e;
-          records = d.records;
-          target = ap (λ n. pick (eqb c.handle n) 0 n) d.target;
-          tokens = tokens-left-same c.handle r e;
-        };
-      }))
-  pass_same (Dirty c) =
-      dirty-both (Of (Dirty c)) g.holdings h.holdings refuses d.resources d.records es keeps
-      (λ k. record { verdict = refl; held = handed k }) c
-  pass_same (Copy c) =
-      copy-both (Of (Copy c)) g.holdings h.holdings refuses d.resources d.records es keeps
-      (λ k. record { verdict = refl; held = handed k }) c
-  pass_same (Target c) =
-      target-both (Of (Target c)) g.holdings h.holdings refuses d.resources d.records c
-      (record { verdict = refl; held = record { resources = d.resources; records = d.records; target = refl; tokens = d.tokens } })
-  pass_same (Viewport v) = refuse-both (Of (Viewport v)) g.holdings h.holdings refuses bad_state (bad_viewport v) _ _ _ refl keeps
-  pass_same (Scissor c) =
-      scissor-both (Of (Scissor c)) g.holdings h.holdings refuses d.resources d.records g.target h.target c d.target
-      (λ k. record { verdict = refl; held = handed k })
-  pass_same (Clear c) = refuse-both (Of (Clear c)) g.holdings h.holdings refuses bad_state (bad_clear c) _ _ _ refl keeps
-  pass_same (Export c) =
-      export-both (Of (Export c)) g.holdings h.holdings refuses d.resources d.records g.tokens h.tokens d.tokens c few-tokens (λ r e.
-      let f : live c.handle g.holdings ≡ found r = d.resources c.handle ∙ e in
-      rw (f, e) (record {
-        verdict = refl;
-        held = record { resources = d.resources; records = d.records; target = d.target; tokens = same-with-token c.token r.lowest g.tokens h.tokens d.tokens };
-      }))
-  pass_same (Import c) =
-      import-both (Of (Import c)) g.holdings h.holdings refuses d.resources d.records g.tokens h.tokens d.tokens c few-names (λ r e.
-      let f : bound c.token g.tokens g.holdings.resources ≡ found r =
-      bound-same (Of (Import c)) g.holdings h.holdings refuses d.resources d.records g.tokens h.tokens d.tokens c.token ∙ e in
-      rw (f, e) (record {
-        verdict = refl;
-        held = record {
-          resources = names-with-same c.handle r;
-          records = d.records;
-          target = d.target;
-          tokens = same-rebound r.lowest (lower c.handle r.lowest) g.tokens h.tokens d.tokens;
-        };
-      }))
-  pass_same (Release c) =
-      release-both (Of (Release c)) g.holdings h.holdings refuses d.resources d.records g.tokens h.tokens d.tokens c (λ r e.
-      let b = bound-is c.token h.tokens h.holdings.resources r e in
-      record {
-        verdict = refl;
-        held = record { resources = d.resources; records = d.records; target = d.target; tokens = same-without-token c.token g.tokens h.tokens b.0 b.1 d.tokens };
-      })
-  pass_same NotANumber = refuses (refusal bad_state)
-  pass_same Unknown = keeps
-
-  -- and whatever the bytes left of a stream begin with
-  pub take_same : (b : List ℕ) → SamePassed (take_packet es g b) (take_packet es h b)
-  unfolding take_packet
-  take_same b = by_frame (frame_of b)
-    where
-      by_frame : (f : Frame) → SamePassed (pass_frame es g b f) (pass_frame es h b f)
-      by_frame (Whole op size) = pass_same (packet_of op (take size b))
-      by_frame (Misframed r) = refuses r

@@ -11,7 +11,7 @@ use Rattle.rules.specs.Packets.{create_hosted, create, on_buffer_packet, on_text
 use Rattle.rules.specs.State.{State, made, nothing_owned}
 use Rattle.rules.specs.State.Work.{resting}
 use Rattle.rules.specs.Saved.{saved}
-use Rattle.rules.specs.Loaded.{Loaded, loaded, call_load}
+use Rattle.rules.specs.Loaded.{Loaded, call_load}
 use Rattle.rules.specs.declared.Form.TheVariants.{Two}
 use Rattle.rules.specs.declared.Shape.{Shape}
 use Rattle.rules.specs.declared.Resource.{Resource}
@@ -19,15 +19,9 @@ use Rattle.rules.specs.declared.Token.{Token}
 use Rattle.rules.specs.declared.Packet.{Packet}
 use Rattle.rules.specs.declared.Packet.TheVariants.{Buffer, Texture, Export, Import}
 use Rattle.rules.specs.declared.Kind.TheVariants.{Buffer as BufferKind, Texture as TextureKind}
-use Rattle.promises_of_packets.specs.Held.{SoundProgress, nothing-sound, first-sound, left-sound, pass-sound}
 use Rattle.promises_of_saving.specs.SameDevice.{SameDevice}
-use Rattle.promises_of_saving.specs.Savable.{Savable}
-use Rattle.promises_of_saving.specs.Example.{shared_device, shared-is-savable, shared-is-loaded}
-use Rattle.promises_of_saving.specs.LoadOfSave.{same_back, saved-is-good}
-use Rattle.promises_of_units.specs.Sound.{SoundState, made-sound}
-use Rattle.promises_of_units.specs.LoadedSound.{loaded-sound}
+use Rattle.promises_of_saving.specs.Example.{shared_device, shared-is-loaded}
 use Rattle.promises_of_same_desks.specs.Maps.{SameMap}
-use Rattle.promises_of_same_desks.specs.ForEver.{SameForEver, same-devices-for-ever}
 
 -- ---- packets one after the other
 
@@ -35,33 +29,19 @@ unfoldable pub held_after : Progress → List Packet → Progress
 held_after h [] = h
 held_after h (p ∷ ps) = held_after (pass [] h p).held ps
 
-after-sound : (ps : List Packet) (h : Progress) → SoundProgress [] h → SoundProgress [] (held_after h ps)
-unfolding held_after
-after-sound [] h s = s
-after-sound (p ∷ ps) h s = after-sound ps (pass [] h p).held (pass-sound [] h s p)
-
 -- a new device that accepted those packets, and no others
 unfoldable pub having : ℕ → List Packet → State
 having memory ps = record { memory = memory; regs = (made memory).regs; belongings = left_by (held_after (at_first nothing_owned) ps); work = resting }
 
-pub having-sound : (memory : ℕ) (ps : List Packet) → SoundState (having memory ps)
-unfolding having
-having-sound memory ps =
-    record {
-      belongings = left-sound [] (held_after (at_first nothing_owned) ps) (after-sound ps (at_first nothing_owned) (first-sound [] nothing_owned nothing-sound));
-      work = (made-sound memory).work;
-      error = (made-sound memory).error;
-    }
-
 -- ---- the two devices: a texture that is called 3 and 5 and has tokens 7 and 8, and a buffer called 9
 
-abbrev the_shape : Shape
+abbrev pub the_shape : Shape
 the_shape = record { format = 1; width = 64; height = 32; mips = 1; layers = 1 }
 
-abbrev textured : ℕ → Packet
+abbrev pub textured : ℕ → Packet
 textured k = Texture (record { handle = k; shape = the_shape; pitch = 0; backing = 0; offset = 0 })
 
-abbrev buffered : Packet
+abbrev pub buffered : Packet
 buffered = Buffer (record { handle = 9; size = 4096; backing = 0; offset = 0 })
 
 -- made as 5, then imported as 3
@@ -142,20 +122,7 @@ two-ways-are-not-equal e =
     sym (ap (λ (b : Belongings). first_handle b.resources) one-is) ∙ (ap (λ (s : State). first_handle s.belongings.resources) e ∙ ap (λ (b : Belongings). first_handle b.resources) other-is) in
     omega arith
 
-pub two-ways-go-on-as-one : SameForEver one other
-unfolding one other
-two-ways-go-on-as-one = same-devices-for-ever one other (having-sound 65536 _) (having-sound 65536 _) two-ways-one-device
-
 -- ---- a desk that was saved, and loaded by a new device: its first row is another
-
-shared-sound : SoundState shared_device
-shared-sound =
-    let v : Savable shared_device = shared-is-savable in
-    record {
-      belongings = record { resources = record { few = v.few; once = v.once; some = v.some; created = v.created; names = v.names }; tokens = v.tokens };
-      work = (made-sound 0).work;
-      error = v.error;
-    }
 
 pub loaded-in-another-order : (call_load (made 0) (saved Two shared_device)).state ≡ shared_device → ⊥
 unfolding first_handle
@@ -163,8 +130,3 @@ loaded-in-another-order e =
     let z : ◌≡◌ {A = ℕ} 3 7 =
     sym (ap (λ (l : Loaded). first_handle l.state.belongings.resources) shared-is-loaded) ∙ ap (λ (s : State). first_handle s.belongings.resources) e in
     omega arith
-
-pub loaded-goes-on-as-the-saved : SameForEver (loaded (saved Two shared_device)) shared_device
-loaded-goes-on-as-the-saved =
-    same-devices-for-ever (loaded (saved Two shared_device)) shared_device (loaded-sound (saved Two shared_device) (saved-is-good Two shared_device shared-is-savable))
-    shared-sound (same_back Two shared_device shared-is-savable refl refl)

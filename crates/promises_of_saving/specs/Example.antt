@@ -7,7 +7,7 @@ use Rattle.rules.specs.Lists.Found.{found}
 use Rattle.rules.specs.Bytes.{le, bytes_of}
 use Rattle.rules.specs.Names.{token_of, under}
 use Rattle.rules.specs.Shapes.{block_bytes, block_side, halvings, full_chain, mip_side, blocks, tight, rows, mip_bytes, offset_of, good_shape, good_backed, texture_bytes, packed_size}
-use Rattle.rules.specs.Packets.{handle_of, resource_of}
+use Rattle.rules.specs.Packets.{resource_of}
 use Rattle.rules.specs.State.{State, registers_of, made}
 use Rattle.rules.specs.State.Work.{resting}
 use Rattle.rules.specs.declared.Shape.{Shape}
@@ -19,28 +19,25 @@ use Rattle.rules.specs.Loaded.{resources_rules, first_broken, loaded_resource, l
 use Rattle.rules.specs.declared.Form.TheVariants.{One, Two}
 use Rattle.rule_laws.specs.Created.{AsCreated}
 use Rattle.rows.specs.Keys.{once-nil, once-pushed}
-use Rattle.promises_of_packets.specs.SoundNames.{SoundTokens, no-tokens}
+use Rattle.promises_of_packets.specs.SoundNames.{SoundTokens}
 use Rattle.promises_of_packets.specs.Held.{Every, every-none, every-found}
-use Rattle.promises_of_saving.specs.LoadedResources.{OneName}
 use Rattle.promises_of_saving.specs.LoadedShared.{SpentOrBound}
-use Rattle.promises_of_saving.specs.LoadedIsSound.{names-sound}
-use Rattle.promises_of_saving.specs.WrittenShared.{OtherNameOf}
-use Rattle.promises_of_saving.specs.Savable.{FitsResource, FitsToken, Savable}
+use Rattle.promises_of_saving.specs.Savable.{FitsResource}
 
 -- ---- a device within form 1
 
-abbrev small_shape : Shape
+abbrev pub small_shape : Shape
 small_shape = record { format = 1; width = 4; height = 4; mips = 1; layers = 1 }
 
 -- 4,096 bytes, 64 bytes into the allocation with id 5
-abbrev its_buffer : Resource
+abbrev pub its_buffer : Resource
 its_buffer = resource_of 7 Buffer 4096 0 5 64
 
 -- four rows of 16 bytes, in the same allocation
-abbrev its_texture : Resource
+abbrev pub its_texture : Resource
 its_texture = resource_of 3 (Texture small_shape) 64 16 5 0
 
-abbrev example_with : ℕ → List Resource → List Token → State
+abbrev pub example_with : ℕ → List Resource → List Token → State
 example_with detail rs ts =
     record {
       memory = 65536;
@@ -53,18 +50,18 @@ example_with detail rs ts =
 abbrev pub example_device : State
 example_device = example_with 0 (its_buffer ∷ its_texture ∷ []) []
 
-created-buffer : AsCreated its_buffer
+pub created-buffer : AsCreated its_buffer
 created-buffer = record { bytes = λ e. omega arith; shape = refl; offset = λ e. absurd (let z : ◌≡◌ {A = ℕ} 0 1 = cc in omega arith) }
 
-created-texture : AsCreated its_texture
+pub created-texture : AsCreated its_texture
 unfolding block_bytes block_side halvings full_chain mip_side blocks tight rows mip_bytes offset_of good_shape good_backed texture_bytes packed_size
 created-texture = record { bytes = refl; shape = (refl, refl); offset = λ e. refl }
 
-fits-buffer : FitsResource its_buffer
+pub fits-buffer : FitsResource its_buffer
 fits-buffer =
     record { handle = omega arith; kind = omega arith; bytes = omega arith; pitch = omega arith; backing = omega arith; offset = omega arith; lowest = omega arith }
 
-fits-texture : FitsResource its_texture
+pub fits-texture : FitsResource its_texture
 fits-texture =
     record {
       handle = omega arith;
@@ -74,33 +71,6 @@ fits-texture =
       backing = omega arith;
       offset = omega arith;
       lowest = omega arith;
-    }
-
--- it is one that the theorems speak of
-pub example-is-savable : Savable example_device
-unfolding Every lookup
-example-is-savable =
-    record {
-      error = record { code = refl; rest = refl; detail = λ e. refl };
-      few = omega arith;
-      some = refl;
-      once = once-pushed handle_of (its_buffer ∷ []) its_texture (once-pushed handle_of [] its_buffer (once-nil handle_of) refl) refl;
-      created = (created-buffer, (created-texture, every-none AsCreated));
-      names = names-sound (its_buffer ∷ its_texture ∷ []) [] (refl, (refl, every-none OneName)) (every-none (OtherNameOf (its_buffer ∷ its_texture ∷ [])));
-      tokens = no-tokens (its_buffer ∷ its_texture ∷ []);
-      fits = record {
-        memory = omega arith;
-        regs = record {
-          ring = omega arith;
-          ringsize = omega arith;
-          fencepage = omega arith;
-          completed = omega arith;
-          irqenable = omega arith;
-          error = record { code = omega arith; fence = omega arith; count = omega arith; detail = omega arith };
-        };
-        resources = (fits-buffer, (fits-texture, every-none FitsResource));
-        tokens = every-none FitsToken;
-      };
     }
 
 -- ---- saved in form 1
@@ -166,31 +136,31 @@ one-byte-more = refl
 
 -- ---- a device beyond form 1: with a detail, another name of its texture, a token bound to that texture, and a spent one
 
-abbrev other_name : Resource
+abbrev pub other_name : Resource
 other_name = under 9 its_texture
 
-abbrev bound_token : Token
+abbrev pub bound_token : Token
 bound_token = record { name = 3; token = 0x100000002 }
 
-abbrev spent_token : Token
+abbrev pub spent_token : Token
 spent_token = record { name = no_name; token = 5 }
 
-abbrev names_kept : List Resource
+abbrev pub names_kept : List Resource
 names_kept = its_buffer ∷ its_texture ∷ other_name ∷ []
 
 -- it used the bound token first
 abbrev pub shared_device : State
 shared_device = example_with 8 names_kept (bound_token ∷ spent_token ∷ [])
 
-created-other : AsCreated other_name
+pub created-other : AsCreated other_name
 unfolding block_bytes block_side halvings full_chain mip_side blocks tight rows mip_bytes offset_of good_shape good_backed texture_bytes packed_size
 created-other = record { bytes = refl; shape = (refl, refl); offset = λ e. refl }
 
-fits-other : FitsResource other_name
+pub fits-other : FitsResource other_name
 fits-other =
     record { handle = omega arith; kind = fits-texture.kind; bytes = omega arith; pitch = omega arith; backing = omega arith; offset = omega arith; lowest = omega arith }
 
-sound-tokens : SoundTokens names_kept (bound_token ∷ spent_token ∷ [])
+pub sound-tokens : SoundTokens names_kept (bound_token ∷ spent_token ∷ [])
 unfolding Every lookup
 sound-tokens =
     record {
@@ -199,33 +169,6 @@ sound-tokens =
       some = refl;
       bound-to = λ token t e. every-found (SpentOrBound names_kept) token_of token (bound_token ∷ spent_token ∷ []) t e
           (λ some. record { what = its_texture; here = refl; lowest = refl; shape = refl }, (λ some. absurd (some refl), every-none (SpentOrBound names_kept)));
-    }
-
-pub shared-is-savable : Savable shared_device
-unfolding Every lookup
-shared-is-savable =
-    record {
-      error = record { code = refl; rest = refl; detail = λ e. absurd (omega arith) };
-      few = omega arith;
-      some = refl;
-      once = once-pushed handle_of (its_buffer ∷ its_texture ∷ []) other_name example-is-savable.once refl;
-      created = (created-buffer, (created-texture, (created-other, every-none AsCreated)));
-      names = names-sound (its_buffer ∷ its_texture ∷ []) (other_name ∷ []) (refl, (refl, every-none OneName))
-          (record { free = refl; below = omega arith; first = refl; shared = refl }, every-none (OtherNameOf (its_buffer ∷ its_texture ∷ [])));
-      tokens = sound-tokens;
-      fits = record {
-        memory = omega arith;
-        regs = record {
-          ring = omega arith;
-          ringsize = omega arith;
-          fencepage = omega arith;
-          completed = omega arith;
-          irqenable = omega arith;
-          error = record { code = omega arith; fence = omega arith; count = omega arith; detail = omega arith };
-        };
-        resources = (fits-buffer, (fits-texture, (fits-other, every-none FitsResource)));
-        tokens = (record { name = omega arith; token = omega arith }, (record { name = omega arith; token = omega arith }, every-none FitsToken));
-      };
     }
 
 -- form 1 has no field for it

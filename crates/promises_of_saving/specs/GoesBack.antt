@@ -1,25 +1,24 @@
 -- "Form 2 goes back exactly when both sections are empty and detail is 0": what form 1 has a field for, of a device that a file of form 2 says, by the
 -- fields of that file. Assumes nothing.
 use Rattle.std.specs.Prelude.{◌≡◌, refl, false, ℕ, ◌+◌, ◌≤◌}
-use Rattle.std.proofs.Math.Path.{sym, ap, subst}
-use Rattle.std.proofs.Common.{◌∙◌, arith, eq-eqb}
-use mathlib.Core.List.{List, [], ◌∷◌, ◌++◌, append-nil}
+use Rattle.std.proofs.Math.Path.{ap}
+use Rattle.std.proofs.Common.{arith, eq-eqb}
+use mathlib.Core.List.{List, [], ◌∷◌}
 use Rattle.std.proofs.Math.ListN.{length}
 use Rattle.rules.specs.Layouts.{word}
 use Rattle.rules.specs.State.{State}
 use Rattle.rules.specs.declared.Resource.{Resource}
-use Rattle.rules.specs.Saved.{beyond_form_1, detail_place, count_place, beyond}
-use Rattle.rules.specs.Loaded.{names_place, section_2, section_3, section_4, loaded_names, loaded_tokens, loaded_sections, other_form}
+use Rattle.rules.specs.Saved.{beyond_form_1, detail_place, count_place}
+use Rattle.rules.specs.Loaded.{names_place, section_2, section_3, section_4, loaded_names, loaded_tokens}
 use Rattle.rules.specs.declared.Form.{Form}
 use Rattle.rules.specs.declared.Form.TheVariants.{One, Two}
-use Rattle.promises_of_packets.specs.Held.{Every, every_back}
+use Rattle.promises_of_packets.specs.Held.{Every}
 use Rattle.promises_of_saving.specs.GoodShared.{tokens_at}
 use Rattle.promises_of_saving.specs.GoodFile.{GoodSections}
 use Rattle.promises_of_saving.specs.LoadedResources.{OneName}
-use Rattle.promises_of_saving.specs.LoadedShared.{length-names, names-are-others, length-tokens}
 use Rattle.promises_of_saving.specs.LoadedIsSound.{section-2-one-name}
 use Rattle.promises_of_saving.specs.WrittenShared.{OtherNameOf}
-use Rattle.promises_of_saving.specs.LoadOfSave.{InForm1, in-form-1}
+use Rattle.promises_of_saving.specs.LoadOfSave.{InForm1}
 use Rattle.promises_of_saving.specs.SaveOfLoad.{one-name-each}
 
 -- where section 3's count stands in the sections of form 2
@@ -40,7 +39,7 @@ form-1-has s i =
     rw (eq-eqb (length s.belongings.tokens) 0 (ap length i.tokens), one-name-each s.belongings.resources i.one_name, eq-eqb s.regs.error.detail 0 i.detail)
 
 -- another name is not its resource's only one
-no_other : (rs ns : List Resource) → Every (OtherNameOf rs) ns → Every OneName ns → ns ≡ []
+pub no_other : (rs ns : List Resource) → Every (OtherNameOf rs) ns → Every OneName ns → ns ≡ []
 unfolding Every
 no_other rs [] k h = refl
 no_other rs (n ∷ ns) k h = absurd (omega (arith, k.0.below, h.0))
@@ -48,52 +47,25 @@ no_other rs (n ∷ ns) k h = absurd (omega (arith, k.0.below, h.0))
 -- ---- a file of form 2
 
 module _ (b : List ℕ) (g : GoodSections Two b) where
-  abbrev rs : List Resource
+  abbrev pub rs : List Resource
   rs = section_2 Two b
 
-  abbrev ns : List Resource
+  abbrev pub ns : List Resource
   ns = section_3 rs b (names_at b)
 
-  own : Every OneName rs
+  pub own : Every OneName rs
   own = section-2-one-name Two b g
 
-  goes_back : beyond One (loaded_sections Two b) ≡ false → GoesBack b
-  unfolding loaded_sections
-  goes_back e =
-      let i : InForm1 (loaded_sections Two b) = in-form-1 (loaded_sections Two b) e in
-      let none : ns ≡ [] =
-      no_other rs ns (names-are-others rs own b (word b (names_at b)) (names_at b + 4) 0 g.later.names) (every_back OneName rs ns i.one_name) in
-      record {
-        no_names = sym (length-names rs own b (word b (names_at b)) (names_at b + 4) 0 g.later.names) ∙ ap length none;
-        no-tokens = sym (length-tokens (word b (tokens_at b (names_at b))) b (tokens_at b (names_at b) + 4)) ∙ ap length i.tokens;
-        no-detail = i.detail;
-      }
-
-  empty-names : word b (names_at b) ≡ 0 → ns ≡ []
+  pub empty-names : word b (names_at b) ≡ 0 → ns ≡ []
   unfolding loaded_names
   empty-names e = ap (λ n. loaded_names n rs b (names_at b + 4)) e
 
-  empty-tokens : word b (tokens_at b (names_at b)) ≡ 0 → section_4 b (names_at b) ≡ []
+  pub empty-tokens : word b (tokens_at b (names_at b)) ≡ 0 → section_4 b (names_at b) ≡ []
   unfolding loaded_tokens
   empty-tokens e = ap (λ n. loaded_tokens n b (tokens_at b (names_at b) + 4)) e
-
-  back-goes : GoesBack b → beyond One (loaded_sections Two b) ≡ false
-  unfolding loaded_sections
-  back-goes e =
-      form-1-has (loaded_sections Two b)
-      (record {
-        tokens = empty-tokens e.no-tokens;
-        one_name = subst (Every OneName) (sym (ap (λ xs. rs ++ xs) (empty-names e.no_names) ∙ append-nil rs)) own;
-        detail = e.no-detail;
-      })
 
 -- ---- a file of either form: form 2 has a field for all that form 1 says
 
 abbrev pub Goes : Form → List ℕ → Type 0
 Goes One b = 0 ≤ 0
 Goes Two b = GoesBack b
-
-pub goes-exactly : (f : Form) (b : List ℕ) → GoodSections f b
-    → (beyond (other_form f) (loaded_sections f b) ≡ false → Goes f b) × (Goes f b → beyond (other_form f) (loaded_sections f b) ≡ false)
-goes-exactly One b g = (λ e. omega arith, λ e. refl)
-goes-exactly Two b g = (goes_back b g, back-goes b g)

@@ -12,17 +12,15 @@ use Rattle.rules.specs.Packets.{Belongings, handle_of, backed}
 use Rattle.rules.specs.Shapes.{packed_size}
 use Rattle.rules.specs.declared.Resource.{Resource}
 use Rattle.rules.specs.Saved.{resource_bytes, memory_place, count_place, head_bytes, detail_place, name_bytes, token_bytes}
-use Rattle.rules.specs.Loaded.{saved_shape, loaded_resource, loaded_resources, names_place, form_in, sections, section_2, section_3, bad_place, detail_in, named, loaded_names, loaded_tokens, loaded_belongings, loaded_sections, loaded}
+use Rattle.rules.specs.Loaded.{saved_shape, loaded_resource, loaded_resources, names_place, section_2, section_3, detail_in, named, loaded_names, loaded_tokens, loaded_belongings, loaded_sections}
 use Rattle.rules.specs.declared.Form.{Form}
 use Rattle.rules.specs.declared.Form.TheVariants.{One, Two}
 use Rattle.texture_sizes.specs.Packed.{packed-small}
 use Rattle.promises_of_packets.specs.Held.{Every, every-none, every-both, every-found}
 use Rattle.promises_of_submissions.specs.LentBytes.{OfBytes, word_fits}
-use Rattle.promises_of_saving.specs.Numbered.{sections-of-bytes}
 use Rattle.promises_of_saving.specs.GoodShared.{tokens_at}
 use Rattle.promises_of_saving.specs.LoadedResources.{by_kind}
-use Rattle.promises_of_saving.specs.LoadedIsSound.{SoundAtRest, loaded-is-sound}
-use Rattle.promises_of_saving.specs.Savable.{FitsResource, FitsToken, Fits, Savable}
+use Rattle.promises_of_saving.specs.Savable.{FitsResource, FitsToken, Fits}
 
 either-fits : (t : Bool) (v n : ℕ) → v < n → 0 < n → pick t v 0 < n
 either-fits true v n h z = h
@@ -124,7 +122,7 @@ module _ (b : List ℕ) (o : OfBytes b) where
   detail-fits One = omega arith
   detail-fits Two = word_of detail_place
 
-  sections-fit : (f : Form) → Fits (loaded_sections f b)
+  pub sections-fit : (f : Form) → Fits (loaded_sections f b)
   unfolding loaded_sections
   sections-fit f =
       record {
@@ -140,19 +138,3 @@ module _ (b : List ℕ) (o : OfBytes b) where
         resources = (belongings-fit f).resources;
         tokens = (belongings-fit f).tokens;
       }
-
--- so what was loaded is one that the theorems of saving speak of
-pub loaded-is-savable : (b : List ℕ) → OfBytes b → bad_place b ≡ none → Savable (loaded b)
-unfolding loaded
-loaded-is-savable b o good =
-    let s : SoundAtRest (loaded b) = loaded-is-sound b good in
-    record {
-      error = s.error;
-      few = s.few;
-      some = s.some;
-      once = s.once;
-      created = s.created;
-      names = s.names;
-      tokens = s.tokens;
-      fits = sections-fit (sections b) (sections-of-bytes b o) (form_in b);
-    }

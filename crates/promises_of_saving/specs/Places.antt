@@ -21,7 +21,6 @@ use Rattle.rules.specs.declared.Form.{Form}
 use Rattle.rules.specs.declared.Form.TheVariants.{One, Two}
 use Rattle.words.specs.Over.{below_or_not}
 use Rattle.promises_of_packets.specs.Names.{none-not-found, found-same, true-not-false}
-use Rattle.promises_of_packets.specs.Held.{Every, every-none}
 use Rattle.promises_of_saving.specs.FirstBroken.{first_one, next_one, no-rule}
 use Rattle.promises_of_saving.specs.Numbered.{number-is-whole}
 use Rattle.promises_of_saving.specs.GoodFile.{memory_rules}
@@ -29,7 +28,7 @@ use Rattle.promises_of_saving.specs.Refusals.{first-is-bad, refused-exactly}
 
 -- ---- rules of fields that follow each other, from a place to another: each is reported at its field, and is broken where that is not there
 
-unfoldable InTurn : List ℕ → ℕ → ℕ → List Rule → Type 0
+unfoldable pub InTurn : List ℕ → ℕ → ℕ → List Rule → Type 0
 InTurn b at end [] = at ≡ end
 InTurn b at end (r ∷ rs) = (r.place ≡ at) × ((length b < at + 4 → r.broken ≡ true) × InTurn b (at + 4) end rs)
 
@@ -58,11 +57,11 @@ module _ (b : List ℕ) where
 
   -- ---- and after the last field the end
 
-  record ToTheEnd (at : ℕ) (rs : List Rule) : Type 0 where
-    fields : List Rule
-    end : ℕ
-    split : rs ≡ fields ++ (end_rule b end ∷ [])
-    in-turn : InTurn b at end fields
+  pub record ToTheEnd (at : ℕ) (rs : List Rule) : Type 0 where
+    pub fields : List Rule
+    pub end : ℕ
+    pub split : rs ≡ fields ++ (end_rule b end ∷ [])
+    pub in-turn : InTurn b at end fields
 
   the_end : (at : ℕ) → ToTheEnd at (end_rule b at ∷ [])
   the_end at = record { fields = []; end = at; split = refl; in-turn = last at at refl }
@@ -214,11 +213,11 @@ module _ (b : List ℕ) where
 -- ---- and it has the lowest place of the broken ones
 
 -- places do not fall, from a place on
-unfoldable InOrder : ℕ → List Rule → Type 0
+unfoldable pub InOrder : ℕ → List Rule → Type 0
 InOrder at [] = 0 ≤ 0
 InOrder at (r ∷ rs) = (at ≤ r.place) × InOrder r.place rs
 
-later-order : (at before : ℕ) (rs : List Rule) → before ≤ at → InOrder at rs → InOrder before rs
+pub later-order : (at before : ℕ) (rs : List Rule) → before ≤ at → InOrder at rs → InOrder before rs
 unfolding InOrder
 later-order at before [] l o = omega arith
 later-order at before (r ∷ rs) l o = (omega (arith, o.0), o.1)
@@ -237,22 +236,6 @@ order-behind n at (r ∷ rs) o = (omega (arith, o.0), order-behind n r.place rs 
 -- a broken rule is not before p
 abbrev pub NotBefore : ℕ → Rule → Type 0
 NotBefore p r = r.broken ≡ true → p ≤ r.place
-
-all-later : (at : ℕ) (rs : List Rule) → InOrder at rs → Every (NotBefore at) rs
-unfolding InOrder Every
-all-later at [] o = every-none (NotBefore at)
-all-later at (r ∷ rs) o = (λ e. o.0, all-later at rs (later-order r.place at rs o.0 o.1))
-
-lowest-first : (at : ℕ) (rs : List Rule) (p : ℕ) → InOrder at rs → first_broken rs ≡ found p → Every (NotBefore p) rs
-unfolding InOrder Every
-lowest-first at [] p o e = every-none (NotBefore p)
-lowest-first at (r ∷ rs) p o e = by_test r.broken refl (λ i. lowest-first r.place rs p o.1 i)
-  where
-    by_test : (t : Bool) → r.broken ≡ t → (first_broken rs ≡ found p → Every (NotBefore p) rs) → NotBefore p r × Every (NotBefore p) rs
-    by_test true h later =
-        let s : r.place ≡ p = found-same (sym (first_one r rs h) ∙ e) in
-        (λ i. omega arith, subst (λ k. Every (NotBefore k) rs) s (all-later r.place rs o.1))
-    by_test false h later = (λ i. absurd (true-not-false (sym i ∙ h)), later (sym (next_one r rs h) ∙ e))
 
 -- ---- of a file, its number included
 
@@ -288,7 +271,7 @@ module _ (b : List ℕ) where
       let d : length (sections b) ≡ length b - before_sections b = length-drop (before_sections b) b in
       omega (arith, f.2, number-inside)
 
-  rules-in-order : InOrder (before_sections b) (file_rules b)
+  pub rules-in-order : InOrder (before_sections b) (file_rules b)
   unfolding file_rules
   rules-in-order =
       let t : ToTheEnd (sections b) 0 (sections_rules (form_in b) (sections b)) = sections-in-turn (sections b) (form_in b) in
@@ -298,12 +281,8 @@ module _ (b : List ℕ) where
 
 -- of the call
 module _ (s : State) (b : List ℕ) (e : (call_load s b).answer ≡ bad_file) where
-  its-place : bad_place b ≡ found (call_load s b).place
+  pub its-place : bad_place b ≡ found (call_load s b).place
   its-place = first-is-bad b (call_load s b).place ((refused-exactly s b).0 e)
 
   pub reported-place-is-in-the-file : (call_load s b).place ≤ length b
   reported-place-is-in-the-file = place-in-file b (call_load s b).place its-place
-
-  pub reported-place-is-the-lowest : Every (NotBefore (call_load s b).place) (file_rules b)
-  unfolding bad_place
-  reported-place-is-the-lowest = lowest-first (before_sections b) (file_rules b) (call_load s b).place (rules-in-order b) its-place

@@ -6,17 +6,16 @@ use Rattle.rules.specs.Numbers.{done}
 use Rattle.rules.specs.Lists.{over}
 use Rattle.rules.specs.Lists.Found.{none}
 use Rattle.rules.specs.Layouts.{word}
-use Rattle.rules.specs.State.{State}
 use Rattle.rules.specs.Calls.{at_rest}
 use Rattle.rules.specs.declared.Resource.{Resource}
 use Rattle.rules.specs.Saved.{other_name_among, beyond_form_1, count_place, head_bytes, saved, beyond, call_save}
-use Rattle.rules.specs.Loaded.{Loaded, form_in, sections, bad_place, section_2, loaded_sections, loaded, call_load}
+use Rattle.rules.specs.Loaded.{form_in, sections, bad_place, section_2, loaded_sections, loaded}
 use Rattle.rules.specs.declared.Form.{Form}
 use Rattle.rules.specs.declared.Form.TheVariants.{One, Two}
 use Rattle.promises_of_packets.specs.Held.{Every}
 use Rattle.promises_of_submissions.specs.LentBytes.{OfBytes}
 use Rattle.promises_of_saving.specs.SameDevice.{SameDevice}
-use Rattle.promises_of_saving.specs.Refusals.{good-is-kept, kept-is-good, load-of-good, loaded-exactly, save-done}
+use Rattle.promises_of_saving.specs.Refusals.{good-is-kept, save-done}
 use Rattle.promises_of_saving.specs.Numbered.{numbered, with_number, with-number-is, sections-of-bytes}
 use Rattle.promises_of_saving.specs.GoodFile.{GoodSections, GoodFile, good-file}
 use Rattle.promises_of_saving.specs.LoadedResources.{OneName, loaded-one-name}
@@ -71,13 +70,6 @@ save-of-load b o good buffer room =
     let e : saved (form_in b) (loaded b) ≡ with_number b = saved-of-loaded b o good in
     save-done (form_in b) (loaded b) buffer (loaded-rests b) (loaded-in-form b good) (subst (λ x. length x ≤ length buffer) (sym e) room)
     ∙ ap (λ (x : List ℕ). record { answer = done; length = length x; buffer = over 0 x buffer }) e
-
--- the same of the two calls, one after the other, on any device
-pub load-then-save : (s : State) (b : List ℕ) → OfBytes b → (call_load s b).answer ≡ done → (buffer : List ℕ) → length (with_number b) ≤ length buffer
-    → call_save (form_in b) (call_load s b).state buffer ≡ record { answer = done; length = length (with_number b); buffer = over 0 (with_number b) buffer }
-load-then-save s b o d buffer room =
-    let good : bad_place b ≡ none = kept-is-good b ((loaded-exactly s b).0 d) in
-    ap (λ (l : Loaded). call_save (form_in b) l.state buffer) (load-of-good s b good) ∙ save-of-load b o good buffer room
 
 -- equal devices have equal files of a form
 pub equal-devices-equal-files : (b c : List ℕ) → OfBytes b → OfBytes c → bad_place b ≡ none → bad_place c ≡ none → form_in b ≡ form_in c

@@ -1,5 +1,5 @@
 -- What saving writes, as the number of the form and the fields of its sections; how long it is. Assumes nothing.
-use Rattle.std.specs.Prelude.{◌≡◌, refl, List, [], ◌∷◌, ◌++◌, ℕ, ◌+◌, ◌*◌, ◌≤◌, length, take}
+use Rattle.std.specs.Prelude.{◌≡◌, refl, List, [], ◌∷◌, ◌++◌, ℕ, ◌+◌, ◌*◌, length, take}
 use Rattle.std.proofs.Math.Path.{ap}
 use Rattle.std.proofs.Common.{◌∙◌, arith, length-append}
 use Rattle.rules.specs.State.{State}
@@ -13,8 +13,6 @@ use Rattle.promises_of_saving.specs.FileWords.{length-file, file-of-bytes}
 use Rattle.promises_of_saving.specs.Numbered.{numbered, length-numbered, form-of-numbered, sections-of-numbered}
 use Rattle.promises_of_saving.specs.WrittenResources.{length_fields}
 use Rattle.promises_of_saving.specs.WrittenShared.{length-names-fields, length-tokens-fields}
-use Rattle.promises_of_saving.specs.Savable.{Savable}
-use Rattle.promises_of_saving.specs.SavedParts.{few-names, few-tokens}
 
 -- ---- the fields behind the number: section 1's count and the registers that both forms have; the detail; the memory's length, the doorbell flag and
 -- section 2's count; and what comes after them
@@ -96,7 +94,3 @@ module _ (f : Form) (s : State) where
 abbrev pub most_bytes : Form → ℕ
 most_bytes One = 3168
 most_bytes Two = 6252
-
-pub longest-file : (f : Form) (s : State) → Savable s → length (saved f s) ≤ most_bytes f
-longest-file One s v = omega (arith, length-saved One s, few-names s v)
-longest-file Two s v = omega (arith, length-saved Two s, few-names s v, few-tokens s v)

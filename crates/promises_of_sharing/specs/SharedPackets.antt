@@ -1,13 +1,12 @@
 -- Wish 5, what an export, an import and a release come to, rule by rule and in their order. Of any progress. Assumes nothing.
-use Rattle.std.specs.Prelude.{◌≡◌, refl, Bool, true, false, ◌||◌, List, ℕ, ◌-◌, ◌≤◌, ◌<◌, eqb, length}
-use Rattle.std.proofs.Common.{ap, ◌∙◌}
+use Rattle.std.specs.Prelude.{◌≡◌, refl, Bool, true, false, ◌||◌, List, ℕ, ◌≤◌, ◌<◌, eqb, length}
 use borrow.Author.Tests.{eq-eqb, ne_eqb, le-leb, lt-leb}
 use Rattle.rules.specs.Numbers.{bad_handle, bad_shape, too_many, bad_token, unbound_token, most, most_tokens}
 use Rattle.rules.specs.Lists.{lookup, pushed}
 use Rattle.rules.specs.Lists.Found.{none, found}
 use Rattle.rules.specs.Judging.{refusal}
 use Rattle.rules.specs.Names.{token_of, shareable, without_token}
-use Rattle.rules.specs.Packets.{live, bound, on_export_packet, on_import_packet, on_release_packet, apply, Progress, Passed, target_after, tokens_after, pass}
+use Rattle.rules.specs.Packets.{live, bound, on_import_packet, on_release_packet, apply, Progress, Passed, target_after, tokens_after, pass}
 use Rattle.rules.specs.declared.Entry.{Entry}
 use Rattle.rules.specs.declared.Resource.{Resource}
 use Rattle.rules.specs.declared.Token.{Token}
@@ -16,23 +15,21 @@ use Rattle.rules.specs.declared.ImportSurface.{ImportSurface}
 use Rattle.rules.specs.declared.ReleaseToken.{ReleaseToken}
 use Rattle.rules.specs.declared.Verdict.TheVariants.{Fine, Broken}
 use Rattle.rules.specs.declared.Packet.TheVariants.{Export, Import, Release}
-use Rattle.promises_of_packets.specs.Names.{lookup-released, lookup-unreleased}
-use Rattle.promises_of_packets.specs.SoundNames.{bound-is}
 use Rattle.promises_of_packets.specs.Effects.{imported}
 use Rattle.promises_of_sharing.specs.Shared.{Spent}
 
 -- ---- "The handle check (18, create's rule for import) comes first, then shape, token, room."
 
 -- what is held, without a token
-abbrev released_from : Progress → ℕ → Passed
+abbrev pub released_from : Progress → ℕ → Passed
 released_from h token = record { verdict = Fine; held = record { holdings = h.holdings; target = h.target; tokens = without_token token h.tokens } }
 
-or-true : (b : Bool) → b || true ≡ true
+pub or-true : (b : Bool) → b || true ≡ true
 or-true true = refl
 or-true false = refl
 
 module _ (es : List Entry) (h : Progress) where
-  abbrev refused_with : ℕ → Passed
+  abbrev pub refused_with : ℕ → Passed
   refused_with n = record { verdict = Broken (refusal n); held = h }
 
   -- "Only textures with one mip and one layer may be exported, else 20. Export gives 28 for token 0, a token ever bound to another resource or
@@ -52,19 +49,6 @@ module _ (es : List Entry) (h : Progress) where
     pub new-token : (r : Resource) → live c.handle h.holdings ≡ found r → shareable r.kind ≡ true → (c.token ≡ 0 → ⊥)
         → lookup token_of c.token h.tokens ≡ none → length h.tokens < most_tokens
         → pass es h (Export c) ≡ record { verdict = Fine; held = record { holdings = h.holdings; target = h.target; tokens = pushed h.tokens (record { name = r.lowest; token = c.token }) } }
-
-  pub when-an-export-is-accepted : (c : ExportSurface) → ExportPacket c
-  unfolding pass apply on_export_packet target_after tokens_after
-  when-an-export-is-accepted c =
-      record {
-        not_live = λ e. rw e;
-        wrong-shape = λ r e k. rw (e, k);
-        token-0 = λ r e k z. rw (e, k, eq-eqb c.token 0 z);
-        of-another-one = λ r e k t f n. rw (e, k, f, ne_eqb t.name r.lowest n, or-true (eqb c.token 0));
-        again = λ r e k z t f n. rw (e, k, ne_eqb c.token 0 z, f, eq-eqb t.name r.lowest n);
-        no_room = λ r e k z f l. rw (e, k, ne_eqb c.token 0 z, f, le-leb most_tokens (length h.tokens) l);
-        new-token = λ r e k z f l. rw (e, k, ne_eqb c.token 0 z, f, lt-leb most_tokens (length h.tokens) l);
-      }
 
   -- "Import and release give 29 for a token not bound to a live resource": exactly then, once the handle is good
   pub record ImportPacket (c : ImportSurface) : Type 0 where
@@ -96,23 +80,10 @@ module _ (es : List Entry) (h : Progress) where
     pub leaves-others : (r : Resource) → bound c.token h.tokens h.holdings.resources ≡ found r → (token : ℕ) → (token ≡ c.token → ⊥)
         → lookup token_of token (pass es h (Release c)).held.tokens ≡ lookup token_of token h.tokens
 
-  release-is : (c : ReleaseToken) (r : Resource) → bound c.token h.tokens h.holdings.resources ≡ found r → pass es h (Release c) ≡ released_from h c.token
+  pub release-is : (c : ReleaseToken) (r : Resource) → bound c.token h.tokens h.holdings.resources ≡ found r → pass es h (Release c) ≡ released_from h c.token
   unfolding pass apply on_release_packet target_after tokens_after
   release-is c r e = rw e
 
-  release-not : (c : ReleaseToken) → bound c.token h.tokens h.holdings.resources ≡ none → pass es h (Release c) ≡ refused_with unbound_token
+  pub release-not : (c : ReleaseToken) → bound c.token h.tokens h.holdings.resources ≡ none → pass es h (Release c) ≡ refused_with unbound_token
   unfolding pass apply on_release_packet target_after tokens_after
   release-not c e = rw e
-
-  pub when-a-release-is-accepted : (c : ReleaseToken) → ReleasePacket c
-  when-a-release-is-accepted c =
-      record {
-        not-bound = release-not c;
-        released = release-is c;
-        spends_it = λ r e.
-            let b = bound-is c.token h.tokens h.holdings.resources r e in
-            ap (λ (o : Passed). lookup token_of c.token o.held.tokens) (release-is c r e) ∙ lookup-released c.token h.tokens b.0 b.1;
-        leaves-others = λ r e token other.
-            let b = bound-is c.token h.tokens h.holdings.resources r e in
-            ap (λ (o : Passed). lookup token_of token o.held.tokens) (release-is c r e) ∙ lookup-unreleased c.token h.tokens b.0 b.1 token other;
-      }

@@ -14,7 +14,7 @@ use Rattle.rules.specs.Table.{take_entry}
 use Rattle.rules.specs.Stream.{frame_of, size_of, left}
 use Rattle.rules.specs.StatePackets.{bad_sides}
 use Rattle.rules.specs.Packets.{Outcome, at_first, live_texture, on_target_packet, on_scissor_packet, apply, Progress, if-fine, target_after, pass, pass_frame, take_packet, Belongings, tokens_after}
-use Rattle.rules.specs.State.{Work, State, World}
+use Rattle.rules.specs.State.{Work, World}
 use Rattle.rules.specs.State.Work.{resting, entries, packets, waiting}
 use Rattle.rules.specs.Steps.{packets_at, entries_at}
 use Rattle.rules.specs.declared.Entry.{Entry}
@@ -33,12 +33,8 @@ use Rattle.rules.specs.declared.Packet.{Packet}
 use Rattle.rules.specs.declared.Packet.TheVariants.{Buffer, Texture, Destroy, Dirty, Copy, Target, Viewport, Scissor, Clear, Export, Import, Release, NotANumber, Unknown}
 use Rattle.stream_packets.specs.Framing.{frame-sound}
 use Rattle.promises_of_packets.specs.Effects.{target-or}
-use Rattle.promises_of_packets.specs.Held.{Every, LiveTexture, TargetLives}
-use Rattle.promises_of_units.specs.Called.{Called}
-use Rattle.promises_of_units.specs.Sound.{SoundWork}
+use Rattle.promises_of_packets.specs.Held.{Every, LiveTexture}
 use Rattle.promises_of_units.specs.Units.{Next}
-use Rattle.promises_of_units.specs.Kept.{AnyMemory, lent_any, KeptByUnits, called-keeps}
-use Rattle.promises_of_units.specs.Ranges.{called-sound}
 
 -- ---- set
 
@@ -155,12 +151,8 @@ module _ (es : List Entry) (h : Progress) (c : SetScissor) where
 
 -- ---- of any device that was made and called
 
--- a target is a live texture for as long as it lasts
-pub called-target-lives : (s : State) → Called s → (j : Job) (t : Stream) (at : ℕ) (es : List Entry) (h : Progress) → s.work ≡ packets j t at es h → TargetLives h
-called-target-lives s k j t at es h e = let here : SoundWork (packets j t at es h) = subst SoundWork e (called-sound s k).work in here.1.target
-
 -- the first packet stands at 24
-abbrev BeginsWithNone : Work → Type 0
+abbrev pub BeginsWithNone : Work → Type 0
 BeginsWithNone resting = 0 ≤ 0
 BeginsWithNone (entries o kept) = 0 ≤ 0
 BeginsWithNone (packets j t at es h) = (stream_header_size ≤ at) × (at ≡ stream_header_size → h.target ≡ 0)
@@ -189,20 +181,10 @@ goes_on es h b = by_frame (frame_of b) refl
     by_frame (Whole op size) e v = (frame-sound b op size e).header
     by_frame (Misframed r) e v = absurd (let z : ◌≡◌ {A = ℕ} 0 1 = cc in omega arith)
 
-next-begins : (w : World) (k next : Work) → Next w k next → BeginsWithNone k → BeginsWithNone next
+pub next-begins : (w : World) (k next : Work) → Next w k next → BeginsWithNone k → BeginsWithNone next
 next-begins w resting next h b = subst BeginsWithNone (sym h.first) (entries-begin h.what [] w.state.belongings)
 next-begins w (entries o kept) next h b = subst BeginsWithNone (sym h.1) (entries-begin o (take_entry w.mem o.table kept).kept w.state.belongings)
 next-begins w (packets j t at es held) next h b =
     let more : packet_header_size ≤ size_of (frame_of (left w.mem t at)) = goes_on es held (left w.mem t at) h.0 in
     subst BeginsWithNone (sym h.1) (packets-begin j t _ es _ (omega (arith, b.0)) (λ z. absurd (omega (arith, b.0))))
 next-begins w (waiting j es held) next h b = subst BeginsWithNone (sym h) b
-
--- a submission begins with no target
-pub first-packet-finds-no-target : (s : State) → Called s → (j : Job) (t : Stream) (at : ℕ) (es : List Entry) (h : Progress) → s.work ≡ packets j t at es h
-    → at ≡ stream_header_size → h.target ≡ 0
-first-packet-finds-no-target s k j t at es h e =
-    let here : BeginsWithNone (packets j t at es h) = subst BeginsWithNone e (called-keeps kept s k (lent_any s k)) in
-    here.1
-  where
-    kept : KeptByUnits AnyMemory (λ memory work. BeginsWithNone work)
-    kept = record { rests = λ n. omega arith; works-on = λ w l d. next-begins w; marks = λ j r m d. d }

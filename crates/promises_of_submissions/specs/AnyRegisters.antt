@@ -8,21 +8,20 @@ use mathlib.Core.List.{List, [], ◌∷◌}
 use Rattle.machine.specs.Machine.{Out, run_none, run-go}
 use Rattle.rules.specs.Judging.{Finding, at_place}
 use Rattle.rules.specs.Judging.Finding.{fine, broken}
-use Rattle.rules.specs.Table.{entries_of, take_entry}
+use Rattle.rules.specs.Table.{take_entry}
 use Rattle.rules.specs.Stream.{left}
-use Rattle.rules.specs.Packets.{Progress, at_first, take_packet}
-use Rattle.rules.specs.State.{Work, World, working, registering}
+use Rattle.rules.specs.Packets.{Progress, take_packet}
+use Rattle.rules.specs.State.{Work, World, registering}
 use Rattle.rules.specs.State.Work.{resting, entries, packets, waiting}
 use Rattle.rules.specs.Settle.{settled}
-use Rattle.rules.specs.Steps.{entries_at, after_entry, entry_step, after_packet, next_place, packet_step, step_on, step, busy, go, run_for}
-use Rattle.rules.specs.Unsliced.{submission, finished}
+use Rattle.rules.specs.Steps.{after_entry, entry_step, after_packet, next_place, packet_step, step_on, step, busy, go, run_for}
+use Rattle.rules.specs.Unsliced.{finished}
 use Rattle.rules.specs.declared.Entry.{Entry}
 use Rattle.rules.specs.declared.Job.{Job}
 use Rattle.rules.specs.declared.Registers.{Registers}
 use Rattle.rules.specs.declared.Stream.{Stream}
 use Rattle.rules.specs.declared.Opened.{Opened}
-use Rattle.promises_of_submissions.specs.Whole.{midst, Course}
-use Rattle.promises_of_submissions.specs.Submission.{Lies, later_units, table_judged, packets_judged, course_started, submission-units}
+use Rattle.promises_of_submissions.specs.Whole.{midst}
 
 -- ---- a unit that is not a submission's last takes no heed of the registers
 
@@ -91,19 +90,3 @@ module _ (q : Registers) (on : q.enabled ≡ true) where
       ap (under rs q) turned
       ∙ (under-any-registers rs (registering r (step (registering q x))) later
       ∙ (ap (λ (y : World). (run_for (suc (length rs)) y).state) same ∙ sym (on-it (suc (length rs)))))
-
--- ---- a submission that was opened, and its units after the opening, whatever registers stand at each, the device being enabled at the last:
--- what the unsliced rules give, settled by the registers that stand at the last one
-
-pub writes-between-units : (w : World) (o : Opened) → Lies w.mem o → (rs : List Registers) (q : Registers) → q.enabled ≡ true
-    → suc (suc (length rs)) ≡ (submission w.mem o (at_first w.state.belongings)).units
-    → under rs q (working (entries_at o [] w.state.belongings) w)
-    ≡ finished (registering q w) o.job (entries_of w.mem o.table) (submission w.mem o (at_first w.state.belongings)).held (submission w.mem o (at_first w.state.belongings)).finding
-writes-between-units w o lies rs q on e = by_count (later_units (table_judged (registering q w) on o lies).finding (table_judged (registering q w) on o lies).count (packets_judged (registering q w) on o lies).count) (course_started (registering q w) on o lies) (e ∙ submission-units (registering q w) on o lies)
-  where
-    by_count : (n : ℕ) {v : World} → Course n (registering q (working (entries_at o [] w.state.belongings) w)) v → suc (suc (length rs)) ≡ suc n
-        → under rs q (working (entries_at o [] w.state.belongings) w) ≡ v
-    by_count n {v} c p =
-        let units : suc (length rs) ≡ n = omega arith in
-        under-any-registers q on rs (working (entries_at o [] w.state.belongings) w) (λ i h. c.inside i (omega arith))
-        ∙ (ap (λ k. (run_for k (registering q (working (entries_at o [] w.state.belongings) w))).state) units ∙ ap (λ (x : Out World). x.state) c.ends)

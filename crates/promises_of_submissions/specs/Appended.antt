@@ -2,25 +2,16 @@
 -- opcodes gives the packet, come to the same finding, records, resources and tokens, whatever stands past those bytes. Assumes nothing.
 use Rattle.std.specs.Prelude.{◌≡◌, List, [], ◌++◌, ℕ, zero, suc, ◌+◌, ◌≤◌, ◌<◌, length, drop}
 use Rattle.std.proofs.Math.Path.{refl}
-use Rattle.std.proofs.Common.{sym, ap, ◌∙◌, arith, length-drop, length-append}
-use Rattle.std.proofs.lemmas.List.{take-append-le}
-use Rattle.std.proofs.Math.Seq.{drop-append-add, drop-append_seam}
+use Rattle.std.proofs.Common.{arith}
 use Rattle.rules.specs.Layouts.{word, packet_header_size, entry_size, stream_header_size}
-use Rattle.rules.specs.Table.{entry_place, entries_from, entries_of}
-use Rattle.rules.specs.Stream.{least_size, frame_of, cut, left, packets_of}
-use Rattle.rules.specs.Packets.{Progress}
-use Rattle.rules.specs.Unsliced.{judge_packets, submission}
-use Rattle.rules.specs.declared.Entry.{Entry}
+use Rattle.rules.specs.Table.{entry_place, entries_from}
+use Rattle.rules.specs.Stream.{least_size, frame_of, left}
 use Rattle.rules.specs.declared.Refusal.{Refusal}
 use Rattle.rules.specs.declared.Table.{Table}
-use Rattle.rules.specs.declared.Stream.{Stream}
 use Rattle.rules.specs.declared.Opened.{Opened}
-use Rattle.rules.specs.declared.Frame.{Frame}
 use Rattle.rules.specs.declared.Frame.TheVariants.{Whole, Misframed}
 use Rattle.stream_packets.specs.Framing.{FrameFits, frame-sound}
-use Rattle.stream_packets.specs.Listing.{cut-packet}
-use Rattle.promises_of_submissions.specs.LocalBytes.{Agree, same_first, same-field, same-entry}
-use Rattle.promises_of_submissions.specs.LocalPackets.{same-frame, same-packet}
+use Rattle.promises_of_submissions.specs.LocalBytes.{Agree, same-entry}
 
 -- what is left of two streams from a place on. Both end there; or both have a packet there of one opcode and one size, whose row's bytes
 -- agree, and behind it the same again; or both are misframed alike. Left open are a known packet's bytes past its table size, and all of
@@ -32,28 +23,10 @@ pub data SameButAppended : List ℕ → List ℕ → Type 0 where
   misframed : {b b' : List ℕ} (r : Refusal) → length b ≡ length b' → frame_of b ≡ Misframed r → frame_of b' ≡ Misframed r → SameButAppended b b'
 
 -- a whole packet is not empty
-whole-some : (b : List ℕ) (op size : ℕ) → frame_of b ≡ Whole op size → 0 < length b
+pub whole-some : (b : List ℕ) (op size : ℕ) → frame_of b ≡ Whole op size → 0 < length b
 whole-some b op size e =
     let fits : FrameFits b op size = frame-sound b op size e in
     omega (arith, fits.header, fits.inside)
-
--- the packets of two such streams are the same
-pub same-pieces : (k at : ℕ) (b b' : List ℕ) → SameButAppended b b' → cut k at b ≡ cut k at b'
-unfolding cut
-same-pieces zero at b b' same = refl
-same-pieces (suc k) at b b' ends = refl
-same-pieces (suc k) at b b' (packet op size e e' same later) =
-    rw (cut-packet k at b (whole-some b op size e), cut-packet k at b' (whole-some b' op size e'), e, e')
-    (rw (same-packet b b' op size (frame-sound b op size e).known same, same-pieces k (at + size) (drop size b) (drop size b') later))
-same-pieces (suc k) at b b' (misframed r len e e') = rw (len, e, e')
-
--- and so is what they come to: the first broken rule and its place, the resources, records and tokens held, and how many were judged. The streams may stand in
--- two memories, and at two places.
-pub appended-bytes-cannot-matter : (m m' : List ℕ) (s s' : Stream) → s.size ≡ s'.size
-    → SameButAppended (left m s stream_header_size) (left m' s' stream_header_size)
-    → (es : List Entry) (h : Progress) → judge_packets es h (packets_of m s) ≡ judge_packets es h (packets_of m' s')
-appended-bytes-cannot-matter m m' s s' size same es h =
-    ap (judge_packets es h) (same-pieces s.size stream_header_size _ _ same ∙ ap (λ (k : ℕ). cut k stream_header_size (left m' s' stream_header_size)) size)
 
 -- ---- a submission, of what was opened
 
@@ -62,75 +35,21 @@ pub record SameSubmission (m m' : List ℕ) (o : Opened) (i : ℕ) : Type 0 wher
   pub table : (k : ℕ) → i ≤ k → k < o.table.count → Agree m m' (entry_place o.table k) entry_size
   pub stream : SameButAppended (left m o.stream stream_header_size) (left m' o.stream stream_header_size)
 
-same_entries : (m m' : List ℕ) (t : Table) (n i : ℕ) → ((k : ℕ) → i ≤ k → k < i + n → Agree m m' (entry_place t k) entry_size)
+pub same_entries : (m m' : List ℕ) (t : Table) (n i : ℕ) → ((k : ℕ) → i ≤ k → k < i + n → Agree m m' (entry_place t k) entry_size)
     → entries_from m t i n ≡ entries_from m' t i n
 unfolding entries_from
 same_entries m m' t zero i same = refl
 same_entries m m' t (suc n) i same =
     rw (same-entry m m' (entry_place t i) (same i (omega arith) (omega arith)), same_entries m m' t n (suc i) (λ k h l. same k (omega arith) (omega arith)))
 
-module _ (m m' : List ℕ) (len : length m ≡ length m') (o : Opened) (same : SameSubmission m m' o 0) where
-  -- the same entries
-  pub same-table : entries_of m o.table ≡ entries_of m' o.table
-  same-table = same_entries m m' o.table o.table.count 0 (λ k h l. same.table k h (omega arith))
-
-  -- the unsliced rules come to the same finding, resources, records, tokens and units
-  pub appended-bytes-same-submission : (h : Progress) → submission m o h ≡ submission m' o h
-  unfolding submission
-  appended-bytes-same-submission h =
-      rw (len, same-table, appended-bytes-cannot-matter m m' o.stream o.stream refl same.stream (entries_of m' o.table) h)
-
 -- ---- of bytes: any that are appended to a packet may be exchanged for as many others
-
-same_here : (b : List ℕ) → ((op size : ℕ) → frame_of b ≡ Whole op size → SameButAppended (drop size b) (drop size b)) → SameButAppended b b
-same_here b later = by_frame (frame_of b) refl
-  where
-    by_frame : (f : Frame) → frame_of b ≡ f → SameButAppended b b
-    by_frame (Whole op size) e = packet op size e e refl (later op size e)
-    by_frame (Misframed r) e = misframed r refl e e
-
-same_within : (k : ℕ) (b : List ℕ) → length b ≤ k → SameButAppended b b
-same_within zero b h = same_here b (λ op size e. absurd (omega (arith, whole-some b op size e)))
-same_within (suc k) b h =
-    same_here b (λ op size e.
-    let head : packet_header_size ≤ size = (frame-sound b op size e).header in
-    same_within k (drop size b) (rw length-drop (omega arith)))
-
--- a stream and itself
-pub same_stream : (b : List ℕ) → SameButAppended b b
-same_stream b = same_within (length b) b (omega arith)
 
 -- x has a packet's header and its row's bytes at least, y or y' stands behind it up to the packet's size, and behind that z or z', the same
 -- but for appended bytes
 module _ (x y y' z z' : List ℕ) (head : packet_header_size ≤ length x) (row : least_size (word x 0) ≤ length x)
     (size_is : word x 4 ≡ length x + length y) (len : length y ≡ length y') (later-len : length z ≡ length z') (later : SameButAppended z z') where
-  abbrev one : List ℕ
+  abbrev pub one : List ℕ
   one = x ++ (y ++ z)
 
-  abbrev other : List ℕ
+  abbrev pub other : List ℕ
   other = x ++ (y' ++ z')
-
-  front : (n : ℕ) → n ≤ length x → Agree one other 0 n
-  front n h = take-append-le n x (y ++ z) h ∙ sym (take-append-le n x (y' ++ z') h)
-
-  as_long : length one ≡ length other
-  as_long = simp (length-append, len, later-len)
-
-  behind : (u v : List ℕ) → drop (length x + length u) (x ++ (u ++ v)) ≡ v
-  behind u v = drop-append-add x (u ++ v) (length u) ∙ drop-append_seam u v
-
-  by_frame : (f : Frame) → frame_of one ≡ f → SameButAppended one other
-  by_frame (Whole op size) e =
-      let fits : FrameFits one op size = frame-sound one op size e in
-      let own : Agree one x 0 packet_header_size = take-append-le packet_header_size x (y ++ z) head in
-      let op-is : op ≡ word x 0 = fits.opcode ∙ same_first one x 0 packet_header_size own 4 (omega arith) in
-      let long : size ≡ length x + length y = fits.stated ∙ (same-field one x 0 packet_header_size own 4 4 (omega arith) ∙ size_is) in
-      let rest : drop size one ≡ z = rw long (behind y z) in
-      let rest' : drop size other ≡ z' = rw (long, len) (behind y' z') in
-      packet op size e (sym (same-frame one other as_long (λ _. front packet_header_size head)) ∙ e) (front (least_size op) (rw op-is row))
-      (rw (rest, rest') later)
-  by_frame (Misframed r) e = misframed r as_long e (sym (same-frame one other as_long (λ _. front packet_header_size head)) ∙ e)
-
-  -- whatever y and y' are
-  pub exchanged : SameButAppended one other
-  exchanged = by_frame (frame_of one) refl

@@ -1,12 +1,10 @@
 -- An opening reads the ring's header, the head's slot, and the headers of the table and of the stream, each only where the rules before
 -- it let it be read. Assumes nothing.
-use Rattle.std.specs.Prelude.{◌≡◌, Bool, ◌&&◌, List, ltb, eqb, length}
+use Rattle.std.specs.Prelude.{◌≡◌, Bool, List, ltb, length}
 use Rattle.std.proofs.Math.Path.{refl, ap}
-use Rattle.std.proofs.Common.{sym, ◌∙◌, leb-true, ltb-false}
+use Rattle.std.proofs.Common.{sym, ◌∙◌, ltb-false}
 use Rattle.std.proofs.Math.Bool.{true, false}
 use Prim.Native.Nat.{ℕ, ◌+◌, ◌≤◌}
-use Rattle.std.proofs.lemmas.Bool.{eqb-false}
-use Rattle.std.proofs.Math.Dec.{leb}
 use Rattle.machine.specs.Machine.{pick}
 use Rattle.rules.specs.Numbers.{bad_table, bad_stream}
 use Rattle.rules.specs.Judging.{refusal, only, ◌▹◌}
@@ -14,7 +12,7 @@ use Rattle.rules.specs.Layouts.{ring_header, ring_header_size, descriptor, descr
 use Rattle.rules.specs.Headers.{wrong_header}
 use Rattle.rules.specs.Table.{header_rules, checked_table, no_table}
 use Rattle.rules.specs.Stream.{stream_rules, stream_of, no_stream}
-use Rattle.rules.specs.Ring.{present, descriptor_rules, range_rules, submission_rules, job_of, opened_of, concluded, slot_place, submission_opening, good_header, good_ring, ring_opening, opening_of}
+use Rattle.rules.specs.Ring.{present, descriptor_rules, range_rules, submission_rules, opened_of, concluded, slot_place, submission_opening, good_ring}
 use Rattle.rules.specs.declared.RingHeader.{RingHeader}
 use Rattle.rules.specs.declared.Descriptor.{Descriptor}
 use Rattle.rules.specs.declared.TableHeader.{TableHeader}
@@ -23,10 +21,9 @@ use Rattle.rules.specs.declared.Job.{Job}
 use Rattle.rules.specs.declared.Opened.{Opened}
 use Rattle.rules.specs.declared.Verdict.{Verdict}
 use Rattle.rules.specs.declared.Verdict.TheVariants.{Fine, Broken}
-use Rattle.rules.specs.declared.Opening.{Opening}
-use Rattle.rules.specs.declared.Opening.TheVariants.{BadRing, NoWork, Started}
-use Rattle.rule_laws.specs.Fine.{broken-not-fine, both_left, both_right}
-use Rattle.promises_of_submissions.specs.LocalBytes.{Agree, same-ring-header, same-descriptor, same-table-header, same-stream-header}
+use Rattle.rules.specs.declared.Opening.TheVariants.{Started}
+use Rattle.rule_laws.specs.Fine.{broken-not-fine}
+use Rattle.promises_of_submissions.specs.LocalBytes.{Agree, same-table-header, same-stream-header}
 
 -- the rules of a table that is present, if one is
 abbrev pub table_fine : List ℕ → Descriptor → Verdict
@@ -121,7 +118,7 @@ module _ (m m' : List ℕ) (d : Descriptor) (same : SameRanges m m' d) where
       by-verdict (Broken r) f = refl
 
 module _ (m m' : List ℕ) (len : length m ≡ length m') where
-  same-submission : (stride : ℕ) (j : Job) (d : Descriptor)
+  pub same-submission : (stride : ℕ) (j : Job) (d : Descriptor)
       → (descriptor_rules stride d ≡ Fine → range_rules (length m) d ≡ Fine → SameRanges m m' d)
       → submission_opening m stride j d ≡ submission_opening m' stride j d
   unfolding submission_opening submission_rules
@@ -136,51 +133,5 @@ module _ (m m' : List ℕ) (len : length m ≡ length m') where
   -- ---- the ring
 
   module _ (ring size : ℕ) (same : SameOpening m m' ring size) where
-    abbrev header : RingHeader
+    abbrev pub header : RingHeader
     header = ring_header m ring
-
-    same_good : good_ring m ring size ≡ good_ring m' ring size
-    unfolding good_ring
-    same_good = rw (← len) (by_tests (leb ring_header_size size) (leb (ring + size) (length m)) refl refl)
-      where
-        by_tests : (a b : Bool) → leb ring_header_size size ≡ a → leb (ring + size) (length m) ≡ b
-            → a && (b && good_header size (ring_header m ring)) ≡ a && (b && good_header size (ring_header m' ring))
-        by_tests true true p q =
-            ap (good_header size) (same-ring-header m m' ring (same.header (leb-true ring_header_size size p) (leb-true (ring + size) (length m) q)))
-        by_tests true false p q = refl
-        by_tests false b p q = refl
-
-    module _ (good : good_ring m ring size ≡ true) where
-      same-header : header ≡ ring_header m' ring
-      unfolding good_ring
-      same-header =
-          same-ring-header m m' ring
-          (same.header (leb-true ring_header_size size (both_left _ _ good))
-          (leb-true (ring + size) (length m) (both_left _ _ (both_right (leb ring_header_size size) _ good))))
-
-      same-slot : ring_opening m ring header ≡ ring_opening m' ring header
-      unfolding ring_opening
-      same-slot = by_test (eqb header.head header.tail) refl
-        where
-          place : ℕ
-          place = slot_place ring header
-
-          opened : List ℕ → Descriptor → Opening
-          opened l d = submission_opening l header.stride (job_of ring header d) d
-
-          by_test : (t : Bool) → eqb header.head header.tail ≡ t
-              → pick t NoWork (opened m (descriptor m place)) ≡ pick t NoWork (opened m' (descriptor m' place))
-          by_test true t = refl
-          by_test false t =
-              let slot : SameSlot m m' place header.stride = same.pending good (eqb-false header.head header.tail t) in
-              same-submission header.stride (job_of ring header (descriptor m place)) (descriptor m place) slot.ranges
-              ∙ ap (opened m') (same-descriptor m m' place slot.slot)
-
-    -- the same opening, whatever stands elsewhere
-    pub same-opening : opening_of m ring size ≡ opening_of m' ring size
-    unfolding opening_of
-    same-opening = rw (← same_good) (by_test (good_ring m ring size) refl)
-      where
-        by_test : (t : Bool) → good_ring m ring size ≡ t → pick t (ring_opening m ring header) BadRing ≡ pick t (ring_opening m' ring (ring_header m' ring)) BadRing
-        by_test true t = same-slot t ∙ ap (ring_opening m' ring) (same-header t)
-        by_test false t = refl

@@ -1,36 +1,30 @@
 -- A unit reads where it stands and nothing else: over two memories that hold the same bytes there, whatever stands elsewhere, it comes
 -- to the same state and writes the same. So a front that has read ahead, or reads what it has kept once more, is shut out. Assumes nothing.
 use Rattle.std.specs.Prelude.{◌≡◌, refl, Bool, List, [], ◌∷◌, ℕ, ◌≤◌, length}
-use Rattle.std.proofs.Common.{ap, ◌∙◌}
 use Rattle.std.proofs.Math.Bool.{true, false}
-use Rattle.machine.specs.Machine.{pick, halt, spent, run_while}
-use Rattle.rules.specs.Numbers.{other_memory}
-use Rattle.rules.specs.Judging.{Finding, at_place}
+use Rattle.rules.specs.Judging.{Finding}
 use Rattle.rules.specs.Judging.Finding.{fine, broken}
 use Rattle.rules.specs.Layouts.{entry_size}
 use Rattle.rules.specs.Table.{entry_place, take_entry}
-use Rattle.rules.specs.Stream.{left}
-use Rattle.rules.specs.Ring.{opening_of}
-use Rattle.rules.specs.Packets.{Progress, take_packet}
+use Rattle.rules.specs.Packets.{Progress}
 use Rattle.rules.specs.State.{Work, State, World}
 use Rattle.rules.specs.State.Work.{resting, entries, packets, waiting}
 use Rattle.rules.specs.Settle.{settled}
-use Rattle.rules.specs.Steps.{after_opening, open_step, after_entry, entry_step, after_packet, next_place, packet_step, step_on, step, go, answer_on, answered}
-use Rattle.rules.specs.Calls.{lent_another, ending, Ran, ran, call_run}
+use Rattle.rules.specs.Steps.{after_opening, after_entry, after_packet, go, answer_on, answered}
+use Rattle.rules.specs.Calls.{Ran, call_run}
 use Rattle.rules.specs.declared.Entry.{Entry}
 use Rattle.rules.specs.declared.Job.{Job}
 use Rattle.rules.specs.declared.Registers.{Registers}
 use Rattle.rules.specs.declared.Table.{Table}
 use Rattle.rules.specs.declared.Stream.{Stream}
 use Rattle.rules.specs.declared.Opened.{Opened}
-use Rattle.rules.specs.declared.Ended.TheVariants.{Idle}
 use Rattle.rules.specs.declared.Opening.{Opening}
 use Rattle.rules.specs.declared.Opening.TheVariants.{BadRing, NoWork, Refused, Started}
 use Rattle.promises_of_submissions.specs.LocalBytes.{Agree, same-entry}
-use Rattle.promises_of_submissions.specs.LocalWrites.{SameWrites, AgreeAt, same-writes-agree}
+use Rattle.promises_of_submissions.specs.LocalWrites.{SameWrites}
 use Rattle.promises_of_submissions.specs.LocalWrites.SameWrites.{unwritten, settles}
-use Rattle.promises_of_submissions.specs.LocalPackets.{SamePacket, same-next-frame, same-taken-packet}
-use Rattle.promises_of_submissions.specs.LocalOpening.{SameOpening, same-opening}
+use Rattle.promises_of_submissions.specs.LocalPackets.{SamePacket}
+use Rattle.promises_of_submissions.specs.LocalOpening.{SameOpening}
 
 -- a device that is lent a memory
 abbrev pub lent : State → List ℕ → World
@@ -78,29 +72,6 @@ module _ (s : State) (m m' : List ℕ) where
   packet-blind j t next es h fine = record { state = refl; writes = unwritten }
   packet-blind j t next es h (broken f) = record { state = refl; writes = settles j }
 
-  module _ (len : length m ≡ length m') where
-    on-reads-only : (k : Work) → SameFor s.regs k m m' → SameEnd m m' (step_on (lent s m) k) (step_on (lent s m') k)
-    unfolding open_step entry_step packet_step
-    on-reads-only resting same =
-        rw (← same-opening m m' len s.regs.ring s.regs.ringsize same) (opening-blind (opening_of m s.regs.ring s.regs.ringsize))
-    on-reads-only (entries o kept) same =
-        rw (← same-taken-entry m m' len o.table kept same) (entry-blind o (take_entry m o.table kept).kept (at_place (length kept) (take_entry m o.table kept).verdict))
-    on-reads-only (packets j t at es h) same =
-        rw (← same-next-frame t at m m' len same, ← same-taken-packet t at m m' len same es h)
-        (packet-blind j t (next_place at (left m t at)) es (take_packet es h (left m t at)).held (at_place at (take_packet es h (left m t at)).verdict))
-    on-reads-only (waiting j es h) same = record { state = refl; writes = unwritten }
-
-    -- one unit, of one device over two memories of one length
-    pub unit-reads-only : SameWhereRead s m m' → SameEnd m m' (step (lent s m)) (step (lent s m'))
-    unfolding step
-    unit-reads-only same = on-reads-only s.work same
-
-    -- and a byte that differs after it differed before
-    pub unit-spreads-no-difference : SameWhereRead s m m' → (i : ℕ) → AgreeAt i m m' → AgreeAt i (step (lent s m)).mem (step (lent s m')).mem
-    unit-spreads-no-difference same i at =
-        let end : SameEnd m m' (step (lent s m)) (step (lent s m')) = unit-reads-only same in
-        same-writes-agree i (step (lent s m)).state.regs m m' (step (lent s m)).mem (step (lent s m')).mem len at end.writes
-
   -- what the host's answer comes to looks at none either
   answer-blind : (good : Bool) (k : Work) → SameEnd m m' (answer_on good (lent s m) k) (answer_on good (lent s m') k)
   unfolding settled
@@ -124,25 +95,6 @@ pub record SameRun (m m' : List ℕ) (x x' : Ran) : Type 0 where
   pub ended : x.ended ≡ x'.ended
   pub end : SameEnd m m' x.world x'.world
 
--- a run of one unit; of a device that does not go it reads nothing
-pub run-of-one-reads-only : (s : State) (m m' : List ℕ) → length m ≡ length m' → (go (lent s m) ≡ true → SameWhereRead s m m')
-    → SameRun m m' (call_run (lent s m) 1) (call_run (lent s m') 1)
-unfolding call_run run_while go
-run-of-one-reads-only s m m' len same = rw (← len) (by_tests (lent_another (lent s m)) (go (lent s m)) refl)
-  where
-    refused : World → Ran
-    refused w = record { answer = other_memory; units = 0; ended = Idle; world = w }
-
-    one : Bool → World → Ran
-    one b w = ran (pick b (spent 1 (halt (step w))) (halt w))
-
-    by_tests : (a b : Bool) → go (lent s m) ≡ b → SameRun m m' (pick a (refused (lent s m)) (one b (lent s m))) (pick a (refused (lent s m')) (one b (lent s m')))
-    by_tests true b g = record { answer = refl; units = refl; ended = refl; end = record { state = refl; writes = unwritten } }
-    by_tests false true g =
-        let unit : SameEnd m m' (step (lent s m)) (step (lent s m')) = unit-reads-only s m m' len (same g) in
-        record { answer = refl; units = refl; ended = ap ending unit.state; end = unit }
-    by_tests false false g = record { answer = refl; units = refl; ended = refl; end = record { state = refl; writes = unwritten } }
-
 -- ---- memory may move: runs of one unit each, each lent a memory of its own
 
 abbrev pub after_one : State → List ℕ → State
@@ -157,10 +109,3 @@ pub data SameWhenRead : State → List (List ℕ) → List (List ℕ) → Type 0
   ends : {s : State} → SameWhenRead s [] []
   unit : {s : State} {ms ms' : List (List ℕ)} (m m' : List ℕ) → length m ≡ length m' → (go (lent s m) ≡ true → SameWhereRead s m m')
       → SameWhenRead (after_one s m) ms ms' → SameWhenRead s (m ∷ ms) (m' ∷ ms')
-
--- so what a device comes to is fixed by the bytes that each unit reads, as they stand at that unit
-pub moving-memory-reads-only : (s : State) (ms ms' : List (List ℕ)) → SameWhenRead s ms ms' → over_moving ms s ≡ over_moving ms' s
-unfolding over_moving
-moving-memory-reads-only s ms ms' ends = refl
-moving-memory-reads-only s ms ms' (unit {ms = ns} {ms' = ns'} m m' len same later) =
-    moving-memory-reads-only (after_one s m) ns ns' later ∙ ap (over_moving ns') (run-of-one-reads-only s m m' len same).end.state

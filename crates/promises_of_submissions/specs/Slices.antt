@@ -2,7 +2,7 @@
 use Rattle.std.specs.Prelude.{◌≡◌, Bool, true, false, ◌&&◌, List, ℕ}
 use Rattle.std.proofs.Math.Bool.{and-false}
 use Rattle.std.proofs.Common.{arith}
-use Rattle.machine.specs.Schedule.{Event, Played, play, schedules}
+use Rattle.machine.specs.Schedule.{Event, Played, play}
 use Rattle.rules.specs.State.{Work, World}
 use Rattle.rules.specs.State.Work.{resting, entries, packets, waiting}
 use Rattle.rules.specs.Steps.{busy, step, go, waits_on, waits, answered}
@@ -24,9 +24,3 @@ waiting-stands-still w h = still-on w.state.regs.enabled w.state.regs.doorbell w
 -- runs, and host answers with a run after each, in order; an answer that nothing waits for is not accepted, and nothing is run
 abbrev pub played : List (Event Bool) → World → Played World Bool
 played = play go step world_waits answered
-
--- two schedules from one device and one memory that have spent the same units and had the same answers accepted stand in the
--- same state with the same memory
-pub same-units-same-answers-same-world : (es fs : List (Event Bool)) (w : World) → (played es w).units ≡ (played fs w).units
-    → (played es w).accepted ≡ (played fs w).accepted → (played es w).state ≡ (played fs w).state
-same-units-same-answers-same-world = schedules go step world_waits answered waiting-stands-still

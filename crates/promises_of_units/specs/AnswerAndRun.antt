@@ -1,12 +1,11 @@
 -- Wish 6, "answer and carry on in one call": the one call is the two old ones, one after the other, and with an allowance of 0 it is the old
 -- answer. "Answers 1 and 3 refuse the whole call, nothing run." Assumes nothing.
 use Rattle.std.specs.Prelude.{◌≡◌, refl, Bool, true, false, ℕ}
-use Rattle.std.proofs.Common.{sym, ap, ◌∙◌, arith, eq-eqb}
-use Rattle.machine.specs.Machine.{pick, run_none}
+use Rattle.machine.specs.Machine.{run_none}
 use Rattle.rules.specs.Numbers.{done, other_memory, nothing_waits}
 use Rattle.rules.specs.State.{World}
 use Rattle.rules.specs.Steps.{step, go, waits, answered}
-use Rattle.rules.specs.Calls.{not_run, lent_another, Ran, call_run, Answered, answer_alone, call_answer}
+use Rattle.rules.specs.Calls.{not_run, lent_another, Ran, call_run, answer_alone, call_answer}
 use Rattle.promises_of_units.specs.Runs.{of-answer}
 
 -- ---- the old answer, by what is lent and what waits
@@ -32,23 +31,6 @@ pub record IsBoth (w : World) (good : Bool) (n : ℕ) : Type 0 where
       → (call_answer w good n ≡ call_run (answer_alone w good).world n) × ((call_answer w good n).answer ≡ done)
   -- else it is refused with the old answer's number: 0 units and idle, and nothing changes
   pub refused : ((answer_alone w good).answer ≡ done → ⊥) → call_answer w good n ≡ not_run (answer_alone w good).answer w
-
-pub answer-and-run-is-both : (w : World) (good : Bool) (n : ℕ) → IsBoth w good n
-unfolding call_answer
-answer-and-run-is-both w good n =
-    record {
-      taken = λ h. (
-        ap (λ b. pick b (call_run (answer_alone w good).world n) (not_run (answer_alone w good).answer (answer_alone w good).world)) (eq-eqb _ _ h),
-        of-answer (λ (r : Ran). r.answer ≡ done) w good n
-            (λ e. absurd (let z : ◌≡◌ {A = ℕ} 0 1 = sym h ∙ ap (λ (a : Answered). a.answer) (refused-with-1 w good e) in omega arith))
-            (λ e f. absurd (let z : ◌≡◌ {A = ℕ} 0 3 = sym h ∙ ap (λ (a : Answered). a.answer) (refused-with-3 w good e f) in omega arith)) (λ e f. refl),
-      );
-      refused = λ h.
-          of-answer (λ (r : Ran). r ≡ not_run (answer_alone w good).answer w) w good n
-          (λ e. ap (λ (a : Answered). not_run a.answer w) (sym (refused-with-1 w good e)))
-          (λ e f. ap (λ (a : Answered). not_run a.answer w) (sym (refused-with-3 w good e f)))
-          (λ e f. absurd (h (ap (λ (a : Answered). a.answer) (taken-alone w good e f))));
-    }
 
 -- "an allowance of 0 is the old call": its answer and what it leaves; no unit is spent
 pub allowance-0-is-the-old-call : (w : World) (good : Bool)

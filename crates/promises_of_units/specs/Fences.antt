@@ -4,10 +4,9 @@ use Rattle.std.specs.Prelude.{◌≡◌, true, false, List, ℕ}
 use Rattle.std.proofs.Math.Path.{ap}
 use Rattle.std.proofs.Common.{◌∙◌}
 use Rattle.machine.specs.Machine.{Out}
-use Rattle.rules.specs.Numbers.{host_failed, no_record}
+use Rattle.rules.specs.Numbers.{host_failed}
 use Rattle.rules.specs.Judging.{refusal, without_place}
 use Rattle.rules.specs.Judging.Finding.{fine, broken}
-use Rattle.rules.specs.Lists.{nth}
 use Rattle.rules.specs.Ring.{opening_of}
 use Rattle.rules.specs.Table.{entries_of}
 use Rattle.rules.specs.Packets.{Progress, at_first, left_by}
@@ -37,35 +36,10 @@ module _ (w : World) (o : Opened) (opened : opening_of w.mem w.state.regs.ring w
   pub accepted-waits : judged.finding ≡ fine → (submitted w).state ≡ working (waiting o.job (entries_of w.mem o.table) judged.held) w
   accepted-waits e = ap (λ (x : Out World). x.state) is ∙ rw e
 
-  -- so the fence, the status, the head and the page stand as before the opening, and the device's resources and tokens too
-  pub waiting-keeps-registers : judged.finding ≡ fine → (submitted w).state.state.regs ≡ w.state.regs
-  waiting-keeps-registers e = ap (λ (x : World). x.state.regs) (accepted-waits e)
-
-  pub waiting-keeps-memory : judged.finding ≡ fine → (submitted w).state.mem ≡ w.mem
-  waiting-keeps-memory e = ap (λ (x : World). x.mem) (accepted-waits e)
-
-  pub waiting-keeps-belongings : judged.finding ≡ fine → (submitted w).state.state.belongings ≡ w.state.belongings
-  waiting-keeps-belongings e = ap (λ (x : World). x.state.belongings) (accepted-waits e)
-
   module _ (f : Fault) (e : judged.finding ≡ broken f) where
     -- refused: settled with the first broken rule, and its place
     pub refused-settles : (submitted w).state ≡ settled_keeping o.job (broken f) w
     refused-settles = ap (λ (x : Out World). x.state) is ∙ rw e
-
-    -- its error and its fence stand in the registers
-    pub refused-registers : (submitted w).state.state.regs ≡ ended_by o.job (broken f) w.state.regs
-    unfolding settled
-    refused-registers = ap (λ (x : World). x.state.regs) refused-settles
-
-    -- every resource is as it was
-    pub refused-keeps-belongings : (submitted w).state.state.belongings ≡ w.state.belongings
-    unfolding settled
-    refused-keeps-belongings = ap (λ (x : World). x.state.belongings) refused-settles
-
-    -- and nothing is handed out: every record call answers 4
-    pub refused-hands-out-nothing : (i : ℕ) → call_record (submitted w).state.state i ≡ record { answer = no_record; range = no_range }
-    unfolding settled call_record nth
-    refused-hands-out-nothing i = ap (λ (x : World). call_record x.state i) refused-settles
 
 -- ---- a submission that its opening refuses
 
@@ -74,14 +48,6 @@ module _ (w : World) (j : Job) (r : Refusal) (opened : opening_of w.mem w.state.
   pub refused-at-opening : submitted w ≡ record { state = settled_keeping j (broken (without_place r)) w; units = 1 }
   unfolding submitted
   refused-at-opening = ap (submitted_on w) opened
-
-  pub opening-refusal-keeps-belongings : (submitted w).state.state.belongings ≡ w.state.belongings
-  unfolding settled
-  opening-refusal-keeps-belongings = ap (λ (x : Out World). x.state.state.belongings) refused-at-opening
-
-  pub opening-refusal-hands-out-nothing : (i : ℕ) → call_record (submitted w).state.state i ≡ record { answer = no_record; range = no_range }
-  unfolding settled call_record nth
-  opening-refusal-hands-out-nothing i = ap (λ (x : Out World). call_record x.state.state i) refused-at-opening
 
 -- ---- the host's answers, of a device that waits
 

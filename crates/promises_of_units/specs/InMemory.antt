@@ -34,10 +34,9 @@ use Rattle.rules.specs.declared.Verdict.{Verdict}
 use Rattle.rules.specs.declared.Verdict.TheVariants.{Fine, Broken}
 use Rattle.rules.specs.declared.Opening.{Opening}
 use Rattle.rules.specs.declared.Opening.TheVariants.{BadRing, NoWork, Refused, Started}
-use Rattle.promises_of_packets.specs.Held.{Every, every-none, every-pushed, Within, Inside}
+use Rattle.promises_of_packets.specs.Held.{Every, every-none, every-pushed, Within}
 use Rattle.rule_laws.specs.Fine.{fine-first, fine-later, kept_rule}
 use Rattle.settle.specs.Only.{answered-keeps-memory, answered-is-lent-alike}
-use Rattle.promises_of_units.specs.Sound.{SoundState, waiting-ranges-inside}
 use Rattle.promises_of_units.specs.Memory.{unit-writes-by-settling, touched-length}
 use Rattle.promises_of_units.specs.Runs.{of-run, of-answer}
 use Rattle.promises_of_units.specs.Writes.{Written, write-keeps-or-drops}
@@ -221,7 +220,7 @@ write-call-lies s offset v h = written-lies s (call_write s offset v).state offs
 
 -- ---- so what is handed out lies in memory
 
-found-ends : (n id : ℕ) (es : List Entry) (c : Record) → Every (EndsIn n) es → Within c (matching id es) → c.gpa + c.length ≤ n
+pub found-ends : (n id : ℕ) (es : List Entry) (c : Record) → Every (EndsIn n) es → Within c (matching id es) → c.gpa + c.length ≤ n
 unfolding lookup Every
 found-ends n id [] c h k = absurd k
 found-ends n id (e ∷ es) c h k = by_test (eqb e.id id) (found-ends n id es c h.1) k
@@ -233,13 +232,3 @@ found-ends n id (e ∷ es) c h k = by_test (eqb e.id id) (found-ends n id es c h
 -- a record of a range ends within n bytes
 abbrev pub RangeEndsIn : ℕ → Record → Type 0
 RangeEndsIn n c = (c.kind ≡ clips → ⊥) → c.gpa + c.length ≤ n
-
-all_end : (n : ℕ) (es : List Entry) (cs : List Record) → Every (EndsIn n) es → Every (Inside es) cs → Every (RangeEndsIn n) cs
-unfolding Every
-all_end n es [] h k = omega arith
-all_end n es (c ∷ cs) h k = (λ range. found-ends n c.id es c h (k.0 range), all_end n es cs h k.1)
-
--- while a submission waits, every range that it hands out ends within the memory that the device was made for
-pub waiting-ranges-in-memory : (s : State) (j : Job) (es : List Entry) (h : Progress) → SoundState s → Lies s → s.work ≡ waiting j es h → Every (RangeEndsIn s.memory) h.holdings.records
-waiting-ranges-in-memory s j es h k l e =
-    all_end s.memory es h.holdings.records (subst (LiesIn s.memory) e l) (waiting-ranges-inside s j es h k e).0

@@ -1,6 +1,5 @@
 pub mod SoundErrors
 pub mod Sound
-pub mod LoadedSound
 pub mod Fences
 pub mod Writes
 pub mod Refused

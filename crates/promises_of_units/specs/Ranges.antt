@@ -16,7 +16,6 @@ use Rattle.rules.specs.Numbers.{done, clips}
 use Rattle.rules.specs.Lists.{Found, nth, lookup}
 use Rattle.rules.specs.Lists.Found.{none, found}
 use Rattle.rules.specs.Layouts.{entry}
-use Rattle.rules.specs.Table.{entry_id, matching}
 use Rattle.rules.specs.Packets.{Progress}
 use Rattle.rules.specs.State.{Work, State, World}
 use Rattle.rules.specs.State.Work.{resting, entries, packets, waiting}
@@ -24,27 +23,13 @@ use Rattle.rules.specs.Calls.{handed_out, record_read, call_record}
 use Rattle.rules.specs.declared.Entry.{Entry}
 use Rattle.rules.specs.declared.Record.{Record}
 use Rattle.rules.specs.declared.Job.{Job}
-use Rattle.rules.specs.Loaded.{loaded_sections, loaded}
-use Rattle.rows.specs.Keys.{Once}
-use Rattle.promises_of_packets.specs.Held.{Every, Within, Inside, OfAKind}
-use Rattle.promises_of_units.specs.Sound.{SoundState, made-sound, waiting-ranges-inside, waiting-kinds}
-use Rattle.promises_of_units.specs.LoadedSound.{loaded-sound}
-use Rattle.promises_of_units.specs.Refused.{run-call-keeps-sound, answer-call-keeps-sound, write-call-keeps-sound}
-use Rattle.promises_of_units.specs.InMemory.{Lies, RangeEndsIn, made-lies, run-call-lies, answer-call-lies, write-call-lies, waiting-ranges-in-memory}
+use Rattle.promises_of_packets.specs.Held.{Every}
+use Rattle.promises_of_units.specs.InMemory.{Lies, run-call-lies, answer-call-lies, write-call-lies}
 use Rattle.promises_of_units.specs.Called.{Call, after, Called}
 use Rattle.promises_of_units.specs.Called.Call.{writes, reads, runs, records, answers}
-use Rattle.promises_of_units.specs.Called.Called.{makes, loads, calls}
-use Rattle.promises_of_units.specs.Tables.{WholeTable, OwnTable, called-has-its-own-table}
+use Rattle.promises_of_units.specs.Tables.{WholeTable}
 
 -- ---- any device that was made or loaded, and called is sound, and its entries end within its memory
-
-pub call-keeps-sound : (c : Call) (w : World) → SoundState w.state → SoundState (after c w).state
-unfolding after
-call-keeps-sound (writes offset v) w k = write-call-keeps-sound w.state offset v k
-call-keeps-sound (reads offset) w k = k
-call-keeps-sound (runs n) w k = run-call-keeps-sound w n k
-call-keeps-sound (records i) w k = k
-call-keeps-sound (answers good n) w k = answer-call-keeps-sound w good n k
 
 pub call_lies : (c : Call) (w : World) → Lies w.state → Lies (after c w).state
 unfolding after
@@ -53,17 +38,6 @@ call_lies (reads offset) w k = k
 call_lies (runs n) w k = run-call-lies w n k
 call_lies (records i) w k = k
 call_lies (answers good n) w k = answer-call-lies w good n k
-
-pub called-sound : (s : State) → Called s → SoundState s
-called-sound s (makes memory) = made-sound memory
-called-sound s (loads b good) = loaded-sound b good
-called-sound s (calls {s = t} c m k) = call-keeps-sound c (record { state = t; mem = m }) (called-sound t k)
-
-pub called-lies : (s : State) → Called s → Lies s
-unfolding loaded loaded_sections
-called-lies s (makes memory) = made-lies memory
-called-lies s (loads b good) = omega arith
-called-lies s (calls {s = t} c m k) = call_lies c (record { state = t; mem = m }) (called-lies t k)
 
 -- ---- exactly one entry has an id
 
@@ -82,19 +56,19 @@ module _ {A : Type 0} where
   found-same : (x y : A) → found x ≡ found y → x ≡ y
   found-same x y e = cc
 
-  every-nth : (P : A → Type 0) (xs : List A) (i : ℕ) (x : A) → Every P xs → nth xs i ≡ found x → P x
+  pub every-nth : (P : A → Type 0) (xs : List A) (i : ℕ) (x : A) → Every P xs → nth xs i ≡ found x → P x
   unfolding nth Every
   every-nth P [] i x h e = absurd (none-not-found x e)
   every-nth P (y ∷ ys) zero x h e = subst P (found-same y x e) h.0
   every-nth P (y ∷ ys) (suc i) x h e = every-nth P ys i x h.1 e
 
-  nth-get_or : (xs : List A) (i : ℕ) (x d : A) → nth xs i ≡ found x → (i < length xs) × (get_or xs i d ≡ x)
+  pub nth-get_or : (xs : List A) (i : ℕ) (x d : A) → nth xs i ≡ found x → (i < length xs) × (get_or xs i d ≡ x)
   unfolding nth
   nth-get_or [] i x d e = absurd (none-not-found x e)
   nth-get_or (y ∷ ys) zero x d e = (omega arith, found-same y x e)
   nth-get_or (y ∷ ys) (suc i) x d e = let k : (i < length ys) × (get_or ys i d ≡ x) = nth-get_or ys i x d e in (omega (arith, k.0), k.1)
 
-  lookup-stands : (key : A → ℕ) (k : ℕ) (xs : List A) (x : A) → lookup key k xs ≡ found x → (i : ℕ) × (nth xs i ≡ found x) × (key x ≡ k)
+  pub lookup-stands : (key : A → ℕ) (k : ℕ) (xs : List A) (x : A) → lookup key k xs ≡ found x → (i : ℕ) × (nth xs i ≡ found x) × (key x ≡ k)
   unfolding nth lookup
   lookup-stands key k [] x e = absurd (none-not-found x e)
   lookup-stands key k (y ∷ ys) x e = by_test (eqb (key y) k) refl (lookup-stands key k ys x) e
@@ -103,19 +77,6 @@ module _ {A : Type 0} where
           → pick b (found y) (lookup key k ys) ≡ found x → (i : ℕ) × (nth (y ∷ ys) i ≡ found x) × (key x ≡ k)
       by_test true q later f = (0, f, ap key (sym (found-same y x f)) ∙ eqb-true (key y) k q)
       by_test false q later f = let l : (i : ℕ) × (nth ys i ≡ found x) × (key x ≡ k) = later f in (suc l.0, l.1, l.2)
-
-the-only-one : (id : ℕ) (es : List Entry) (e : Entry) → Once entry_id es → matching id es ≡ found e → OnlyOne id es e
-the-only-one id es e once h =
-    let it : (i : ℕ) × (nth es i ≡ found e) × (e.id ≡ id) = lookup-stands entry_id id es e h in
-    let here : (it.0 < length es) × (get_or es it.0 e ≡ e) = nth-get_or es it.0 e e it.1 in
-    record {
-      place = it.0;
-      stands = it.1;
-      has-id = it.2;
-      only = λ i d q same.
-          let there : (i < length es) × (get_or es i e ≡ d) = nth-get_or es i d e q in
-          once.same e i it.0 there.0 here.0 (ap entry_id there.1 ∙ (same ∙ (sym it.2 ∙ ap entry_id (sym here.1))));
-    }
 
 -- ---- what a record call hands out
 
@@ -148,43 +109,11 @@ module _ (s : State) (i : ℕ) (P : Record → Type 0)
   by-work (packets j t at es h) e d = absurd (omega arith)
   by-work (waiting j es h) e d = by_found j es h e (nth h.holdings.records i) refl d
 
-  at-the-record-call : (call_record s i).answer ≡ done → P (call_record s i).range
+  pub at-the-record-call : (call_record s i).answer ≡ done → P (call_record s i).range
   unfolding call_record
   at-the-record-call d = by-work s.work refl d
 
 module _ (s : State) (k : Called s) (i : ℕ) where
   -- a range lies where it should
-  abbrev IfARange : Record → Type 0
+  abbrev pub IfARange : Record → Type 0
   IfARange c = (c.kind ≡ clips → ⊥) → InOneEntry s i c
-
-  record-lies : (j : Job) (es : List Entry) (h : Progress) (c : Record) → s.work ≡ waiting j es h → nth h.holdings.records i ≡ found c → IfARange c
-  record-lies j es h c w e range =
-      by-entry (matching c.id es) refl
-      (every-nth (Inside es) h.holdings.records i c (waiting-ranges-inside s j es h (called-sound s k) w).0 e range)
-    where
-      by-entry : (f : Found Entry) → matching c.id es ≡ f → Within c f → InOneEntry s i c
-      by-entry none q x = absurd x
-      by-entry (found d) q x =
-          record {
-            job = j;
-            table = es;
-            held = h;
-            waits = w;
-            its-table = subst (OwnTable s.memory) w (called-has-its-own-table s k);
-            its-record = e;
-            entry = d;
-            only_one = the-only-one c.id es d (waiting-ranges-inside s j es h (called-sound s k) w).1 q;
-            starts = x.0;
-            ends = x.1;
-            in_memory = every-nth (RangeEndsIn s.memory) h.holdings.records i c (waiting-ranges-in-memory s j es h (called-sound s k) (called-lies s k) w) e range;
-          }
-
-  -- a record call that hands out a range: of any device, after any calls, over any memories
-  pub ranges-at-the-record-call : (call_record s i).answer ≡ done → ((call_record s i).range.kind ≡ clips → ⊥) → InOneEntry s i (call_record s i).range
-  ranges-at-the-record-call = at-the-record-call s i IfARange record-lies
-
-  -- and whatever it hands out is of one of the four kinds
-  pub kinds-at-the-record-call : (call_record s i).answer ≡ done → OfAKind (call_record s i).range
-  kinds-at-the-record-call =
-      at-the-record-call s i OfAKind
-      (λ j es h c w e. every-nth OfAKind h.holdings.records i c (waiting-kinds s j es h (called-sound s k) w) e)

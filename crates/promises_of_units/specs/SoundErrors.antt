@@ -1,20 +1,16 @@
 -- The last error stays sound: its code is 0 or listed, its count 0 exactly with code 0, and then its fence and its place. What a submission's end and a
 -- bad ring make of it. Assumes nothing.
-use Rattle.std.specs.Prelude.{◌≡◌, refl, Bool, true, false, ◌||◌, ℕ, ◌+◌, ◌-◌, ◌^◌, ◌≤◌, ltb, leb, eqb}
-use Rattle.std.proofs.Common.{arith, leb-true, ltb-false, ne_eqb}
+use Rattle.std.specs.Prelude.{◌≡◌, refl, Bool, true, false, ◌||◌, ℕ, ◌+◌, ◌-◌, ◌^◌, ◌≤◌, ltb, leb}
+use Rattle.std.proofs.Common.{arith, leb-true, ltb-false}
 use Rattle.machine.specs.Machine.{pick}
 use Rattle.rules.specs.Numbers.{bad_ring}
 use Rattle.rules.specs.Judging.{Finding, at_place}
 use Rattle.rules.specs.Judging.Finding.{fine, broken}
-use Rattle.rules.specs.Settle.{one_more, faulted, signalled, ended_by}
-use Rattle.rules.specs.declared.Fault.{Fault}
-use Rattle.rules.specs.declared.Job.{Job}
-use Rattle.rules.specs.declared.Registers.{Registers}
+use Rattle.rules.specs.Settle.{one_more}
 use Rattle.rules.specs.declared.Verdict.{Verdict}
 use Rattle.rules.specs.declared.Verdict.TheVariants.{Fine, Broken}
 use Rattle.rule_laws.specs.Fine.{both_left}
 use Rattle.rule_laws.specs.Listed.{listed, Listed}
-use Rattle.rule_laws.specs.Created.{SoundError}
 
 -- what a step finds is nothing, or a listed error
 abbrev pub ListedFinding : Finding → Type 0
@@ -26,7 +22,7 @@ found-listed place Fine l = l
 found-listed place (Broken r) l = l
 
 -- "count + 1 (stops at 4294967295)" is never 0
-counted : (n : ℕ) → one_more n ≡ 0 → ⊥
+pub counted : (n : ℕ) → one_more n ≡ 0 → ⊥
 counted n = by_test (ltb n (2 ^ 32 - 1)) refl
   where
     by_test : (b : Bool) → ltb n (2 ^ 32 - 1) ≡ b → pick b (n + 1) n ≡ 0 → ⊥
@@ -37,22 +33,6 @@ counted n = by_test (ltb n (2 ^ 32 - 1)) refl
 pub listed-some : (n : ℕ) → listed n ≡ true → n ≡ 0 → ⊥
 listed-some n l e = let enough : bad_ring ≤ n = leb-true bad_ring n (both_left (leb bad_ring n) _ l) in omega arith
 
-either : (a b : Bool) → b ≡ true → a || b ≡ true
+pub either : (a b : Bool) → b ≡ true → a || b ≡ true
 either true b e = refl
 either false b e = e
-
--- an error that is told
-pub fault-sound : (f : Fault) (fence : ℕ) (r : Registers) → listed f.code ≡ true → SoundError (faulted f fence r).error
-unfolding faulted
-fault-sound f fence r l =
-    record {
-      code = either (eqb f.code 0) _ l;
-      rest = rw (ne_eqb f.code 0 (listed-some f.code l), ne_eqb (one_more r.error.count) 0 (counted r.error.count));
-      detail = λ e. absurd (listed-some f.code l e);
-    }
-
--- a submission's end
-pub ended-sound : (j : Job) (v : Finding) (r : Registers) → ListedFinding v → SoundError r.error → SoundError (ended_by j v r).error
-unfolding ended_by signalled
-ended-sound j fine r l k = k
-ended-sound j (broken f) r l k = fault-sound f j.signal r l

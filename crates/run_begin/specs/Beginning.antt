@@ -12,7 +12,7 @@ use Rattle.rules.specs.declared.Job.{Job}
 use Rattle.rules.specs.declared.Opened.{Opened}
 use Rattle.rows.specs.Rows.{table-zero}
 use Rattle.kept_entries.specs.Views.{entry_of, entries_of}
-use Rattle.run_state.specs.Views.{flag_of, small_in, job_in, opened_in, world_in, bare_in, sides_in}
+use Rattle.run_state.specs.Views.{small_in, opened_in, world_in, bare_in, sides_in}
 use Rattle.run_state.specs.Reading.{flag-as, small-as, count-as, none_kept, none_made}
 use Rattle.run_state.specs.Spelled.{spell}
 use Rattle.run_begin.specs.Views.{Begins, StoresJob, StoresOpened, Starts}
@@ -48,19 +48,8 @@ pub ruleset beginning = (begins-more, begins-none, rules)
 
 -- ---- store_job
 
-abbrev jobbed : Job → ℕ → ℕ → List ℕ → List ℕ
+abbrev pub jobbed : Job → ℕ → ℕ → List ℕ → List ℕ
 jobbed j head silent w = set (set (set (set w 14 j.ring) 15 head) 16 j.signal) 17 silent
-
-pub stores-job : (s : List ℕ) (j : Job) (head silent : ℕ) → length s ≡ 36 → (head ≡ j.head) × (head < 4294967296) → silent ≡ flag_of j.silent
-    → StoresJob s j (set (set (set (set s 14 j.ring) 15 head) 16 j.signal) 17 silent)
-stores-job s j head silent long a b =
-    record {
-      job = spell (λ w. job_in (jobbed j head silent w)) s long ∙ rw (small-as head j.head a, flag-as silent j.silent b);
-      bare = λ r dt m. spell (λ w. bare_in (jobbed j head silent w) r dt m) s long;
-      side = spell (λ w. sides_in (jobbed j head silent w)) s long;
-    }
-
-pub ruleset storing_job = (stores-job, rules)
 
 -- ---- store_opened
 

@@ -1,25 +1,22 @@
 -- Whole layers and the mips after them, as the code works them out: the texture's bytes, and the start of a part.
 -- Assumes nothing.
 use Rattle.std.specs.Prelude.{◌≡◌, Bool, true, false, not, ℕ, ◌+◌, ◌*◌, ◌/◌, ◌%◌, ◌^◌, ◌≤◌, ◌<◌}
-use Rattle.std.proofs.Common.{sym, ap, ◌∙◌, le_refl, le_of_lt, le_trans, mul-le-mul, mul_comm, mod-lt, div-le_self, div-add-mod', arith, rules}
+use Rattle.std.proofs.Common.{sym, ◌∙◌, le_refl, le_trans, mul-le-mul, mul_comm, mod-lt, div-le_self, arith, rules}
 use Rattle.std.proofs.Math.Bool.{and-false}
 use Rattle.std.proofs.Math.Nat.{div-le_of_le-mul}
-use borrow.Author.Tests.{not-true, not-false, lt-ltb, le-ltb}
+use borrow.Author.Tests.{not-true, not-false, le-ltb}
 use Rattle.rules.specs.Numbers.{most_layers}
 use Rattle.rules.specs.Shapes.{offset_of, subresources, good_backed, texture_bytes, packed_size, start_of}
 use Rattle.rules.specs.declared.Shape.{Shape}
-use Rattle.rules.specs.declared.Start.TheVariants.{At, Nowhere}
+use Rattle.rules.specs.declared.Start.TheVariants.{Nowhere}
 use Rattle.texture_shapes.specs.Bounds.{Bounded, longest_chain, most_of_mip, few-subresources}
-use Rattle.texture_sizes.specs.Layers.{offset-of-layer, offset-of-mip}
+use Rattle.texture_sizes.specs.Layers.{offset-of-layer}
 use Rattle.texture_sizes.specs.Packed.{backed-limits, packed-bad, packed-good}
 
 module _ (s : Shape) (p : ℕ) where
   pub past-is-nowhere : (i : ℕ) → subresources s ≤ i → Nowhere ≡ start_of s p i
   unfolding start_of
   past-is-nowhere i h = rw (le-ltb i (subresources s) h, and-false)
-
-  split-place : (i o q : ℕ) → o ≡ offset_of s p s.mips → q ≡ offset_of s p (i % s.mips) → offset_of s p i ≡ o * (i / s.mips) + q
-  split-place i o q f g = ap (offset_of s p) (sym (div-add-mod' i s.mips)) ∙ (offset-of-mip s p (i / s.mips) (i % s.mips) ∙ rw (f, g, mul_comm))
 
   module _ (b : Bool) (e : b ≡ good_backed s p) where
     pub bad-is-nothing : not b ≡ true → 0 ≡ packed_size s p
@@ -46,10 +43,6 @@ module _ (s : Shape) (p : ℕ) where
         pub all-layers : o * s.layers ≡ packed_size s p
         unfolding texture_bytes
         all-layers = rw (packed-good s p (sym e ∙ not-false b n), offset-of-layer s p s.layers, f, mul_comm)
-
-        pub start-found : (i q : ℕ) → q ≡ offset_of s p (i % s.mips) → i < subresources s → At (o * (i / s.mips) + q) ≡ start_of s p i
-        unfolding start_of
-        start-found i q g k = rw (← e, not-false b n, lt-ltb i (subresources s) k, split-place i o q f g)
 
       -- no product or sum wraps, of the bytes below any mip of a layer
       module _ (o k : ℕ) (f : o ≤ k * most_of_mip) (h : k ≤ s.mips) where
@@ -80,19 +73,3 @@ pub layer_fits : (i m : ℕ) → i < 2 ^ 32 → i / m < 2 ^ 64
 layer_fits i m h = omega (arith, div-le_self i m)
 
 pub ruleset packing = (le_refl, good-limits, some-mips, bad-is-nothing, all-layers, all-layers-fit, rules)
-
-pub ruleset starting = (
-  le_refl,
-  le_of_lt,
-  good-limits,
-  some-mips,
-  count_fits,
-  mip-within,
-  layer_fits,
-  layers-before-fit,
-  bad-is-nowhere,
-  past-is-nowhere,
-  start-found,
-  start_fits,
-  rules,
-)

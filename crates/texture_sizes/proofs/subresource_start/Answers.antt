@@ -1,6 +1,6 @@
 -- `subresource_start` goes over whole layers, then over the mips of the last.
 -- Assumes nothing.
-use Rattle.texture_sizes.specs.Places.{starting}
+use Rattle.texture_sizes.proofs.Places.{starting}
 use Rattle.texture_sizes.proofs.subresource_start.Goals as goal
 
 pub returns-then-not-good_backed : goal.returns-then-not-good_backed

@@ -3,7 +3,8 @@ use Rattle.std.specs.Prelude.{◌≡◌, List, ℕ}
 use Rattle.std.proofs.Common.{sym, subst, arith}
 use Rattle.rules.specs.Lists.Found.{none}
 use Rattle.rules.specs.Loaded.{bad_place, loaded}
-use Rattle.promises_of_saving.specs.LoadedIsSound.{SoundAtRest, loaded-is-sound}
+use Rattle.promises_of_saving.specs.LoadedIsSound.{SoundAtRest}
+use Rattle.promises_of_saving.proofs.LoadedIsSound.{loaded-is-sound}
 use Rattle.promises_of_units.specs.Sound.{SoundWork, SoundState}
 
 pub loaded-sound : (b : List ℕ) → bad_place b ≡ none → SoundState (loaded b)

@@ -23,7 +23,8 @@ use Rattle.promises_of_calls.specs.OverLent.{lent_of, over_lent}
 use Rattle.promises_of_calls.specs.OverLent.Gives.{lent-run}
 use Rattle.promises_of_calls.specs.Exports.{Said, returning, range_in, exports}
 use Rattle.promises_of_calls.specs.Exports.Gives.{zelezmut-run, zelezmut-record}
-use Rattle.promises_of_calls.specs.Calls.{MadeAndCalled, handed-out-in-one-entry, run-of-one-reads-only-there}
+use Rattle.promises_of_calls.specs.Calls.{MadeAndCalled}
+use Rattle.promises_of_calls.proofs.Calls.{handed-out-in-one-entry, run-of-one-reads-only-there}
 
 -- ---- of a device that was made and called, where the record call answers 0
 

@@ -1,0 +1,16 @@
+pub mod NightLog
+pub mod Courses
+pub mod ChainsStand
+pub mod Places
+pub mod UnslicedPlaces
+pub mod PlacesByNumber
+pub mod UnslicedByNumber
+pub mod Witness
+pub mod StateWitness
+pub mod SharedWitness
+pub mod TwoSubmissions
+pub mod CalledWitness
+pub mod LowerFence
+pub mod SameWitness
+pub mod Slicing
+pub mod Main

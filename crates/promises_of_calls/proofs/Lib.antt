@@ -1,0 +1,11 @@
+pub mod Calls
+pub mod Chains
+pub mod CallContracts
+pub mod TokensOfCalls
+pub mod PlacesOfCalls
+pub mod AskedOfExports
+pub mod Saving
+pub mod SameDesks
+pub mod SameDesks2
+pub mod LeftoversOfCalls
+pub mod Examples

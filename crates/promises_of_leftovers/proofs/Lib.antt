@@ -1,0 +1,14 @@
+pub mod Opening
+pub mod Packet
+pub mod Unit
+pub mod Course
+pub mod Submissions
+pub mod Matter
+pub mod AskedOver
+pub mod Fixed
+pub mod Beyond
+pub mod Touch
+pub mod UpTo
+pub mod UpTo2
+pub mod Spare
+pub mod Desk

@@ -1,0 +1,4 @@
+pub mod Names
+pub mod SoundNames
+pub mod Effects
+pub mod Held

@@ -1,0 +1,14 @@
+pub mod LoadedIsSound
+pub mod LoadedIsSavable
+pub mod SavedParts
+pub mod SavedFile
+pub mod WrittenHead
+pub mod LoadOfSave
+pub mod OneFile
+pub mod SaveOfLoad
+pub mod Moved
+pub mod Moved2
+pub mod Example
+pub mod Places
+pub mod GoesBack
+pub mod MoveAnswers

@@ -1,0 +1,15 @@
+pub mod Targets
+pub mod Shared
+pub mod SharedTokens
+pub mod BoundTokens
+pub mod SharedPackets
+pub mod TokensOverCalls
+pub mod NamesKept
+pub mod NamesOverCalls
+pub mod PacketsTaken
+pub mod NamesTaken
+pub mod TokenLives
+pub mod TokenLives2
+pub mod TokenMeans
+pub mod SinceBegun
+pub mod RecordHandles

@@ -1,0 +1,12 @@
+pub mod Submission
+pub mod Submission2
+pub mod Slices
+pub mod AnyRegisters
+pub mod Night
+pub mod LocalOpening
+pub mod Locality
+pub mod Locality2
+pub mod Appended
+pub mod AppendedUnits
+pub mod Clipping
+pub mod FloatBits

@@ -1,0 +1,17 @@
+pub mod SoundErrors
+pub mod Sound
+pub mod LoadedSound
+pub mod Fences
+pub mod Refused
+pub mod InMemory
+pub mod AnswerAndRun
+pub mod Acts
+pub mod Units
+pub mod Events
+pub mod Changes
+pub mod Asked
+pub mod FenceRises
+pub mod Kept
+pub mod Tables
+pub mod Ranges
+pub mod Bytes
