@@ -67,12 +67,12 @@ skips (suc n) i [] [] = refl
 skips (suc n) i [] (b ∷ y) =
     let e : i + suc n ≡ i + 1 + n = omega arith in
     let later : next_from (i + suc n) (differing_from (i + 1) [] y) ≡ first_of (differing_from (i + suc n) [] (drop n y)) =
-        rw e (rw drop-nil at (skips n (i + 1) [] y)) in
+    rw e (rw drop-nil at (skips n (i + 1) [] y)) in
     rw (lt-ltb i (i + suc n) (omega arith)) later
 skips (suc n) i (a ∷ x) [] =
     let e : i + suc n ≡ i + 1 + n = omega arith in
     let later : next_from (i + suc n) (differing_from (i + 1) x []) ≡ first_of (differing_from (i + suc n) (drop n x) []) =
-        rw e (rw drop-nil at (skips n (i + 1) x [])) in
+    rw e (rw drop-nil at (skips n (i + 1) x [])) in
     rw (lt-ltb i (i + suc n) (omega arith)) later
 skips (suc n) i (a ∷ x) (b ∷ y) =
     let e : i + suc n ≡ i + 1 + n = omega arith in

@@ -71,7 +71,17 @@ pub extern "C" fn zelezmut_run(
           mem = mem.new;
         }) }
 {
-    zelezmut::device::zelezmut_run(words, entries, first, second, firsttokens, secondtokens, records, mem, allowance)
+    zelezmut::device::zelezmut_run(
+        words,
+        entries,
+        first,
+        second,
+        firsttokens,
+        secondtokens,
+        records,
+        mem,
+        allowance,
+    )
 }
 
 // Record i of the submission that waits: the call's answer, and says kind, handle, id, GPA and length.
@@ -124,5 +134,16 @@ pub extern "C" fn zelezmut_answer(
           mem = mem.new;
         }) }
 {
-    zelezmut::device::zelezmut_answer(words, entries, first, second, firsttokens, secondtokens, records, mem, good, allowance)
+    zelezmut::device::zelezmut_answer(
+        words,
+        entries,
+        first,
+        second,
+        firsttokens,
+        secondtokens,
+        records,
+        mem,
+        good,
+        allowance,
+    )
 }

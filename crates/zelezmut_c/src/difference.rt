@@ -4,7 +4,6 @@ ghost use Rattle.std.specs.Prelude.{◌≡◌};
 ghost use Rattle.rules.specs.Difference.{check, parts, class_asked, next_asked, start, pair_at, next_at, onward};
 ghost use Rattle.export_difference.specs.Numbers.{Says, checked_said, parts_said, class_said, next_said, offset_said, SaysStart, cursor_in, cursor_words, pair_words};
 
-
 // Whether both are valid streams: 0, or 16 or 17 beside which of the two it is, the first if both.
 #[unsafe(no_mangle)]
 pub extern "C" fn zelezmut_difference_check(first: &[u8], second: &[u8], said: &mut [u64; 1]) -> u32

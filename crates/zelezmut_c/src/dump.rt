@@ -2,7 +2,6 @@
 ghost use Rattle.run_state.specs.Views.{set_in};
 ghost use Rattle.zelezmut.specs.Said.{SaysDumped};
 
-
 // Writes the text of a dump to the front of the lent buffer: its length, and 2^56 times the call's answer. A dump of any length is read; 0 is not
 // strict, any other number is. A buffer that is shorter than the text answers 6, and no byte of it is written.
 #[unsafe(no_mangle)]
