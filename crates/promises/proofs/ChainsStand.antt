@@ -33,7 +33,6 @@ use Rattle.promises.specs.ChainsStand.{act-between, clear_served, enabled-before
 
 -- the opening of a submission that goes on
 module _ (w : World) (rest : w.state.work ≡ resting) (g : go w ≡ true) (m : midst (step w).state.work ≡ true) where
-
   own : Opens w w.state.regs (submitted_under w.state.regs w)
   own = opens w rest m w.state.regs (enabled-before w rest g m)
 

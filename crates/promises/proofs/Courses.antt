@@ -50,7 +50,6 @@ module _ (w : World) (rest : w.state.work ≡ resting) (m : midst (step w).state
 
 -- one that its opening ends
 module _ (w : World) (rest : w.state.work ≡ resting) (g : go w ≡ true) (c : Clear (step w)) where
-
   opening-is-all : (submitted w).units ≡ 1
   opening-is-all = by_test (ltb 1 (submitted w).units) refl
     where

@@ -185,9 +185,7 @@ units-hand-out-nothing w = record { hands-out-nothing = not-waiting-hands-out-no
 
 -- a submission that was opened at w and settled or accepted with the registers q
 module _ (w : World) (q : Registers) (o : Opened) (opened : opening_of w.mem w.state.regs.ring w.state.regs.ringsize ≡ Started o) where
-
   module _ (f : Fault) (e : (judged w q o opened).finding ≡ broken f) where
-
     -- Wish 9, "tell me where it broke": the registers have the number and the place that the unsliced rules give with it, and it lies in the
     -- table or in the stream. Memory holds bytes.
     pub refused-tells-where : OfBytes w.mem

@@ -24,14 +24,12 @@ pub fine-not-broken : {f : Fault} → fine ≡ broken f → ⊥
 fine-not-broken e = let z : ◌≡◌ {A = ℕ} 0 1 = cc in omega arith
 
 module _ (f : Fault) where
-
   -- the first broken packet, of bytes that stand at an offset, has its place among them
   abbrev pub Among : ℕ → List ℕ → Type 0
   Among at b = (packet_number f.code ≡ true) × (at ≤ f.place) × (f.place < at + length b)
 
 -- what an opening started over bytes, judged by the unsliced rules over the same bytes: the first broken rule is an entry's or a packet's
 module _ (m : List ℕ) (ring size : ℕ) (o : Opened) (opened : opening_of m ring size ≡ Started o) (bytes : OfBytes m) where
-
   abbrev pub table_judged : Finding
   table_judged = (judge_entries (length m) [] (entries_of m o.table)).finding
 

@@ -12,7 +12,6 @@ pub fine-not-broken : {f : Fault} → fine ≡ broken f → ⊥
 fine-not-broken e = let z : ◌≡◌ {A = ℕ} 0 1 = cc in omega arith
 
 module _ (f : Fault) where
-
   -- the first broken packet, of bytes that stand at an offset, has its place among them
   abbrev pub Among : ℕ → List ℕ → Type 0
   Among at b = (at ≤ f.place) × (f.place < at + length b)

@@ -24,7 +24,6 @@ use Rattle.promises_of_calls.specs.Calls.MadeAndCalled.{called-one, loaded-one, 
 -- ---- one call that was made
 
 module _ (L : Layer) (w : World) (x : L.Said) where
-
   says-acts : (c : Call) → x ≡ L.said c (reply_to c w) → acts_in c (L.units c x) (L.answered x) ≡ acts_of c w
   unfolding acts_of units_of
   says-acts (writes offset v) e = refl
@@ -58,7 +57,6 @@ made_and_called L d (called-one {d = b} m m' c x k earlier) =
 -- ---- record calls
 
 module _ {L : Layer} (i : ℕ) (k : CallMade L (records i)) where
-
   -- of a device that was made and called: a range handed out, a record of kind 1 to 3, lies inside exactly one entry of the table of the
   -- submission that waits, and inside memory
   pub handed-out-in-one-entry : MadeAndCalled L k.of → (L.record_read k.said).answer ≡ done → ((L.record_read k.said).range.kind ≡ clips → ⊥)

@@ -23,7 +23,6 @@ use Rattle.promises_of_calls.proofs.SameDesks.{exports-hear-the-same}
 
 module _ (d e : Device) (w : OfWords d.words) (a : OfWords d.first) (b : OfWords d.second) (ft : OfWords d.firsttokens) (st : OfWords d.secondtokens)
     (f : Form) (buffer buffer' : List ℕ) where
-
   -- `zelezmut_save` or `zelezmut_save_form_2`, and `zelezmut_load`
   pub a-saved-export-goes-on-elsewhere : MadeAndCalled exports d → (n : ℕ)
       → SaysSaved f d.words d.first d.second d.firsttokens d.secondtokens buffer n buffer' → n / 4294967296 ≡ done

@@ -13,7 +13,6 @@ use Rattle.promises_of_difference.specs.Offsets.{ask, asked_on, split_off, then_
 -- ---- the next offset, asked again and again
 
 module _ (x y : List ℕ) where
-
   asks : (k from : ℕ) (l : List ℕ) → from_offset x y from ≡ l → length l ≤ k → asked_on (ask x y) k from ≡ l
   unfolding asked_on
   asks zero from [] e h = refl

@@ -28,7 +28,6 @@ use Rattle.promises_of_leftovers.specs.AskedOver.AskedAlike.{all_asked, by_call,
 -- ---- one of them
 
 module _ (m m' : List ℕ) where
-
   one_alike : (a : Asked) (x x' : World) → SameStill m m' x x' → InWork (SameIn m m') x → Every (There (SameIn m m')) (asked_opens a x) → (OneAlike m m') a x x'
   unfolding told
   one_alike (calls c _) x x' k i s =

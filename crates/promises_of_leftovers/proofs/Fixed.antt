@@ -20,7 +20,6 @@ use Rattle.promises_of_leftovers.proofs.Opening.{opening-read, listed-opening}
 use Rattle.promises_of_leftovers.specs.Fixed.{same-opened, same-opening-listed, same-packets}
 
 module _ (m m' : List ℕ) (len : length m ≡ length m') where
-
   -- ---- a submission
 
   -- the next submission of a ring

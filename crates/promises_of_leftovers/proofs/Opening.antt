@@ -11,7 +11,6 @@ use Rattle.promises_of_submissions.specs.OpeningRead.{OpeningRead, read-opening}
 use Rattle.promises_of_leftovers.specs.Opening.{back-of, front_of, on-true, slot_read}
 
 module _ (m m' : List ℕ) where
-
   module _ (ring size : ℕ) (s : AgreeOn m m' (opening_listed m ring size)) where
     pub opening-read : OpeningRead m m' ring size
     unfolding opening_listed

@@ -23,7 +23,6 @@ use Rattle.promises_of_leftovers.specs.Packet.{fields-same, header-same, named-f
 -- ---- some bytes, whatever they are a part of
 
 module _ (b b' : List ℕ) (len : length b ≡ length b') (header : packet_header_size ≤ length b → AgreeOn b b' (placed 0 packet_header_layout)) where
-
   named-taken : (es : List Entry) (h : Progress) → ((op size : ℕ) → frame_of b ≡ Whole op size → AgreeOn b b' (placed 0 (packet_layout op))) → take_packet es h b ≡ take_packet es h b'
   unfolding take_packet
   named-taken es h same = by_frame (frame_of b) refl
@@ -37,6 +36,5 @@ module _ (b b' : List ℕ) (len : length b ≡ length b') (header : packet_heade
 -- ---- the packet at a place
 
 module _ (s : Stream) (at : ℕ) (m m' : List ℕ) (len : length m ≡ length m') (same : AgreeOn m m' (packet_listed m s at)) where
-
   pub listed-taken : (es : List Entry) (h : Progress) → take_packet es h (left m s at) ≡ take_packet es h (left m' s at)
   listed-taken es h = named-taken (left m s at) (left m' s at) (left-length s at m m' len) (header-same s at m m' len same) es h (fields-same s at m m' len same)

@@ -28,7 +28,6 @@ strides_have_spare_bytes = search arith
 -- ---- of a stream nothing past its size
 
 module _ (m : List ℕ) (s : Stream) where
-
   packet-within : (at : ℕ) → Every ((Within m s) at) (packet_listed m s at)
   unfolding packet_listed
   packet-within at =

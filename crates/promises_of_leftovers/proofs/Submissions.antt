@@ -31,7 +31,6 @@ use Rattle.promises_of_leftovers.specs.Submissions.{Covered, InWork, There, call
 -- ---- it covers what their units list
 
 module _ (P : Named → Type 0) where
-
   -- where a unit is due: all that is listed there
   all_here : (w : World) (k : Work) → Every (There P) (where_so (at_rest k) (w ∷ [])) → (at_rest k ≡ false → Every P (listed_at w.state.regs k w.mem))
       → Every P (listed_at w.state.regs k w.mem)

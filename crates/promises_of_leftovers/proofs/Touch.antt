@@ -38,7 +38,6 @@ use Rattle.promises_of_leftovers.specs.Touch.{AgreeInFirst, Fits, MovesNeither, 
 -- ---- a write of another register
 
 module _ (s : State) (v : ℕ) where
-
   all_fit : Every (Fits s v) (writable s v)
   unfolding Every
   all_fit =
@@ -56,7 +55,6 @@ module _ (s : State) (v : ℕ) where
 -- ---- what is kept from world to world
 
 module _ (m : List ℕ) (ring page : ℕ) where
-
   breaks-on-ring : (w : World) (k : Work) (j : Job) (f : Fault) → w.state.regs.ring ≡ ring → Breaks w k j f → OnRing ring k → j.ring ≡ ring
   breaks-on-ring w resting j f e h on = (opened-ring m ring page) w (Refused j h.why) e h.here
   breaks-on-ring w (entries o kept) j f e h on = ap (λ (x : Job). x.ring) h.0 ∙ on

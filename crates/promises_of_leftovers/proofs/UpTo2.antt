@@ -23,7 +23,6 @@ use Rattle.promises_of_leftovers.proofs.UpTo.{each-unit}
 
 module _ (s : State) (m m' : List ℕ) (len : length m ≡ length m') (rest : s.work ≡ resting) (due : go (lent s m) ≡ true)
     (same : AgreeOn m m' (submission_listed m s.regs.ring s.regs.ringsize)) where
-
   -- and the submission as a whole, by the unsliced rules: the same number of units, and the same end
   pub whole-submission : SameUnits (lent s m) (lent s m') (submitted (lent s m)) (submitted (lent s m'))
   unfolding go

@@ -14,7 +14,6 @@ use Rattle.promises_of_months.specs.Counted.{Exactly, counts-when, nine-when, te
 -- ---- one feed, after the submissions counted so far
 
 module _ (xs : List Finished) (s : Finished) where
-
   pub exactly : (Exactly xs s)
   exactly = by_test (good_feed s) (below (totals (pushed xs s))) refl refl
     where
@@ -45,7 +44,6 @@ counted-below xs [] h = h
 counted-below xs (s ∷ ss) h = counted-below (with_fed xs s) ss (with-fed-below xs s h)
 
 module _ (ss : List Finished) where
-
   pub month-below : below (totals (counted ss)) ≡ true
   month-below = counted-below [] ss below-nothing
 

@@ -12,7 +12,6 @@ use Rattle.promises_of_months.specs.Parts.{good-append, good-counted, good_ones,
 -- ---- merging
 
 module _ (ss ts : List Finished) where
-
   -- the totals of parts, merged, are the totals of all: where no 9 arises in feeding all
   pub parts-of-all : no_nine (answers (ss ++ ts)) ≡ true → merged (totals (counted ss)) (totals (counted ts)) ≡ record { answer = done; totals = totals (counted (ss ++ ts)) }
   parts-of-all h =

@@ -34,7 +34,6 @@ module _ (P : Passed → Type 0) (es : List Entry) (h : Progress)
     (exports : (k token : ℕ) (r : Resource) → Exported h k token r → P (tokens_now h (with_token token r.lowest h.tokens)))
     (imports : (k token : ℕ) (r : Resource) → Imported h k token r → P (imported h k r))
     (releases : (token : ℕ) (r : Resource) → bound token h.tokens h.holdings.resources ≡ found r → P (tokens_now h (without_token token h.tokens))) where
-
   pub pass-or : (p : Packet) → P (pass es h p)
   unfolding pass apply target_after tokens_after on_buffer_packet on_texture_packet on_viewport_packet on_clear_packet
   pass-or (Buffer c) =

@@ -83,7 +83,6 @@ module _ (old new : ℕ) (rs : List Resource) (few : length rs ≤ most) (once :
 -- ---- kept by every packet
 
 module _ (es : List Entry) (h : Progress) (s : SoundProgress es h) where
-
   resources-stored : (r : Resource) → Fresh (held es h s) r → SoundResources (pushed (held es h s).resources r)
   resources-stored r f =
       record {
@@ -127,7 +126,6 @@ module _ (es : List Entry) (h : Progress) (s : SoundProgress es h) where
       (rw (clip-kind t c) (omega arith))
 
   module _ (k : ℕ) (r : Resource) (e : live k (held es h s) ≡ found r) where
-
     here : (place es h s k r e) < length (held es h s).resources
     here = found-place handle_of k (held es h s).resources r e
 

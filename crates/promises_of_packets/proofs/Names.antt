@@ -22,7 +22,6 @@ use Rattle.promises_of_packets.specs.Names.{none-not-found, spend, spent}
 -- ---- a token released: the first that has the number, spent
 
 module _ (token : ℕ) where
-
   nothing-spent : (spend token) [] ≡ []
   unfolding spend
   nothing-spent = refl

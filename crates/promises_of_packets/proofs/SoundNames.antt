@@ -53,9 +53,7 @@ module _ (rs : List Resource) (s : SoundNames rs) where
 -- ---- a resource whose lowest name changes
 
 module _ (low new : ℕ) (rs after : List Resource) (names : (k : ℕ) → lookup handle_of k after ≡ in_found (moved low new) (lookup handle_of k rs)) where
-
   module _ (s : SoundBut low new rs) where
-
     pub sound-after : SoundNames after
     sound-after =
         record {
@@ -112,7 +110,6 @@ module _ (rs : List Resource) (s : SoundNames rs) (r : Resource) (unused : looku
 -- ---- a name destroyed
 
 module _ (rs : List Resource) (once : Once handle_of rs) (some : lookup handle_of 0 rs ≡ none) (s : SoundNames rs) (k : ℕ) (r : Resource) (e : lookup handle_of k rs ≡ found r) where
-
   here : index_of handle_of k rs < length rs
   here = found-place handle_of k rs r e
 

@@ -29,7 +29,6 @@ use Rattle.promises_of_same_desks.proofs.Packets.{few-names, few-tokens, keeps, 
 -- ---- one packet, whatever it is
 
 module _ (es : List Entry) (g h : Progress) (s : SoundProgress es g) (t : SoundProgress es h) (d : SameHeld g h) where
-
   -- ---- an import
 
   handed : (c : Record) → SameHeld (record { holdings = recorded c g.holdings; target = g.target; tokens = g.tokens }) (record { holdings = recorded c h.holdings; target = h.target; tokens = h.tokens })

@@ -190,7 +190,6 @@ module _ (P : Outcome → Outcome → Type 0) (g h : Holdings)
 -- ---- one packet, whatever it is
 
 module _ (es : List Entry) (g h : Progress) (s : SoundProgress es g) (t : SoundProgress es h) (d : SameHeld g h) where
-
   -- ---- an import
 
   -- the same of what its rules come to

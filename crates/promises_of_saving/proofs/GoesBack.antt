@@ -23,7 +23,6 @@ use Rattle.promises_of_saving.specs.GoesBack.{Goes, GoesBack, empty-names, empty
 -- ---- a file of form 2
 
 module _ (b : List ℕ) (g : GoodSections Two b) where
-
   goes_back : beyond One (loaded_sections Two b) ≡ false → GoesBack b
   unfolding loaded_sections
   goes_back e =

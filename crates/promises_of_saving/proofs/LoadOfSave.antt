@@ -37,7 +37,6 @@ use Rattle.promises_of_saving.specs.LoadOfSave.{LoadedBack, SharedBack, at, b, c
 -- ---- the sections
 
 module _ (f : Form) (s : State) (v : Savable s) where
-
   resources-back : GoodResources (length (firsts_of s)) (b f s v) (head_bytes f) 0 × (loaded_resources (length (firsts_of s)) (b f s v) (head_bytes f) ≡ firsts_of s)
   resources-back =
       written-resources (firsts_of s) (shared_fields f s) (b f s v) (head_bytes f) 0 (firsts-rise s v) (every_first s v AsCreated v.created) (firsts-own s v)
@@ -53,7 +52,6 @@ module _ (f : Form) (s : State) (v : Savable s) where
   at_next = ap (names_place f) (head_read f s v).number
 
 module _ (s : State) (v : Savable s) where
-
   few-others : word (c s v) (at s v) ≡ length (others_of s)
   few-others = word_back (word (c s v) (at s v)) (length (others_of s)) (reads_first (c s v) (at s v) (shared_fields Two s) (reads-next Two s v)) (omega (arith, few-names s v))
 

@@ -31,7 +31,6 @@ use Rattle.promises_of_saving.specs.LoadedIsSound.{SoundAtRest, an-other, bindab
 -- ---- resources under one name each, and other names of them
 
 module _ (rs ns : List Resource) (own : Every OneName rs) (others : Every (OtherNameOf rs) ns) where
-
   pub names-sound : SoundNames (rs ++ ns)
   names-sound =
       record {
@@ -49,7 +48,6 @@ module _ (rs ns : List Resource) (own : Every OneName rs) (others : Every (Other
 -- ---- section 2, and what comes after it
 
 module _ (f : Form) (b : List ℕ) (g : GoodSections f b) where
-
   -- with no other names and no tokens
   section-2-sound : SoundBelongings (record { resources = section_2 f b; tokens = [] })
   section-2-sound =
@@ -66,7 +64,6 @@ module _ (f : Form) (b : List ℕ) (g : GoodSections f b) where
 
 -- with those of sections 3 and 4
 module _ (rs : List Resource) (b : List ℕ) (at : ℕ) (rise : Rises handle_of 0 rs) (own : Every OneName rs) (created : Every AsCreated rs) (g : GoodShared rs b at) where
-
   shared-sound : SoundBelongings (record { resources = rs ++ (ns rs b at rise own created g); tokens = (ts rs b at rise own created g) })
   shared-sound =
       record {

@@ -20,7 +20,6 @@ use Rattle.promises_of_saving.specs.MoveAnswers.{LoadRefused, Loads, MoveDone, M
 -- ---- by the rules of a file
 
 module _ (b : List ℕ) where
-
   goes-if-good : bad_place b ≡ none → ((its_beyond b) ≡ false → Goes (form_in b) (sections b)) × (Goes (form_in b) (sections b) → (its_beyond b) ≡ false)
   unfolding loaded
   goes-if-good e = goes-exactly (form_in b) (sections b) (good-file b (good-is-kept b e))
@@ -45,7 +44,6 @@ module _ (b : List ℕ) where
 -- ---- each case has its answer
 
 module _ (b buffer : List ℕ) where
-
   -- "8 (7 comes before it"
   pub move-not-in-form : MoveNotInForm b → call_move b buffer ≡ not_saved not_in_form buffer
   move-not-in-form c =

@@ -75,7 +75,6 @@ form-2-goes-back-exactly b good form buffer = (
 -- ---- what a move writes
 
 module _ (b buffer : List ℕ) (o : OfBytes b) (d : (call_move b buffer).answer ≡ done) where
-
   moved-is-good : bad_place b ≡ none
   moved-is-good = good-if-loads b ((move-done-exactly b buffer).0 d).loads
 

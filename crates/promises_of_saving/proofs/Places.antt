@@ -39,7 +39,6 @@ lowest-first at (r ∷ rs) p o e = by_test r.broken refl (λ i. lowest-first r.p
 
 -- of the call
 module _ (s : State) (b : List ℕ) (e : (call_load s b).answer ≡ bad_file) where
-
   pub reported-place-is-the-lowest : Every (NotBefore (call_load s b).place) (file_rules b)
   unfolding bad_place
   reported-place-is-the-lowest = lowest-first (before_sections b) (file_rules b) (call_load s b).place (rules-in-order b) (its-place s b e)

@@ -26,7 +26,6 @@ use Rattle.promises_of_saving.specs.SavedParts.{all-lowest, held, if-lowest, if-
 -- ---- a resource under its lowest name, or under another
 
 module _ (s : State) (v : Savable s) where
-
   -- ---- they are few, and rise
 
   pub firsts-rise : Rises handle_of 0 (firsts_of s)

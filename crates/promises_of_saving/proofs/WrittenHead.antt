@@ -19,7 +19,6 @@ use Rattle.promises_of_saving.specs.WrittenHead.{HeadRead, after_head, b, bit-sm
 -- ---- the head
 
 module _ (f : Form) (s : State) (v : Savable s) where
-
   reads : (i : ℕ) → word (b f s v) (4 * i) ≡ get_or (sections_fields f s) i 0 % 2 ^ 32
   reads i = word-of-file (sections_fields f s) i
 

@@ -27,9 +27,7 @@ use Rattle.promises_of_sharing.specs.BoundTokens.{BoundUnless, LastNameOf, bound
 -- ---- each packet that changes tokens
 
 module _ (es : List Entry) (h : Progress) (s : SoundProgress es h) (token : ℕ) (b : IsBound token h.tokens) where
-
   module _ (k : ℕ) (r : Resource) (e : live k h.holdings ≡ found r) where
-
     after-destroy : (renamed r.lowest (new es h s token b k r e) b.0.name ≡ no_name → ⊥) → IsBound token (tokens_left r (left es h s token b k r e) h.tokens)
     after-destroy =
         bound-follows token r.lowest (new es h s token b k r e) h.tokens (tokens_left r (left es h s token b k r e) h.tokens)

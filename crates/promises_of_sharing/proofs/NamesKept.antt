@@ -49,7 +49,6 @@ keeps-both xs ys a b c on later first second =
 -- ---- every packet
 
 module _ (es : List Entry) (h : Progress) (s : SoundProgress es h) where
-
   -- a new resource has no token yet, since each bound one is bound to a live name
   with-a-new-one : (r : Resource) → Fresh h.holdings r → KeepsNamesBut [] (left_by h) (record { resources = pushed (rs es h s) r; tokens = h.tokens })
   with-a-new-one r f =

@@ -59,7 +59,6 @@ entries-keep names own o kept = by_test (ltb (length kept) o.table.count)
     by_test false = packets-keep names own o.job o.stream stream_header_size kept (at_first own) (keeps_same names own)
 
 module _ (w : World) (names : List ℕ) where
-
   next-keeps : (k next : Work) → Next w k next → SoundWork k → WorkGoesOn (own w names).tokens k → WorkKeeps names (own w names) k → WorkKeeps (names_after_unit w k names) (own w names) next
   next-keeps resting next h s g q = subst (WorkKeeps [] (own w names)) (sym h.first) (entries-keep [] (own w names) h.what [])
   next-keeps (entries o kept) next h s g q = subst (WorkKeeps names (own w names)) (sym h.1) (entries-keep names (own w names) o (take_entry w.mem o.table kept).kept)
@@ -76,7 +75,6 @@ module _ (w : World) (names : List ℕ) where
 module _ (first : Belongings) where
   -- units: what was answered good stays
   module _ (by_good : List ℕ) where
-
     by-unit : (w w' : World) (names : List ℕ) → Unit w w' → Onward first.tokens w'.state → (With first by_good) names w.state → (With first by_good) (names_after_unit w w.state.work names) w'.state
     unfolding settled
     by-unit w w' names (works-on next h) o f =

@@ -88,7 +88,6 @@ module _ (R : List Taken → Belongings → Belongings → Type 0) (c : Carries 
       by_test false = none-in-packets [] o.job o.stream stream_header_size kept (at_first own)
 
   module _ (w : World) (xs : List Taken) where
-
     next-none : (k next : Work) → Next w k next → (NoneYet R c) xs k → (NoneYet R c) (packets_after_unit w k xs) next
     next-none resting next h n = subst ((NoneYet R c) []) (sym h.first) (none-in-entries (own R c w xs) h.what [])
     next-none (entries o kept) next h n =
@@ -113,7 +112,6 @@ module _ (R : List Taken → Belongings → Belongings → Type 0) (c : Carries 
   module _ (first : Belongings) where
     -- units: what was answered good stays
     module _ (by_good : List Taken) where
-
       by-unit : (w w' : World) (xs : List Taken) → Unit w w' → SoundState w'.state → (With R c first by_good) xs w.state → (With R c first by_good) (packets_after_unit w w.state.work xs) w'.state
       unfolding settled
       by-unit w w' xs (works-on next h) o f =

@@ -24,7 +24,6 @@ use Rattle.promises_of_packets.specs.Held.{Every, every-none, clip-kind}
 use Rattle.promises_of_sharing.specs.RecordHandles.{Adds, AddsUnderItsHandle, HasHandleOf}
 
 module _ (p : Packet) (h : Holdings) where
-
   none-added : AddsUnderItsHandle p h.records h.records
   none-added = record { added = []; are = sym (append-nil h.records); its-handle = every-none _ }
 

@@ -32,7 +32,6 @@ module _ (k low new : ℕ) (rs mid after : List Resource)
     (in-mid : (n : ℕ) → (n ≡ k → ⊥) → lookup handle_of n mid ≡ lookup handle_of n rs)
     (all : (n : ℕ) → lookup handle_of n after ≡ in_found (moved low new) (lookup handle_of n mid))
     (s : SoundBut low new mid) where
-
   leaves-others : LeavesOthers k rs after
   leaves-others =
       record {
@@ -62,9 +61,7 @@ module _ (k low new : ℕ) (rs mid after : List Resource)
 -- ---- "destroying one name leaves the others, and destroying the last frees the room"
 
 module _ (es : List Entry) (h : Progress) (s : SoundProgress es h) where
-
   module _ (k : ℕ) (r : Resource) (e : live k h.holdings ≡ found r) where
-
     shorter : length (rs es h s) ≡ suc (length (names_left r (left es h s k r e)))
     shorter = by_test (shareable r.kind)
       where
@@ -141,7 +138,6 @@ module _ (es : List Entry) (h : Progress) (s : SoundProgress es h) where
 -- ---- "Import makes the handle a second name for the exported resource"
 
 module _ (es : List Entry) (h : Progress) (s : SoundProgress es h) where
-
   module _ (k token : ℕ) (r : Resource) (i : Imported h k token r) where
     its-token : BoundTo token h.tokens (now es h s) r
     its-token = sound-bound token h.tokens (now es h s) r s.tokens i.bound-to

@@ -17,7 +17,6 @@ use Rattle.promises_of_sharing.specs.SharedPackets.{ExportPacket, ReleasePacket,
 -- ---- "The handle check (18, create's rule for import) comes first, then shape, token, room."
 
 module _ (es : List Entry) (h : Progress) where
-
   pub when-an-export-is-accepted : (c : ExportSurface) → (ExportPacket es h) c
   unfolding pass apply on_export_packet target_after tokens_after
   when-an-export-is-accepted c =

@@ -73,7 +73,6 @@ module _ (k low new : ℕ) (rs mid after : List Resource) (ts us : List Token)
     (s : SoundBut low new mid) (low-is-some : low ≡ no_name → ⊥)
     (member : (token : ℕ) (t : Token) → lookup token_of token ts ≡ found t → (renamed low new t.name ≡ no_name → ⊥)
     → (n : ℕ) × (x : Resource) × (lookup handle_of n mid ≡ found x) × (x.lowest ≡ t.name)) where
-
   follow-goes-on : TokensGoOn ts us
   follow-goes-on =
       record {
@@ -117,7 +116,6 @@ stay-unchanged h g e on same =
 
 -- a token that is new
 module _ (ts : List Token) (x : Token) (unused : lookup token_of x.token ts ≡ none) where
-
   go-on-exported : TokensGoOn ts (pushed ts x)
   go-on-exported =
       record {
@@ -150,7 +148,6 @@ module _ (token : ℕ) (ts : List Token) (x : Token) (e : lookup token_of token 
       (same_or_not j token)
 
 module _ (es : List Entry) (h : Progress) (s : SoundProgress es h) where
-
   stay-destroyed : (k : ℕ) (r : Resource) → live k h.holdings ≡ found r → TokensStay h (destroyed h k r).held
   stay-destroyed k r e =
       follow-stays k r.lowest (lowest_left r.lowest (without k h.holdings)) (held es h s) (without k h.holdings) (names_left r (without k h.holdings)) h.tokens (tokens_left r (without k h.holdings) h.tokens)

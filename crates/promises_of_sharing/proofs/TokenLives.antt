@@ -119,7 +119,6 @@ module _ (es : List Entry) (h : Progress) (s : SoundProgress es h) where
   -- ---- where a token that is bound after a packet came from
 
   module _ (token : ℕ) where
-
     came-destroyed : (k : ℕ) (r : Resource) → live k h.holdings ≡ found r → IsBound token (tokens_left r (without k h.holdings) h.tokens) → IsBound token h.tokens
     came-destroyed k r e =
         bound-followed token r.lowest (lowest_left r.lowest (without k h.holdings)) h.tokens (tokens_left r (without k h.holdings) h.tokens)

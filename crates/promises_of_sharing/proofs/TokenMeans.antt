@@ -75,7 +75,6 @@ module _ (xs ys : List Taken) (a b c : Belongings) (first : TokensMean xs a b) (
 -- ---- every packet
 
 module _ (es : List Entry) (h : Progress) (s : SoundProgress es h) (token : ℕ) (b : IsBound token h.tokens) where
-
   -- the resource that it is bound to
   its : Bindable (name es h s token b) (rs es h s token b)
   its = s.tokens.bound-to token b.0 b.1 b.2
@@ -103,7 +102,6 @@ module _ (es : List Entry) (h : Progress) (s : SoundProgress es h) (token : ℕ)
       by-the-same-name (record { resources = pushed (rs es h s token b) r; tokens = h.tokens }) refl (old-name (rs es h s token b) (names es h s token b) r f.unused (name es h s token b) its.what its.here ∙ sym its.here)
 
   module _ (k : ℕ) (r : Resource) (e : live k h.holdings ≡ found r) where
-
     left-means : (renamed r.lowest (new es h s token b k r e) (name es h s token b) ≡ no_name → ⊥) → means (renamed r.lowest (new es h s token b k r e) (name es h s token b)) (left es h s token b k r e) ≡ means (name es h s token b) (rs es h s token b)
     left-means some =
         ⊎_elim
@@ -179,7 +177,6 @@ module _ (es : List Entry) (h : Progress) (s : SoundProgress es h) (token : ℕ)
 
 -- the packet that exports it: the token has the lowest name of the exported handle's resource
 module _ (es : List Entry) (h : Progress) (s : SoundProgress es h) (c : ExportSurface) where
-
   as-its-lowest : (r : Resource) → live c.handle h.holdings ≡ found r → (ts : List Token) (t : Token) → lookup token_of c.token ts ≡ found t → t.name ≡ r.lowest
       → (AsTheHandle es h s c) (record { resources = (held_now es h s c); tokens = ts })
   as-its-lowest r named ts t e low b =

@@ -63,7 +63,6 @@ entries-go-on o kept owned = by_test (ltb (length kept) o.table.count)
     by_test false = packets-go-on owned.tokens o.job o.stream stream_header_size kept (at_first owned) (go-on-same owned.tokens)
 
 module _ (w : World) where
-
   next-goes-on : (k next : Work) → Next w k next → SoundWork k → WorkGoesOn (its w) k → WorkGoesOn (its w) next
   next-goes-on resting next h s g = subst (WorkGoesOn (its w)) (sym h.first) (entries-go-on h.what [] w.state.belongings)
   next-goes-on (entries o kept) next h s g = subst (WorkGoesOn (its w)) (sym h.1) (entries-go-on o (take_entry w.mem o.table kept).kept w.state.belongings)

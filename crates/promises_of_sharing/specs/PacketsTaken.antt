@@ -90,7 +90,6 @@ pub record Carries (R : List Taken → Belongings → Belongings → Type 0) : T
       → R (record { before = h; packet = p } ∷ []) (left_by h) (left_by (pass es h p).held)
 
 module _ (R : List Taken → Belongings → Belongings → Type 0) (c : Carries R) where
-
   -- of the submission in work: from the device's own on
   abbrev pub InWork : List Taken → Belongings → Work → Type 0
   InWork xs own resting = 0 ≤ 0

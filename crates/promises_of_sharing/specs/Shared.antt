@@ -175,11 +175,9 @@ module _ (es : List Entry) (h : Progress) (s : SoundProgress es h) where
   its-names = s.holdings.resources.names
 
   module _ (k token : ℕ) (r : Resource) (i : Imported h k token r) where
-
     abbrev pub first_name : ℕ
     first_name = lower k r.lowest
-
-  -- ---- "Only textures with one mip and one layer may be exported"
+    -- ---- "Only textures with one mip and one layer may be exported"
 
 -- which is what `shareable` says of a kind
 pub record OneMipOneLayer (k : Kind) : Type 0 where

@@ -92,7 +92,6 @@ bound-followed token low new ts us some e b = by_found (lookup token_of token ts
         (t, h, λ z. b.2 (ap (λ (x : Token). x.name) (sym (found-same i)) ∙ (ap (renamed low new) z ∙ renamed-other low new no_name (λ u. some (sym u)))))
 
 module _ (es : List Entry) (h : Progress) (s : SoundProgress es h) where
-
   -- ---- where a token that is bound after a packet came from
 
   abbrev pub held_now : List Resource

@@ -80,7 +80,6 @@ module _ (es : List Entry) (h : Progress) (s : SoundProgress es h) (token : ℕ)
     new = lowest_left r.lowest left
 
   module _ (k other : ℕ) (r : Resource) (i : Imported h k other r) where
-
     abbrev pub then : ℕ
     then = lower k r.lowest
 

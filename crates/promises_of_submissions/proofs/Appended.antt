@@ -77,7 +77,6 @@ same_stream b = same_within (length b) b (omega arith)
 -- but for appended bytes
 module _ (x y y' z z' : List ℕ) (head : packet_header_size ≤ length x) (row : least_size (word x 0) ≤ length x)
     (size_is : word x 4 ≡ length x + length y) (len : length y ≡ length y') (later-len : length z ≡ length z') (later : SameButAppended z z') where
-
   front : (n : ℕ) → n ≤ length x → Agree (one x y y' z z' head row size_is len later-len later) (other x y y' z z' head row size_is len later-len later) 0 n
   front n h = take-append-le n x (y ++ z) h ∙ sym (take-append-le n x (y' ++ z') h)
 

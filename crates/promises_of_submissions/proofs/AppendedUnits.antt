@@ -54,7 +54,6 @@ same-frames b b' (packet op size e e' same later) = e ∙ sym e'
 same-frames b b' (misframed r len e e') = e ∙ sym e'
 
 module _ (op size : ℕ) where
-
   same_row : (b b' : List ℕ) → SameButAppended b b' → frame_of b ≡ Whole op size → Agree b b' 0 (least_size op)
   same_row b b' ends h = refl
   same_row b b' (packet op₁ size₁ e e' same later) h = let is : op₁ ≡ op = cc in rw is at same

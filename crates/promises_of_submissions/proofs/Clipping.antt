@@ -21,7 +21,6 @@ use Rattle.promises_of_submissions.specs.Clipping.{Along, ClippedTo, CutBoth, In
 -- ---- the rectangle
 
 module _ (s : Shape) (c : SetScissor) (good : bad_sides c ≡ false) where
-
   both-cut : (i j : ℕ) → (CutBoth s c good) i j → InBoth s c i j
   both-cut i j k =
       let a : Along c.x (nat_abs c.width) s.width i = (cut-is c.x (nat_abs c.width) s.width i).0 k.0 in

@@ -24,7 +24,6 @@ use Rattle.promises_of_submissions.specs.FloatBits.{ClearCarried, ViewportCarrie
 -- ---- a packet's own bytes
 
 module _ (b : List ℕ) where
-
   module _ (bytes : OfBytes b) where
     carried : (at : ℕ) → is_nan_bits (word b at) ≡ false → bits_of (float_of (word b at)) ≡ word b at
     carried at e = bits-are-carried (word b at) (word_fits b at bytes) e

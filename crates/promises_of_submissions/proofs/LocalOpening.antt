@@ -20,11 +20,9 @@ use Rattle.promises_of_submissions.specs.LocalOpening.{SameOpening, SameSlot, he
 -- ---- a submission
 
 module _ (m m' : List ℕ) (len : length m ≡ length m') where
-
   -- ---- the ring
 
   module _ (ring size : ℕ) (same : SameOpening m m' ring size) where
-
     same_good : good_ring m ring size ≡ good_ring m' ring size
     unfolding good_ring
     same_good = rw (← len) (by_tests (leb ring_header_size size) (leb (ring + size) (length m)) refl refl)

@@ -22,7 +22,6 @@ use Rattle.promises_of_submissions.proofs.LocalOpening.{same-opening}
 use Rattle.promises_of_submissions.specs.Locality.{SameEnd, SameFor, SameRun, SameWhereRead, entry-blind, lent, opening-blind, packet-blind, same-taken-entry}
 
 module _ (s : State) (m m' : List ℕ) where
-
   module _ (len : length m ≡ length m') where
     on-reads-only : (k : Work) → SameFor s.regs k m m' → SameEnd m m' (step_on (lent s m) k) (step_on (lent s m') k)
     unfolding open_step entry_step packet_step

@@ -18,7 +18,6 @@ use Rattle.promises_of_submissions.specs.Night.Night.{answer, begun, submission}
 -- ---- where a run stands: so many units into what began at the last clear world
 
 module _ (w : World) (n : ℕ) (c : Clear w) where
-
   reached-within : (g : go w ≡ true) → n < (submitted w).units → Reached w n
   reached-within g h =
       let s : Submits w (submitted w) = submits w (rests w c g) g in

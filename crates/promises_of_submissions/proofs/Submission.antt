@@ -31,7 +31,6 @@ use Rattle.promises_of_submissions.specs.Submission.{Lies, LiesOn, Submits, all,
 -- ---- what was opened lies within memory
 
 module _ (m : List ℕ) (j : Job) (d : Descriptor) (stride : ℕ) (good : submission_rules m stride d ≡ Fine) where
-
   pub started-lies : Lies m (opened_of m j d)
   started-lies =
       record {
@@ -50,7 +49,6 @@ pick-lies m true x y p q = p
 pick-lies m false x y p q = q
 
 module _ (m : List ℕ) (ring : ℕ) where
-
   ring-lies : LiesOn m (ring_opening m ring (ring_header m ring))
   unfolding ring_opening submission_opening
   ring-lies =
@@ -65,7 +63,6 @@ module _ (m : List ℕ) (ring : ℕ) where
 -- ---- from the opening on
 
 module _ (w : World) (on : w.state.regs.enabled ≡ true) (o : Opened) (lies : Lies w.mem o) where
-
   stream-is : (v : Finding) (h : Progress) → after_stream w on o.job o.stream (all w on o lies) lies.stream v h ≡ finished w o.job (all w on o lies) h v
   stream-is fine h = refl
   stream-is (broken f) h = refl
