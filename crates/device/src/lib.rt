@@ -1,6 +1,8 @@
 // The device as a value: every call takes it and hands it back, with the call's answer and its values. It is a struct of the words and
 // tables that the calls work on, and lends them. No call asks anything of its caller: whatever stands in the device or in memory, it ends
 // and says what it gives.
+#![tactic(auto)]
+
 ghost use Rattle.std.specs.Prelude.{◌≡◌};
 ghost use Rattle.rules.specs.State.{made};
 ghost use Rattle.rules.specs.Calls.{call_write, call_read, call_run, call_record, call_answer};

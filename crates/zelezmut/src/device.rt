@@ -85,12 +85,7 @@ pub fn zelezmut_run(
 }
 
 // Record i of the submission that waits: the call's answer, and says kind, handle, id, GPA and length.
-pub fn zelezmut_record(
-    words: &Words,
-    records: &Records,
-    i: u32,
-    said: &mut [u64; 5],
-) -> u32
+pub fn zelezmut_record(words: &Words, records: &Records, i: u32, said: &mut [u64; 5]) -> u32
     ensures { SaysRecord words.now records.now i result said.new }
 {
     let x = device_calls::record(words, records, i);

@@ -4,7 +4,10 @@ ghost use Rattle.std.specs.Prelude.{◌≡◌};
 ghost use Rattle.rules.specs.Difference.{check, parts, class_asked, next_asked, start, pair_at, next_at, onward};
 ghost use Rattle.export_difference.specs.Numbers.{Says, checked_said, parts_said, class_said, next_said, offset_said, SaysStart, cursor_in, cursor_words, pair_words};
 
-use export_difference::{cursor_in, put_cursor, say_checked, say_class, say_next, say_offset, say_pair, say_parts, say_start, };
+use export_difference::{
+    cursor_in, put_cursor, say_checked, say_class, say_next, say_offset, say_pair, say_parts,
+    say_start,
+};
 use widths::word_to_usize;
 
 // Whether both are valid streams: 0, or 16 or 17 beside which of the two it is, the first if both.
@@ -67,12 +70,7 @@ pub fn zelezmut_difference_start(
 
 // The packets at the cursor, in five words: the class, place and size in the first stream, place and size in the second. The streams are not
 // checked again.
-pub fn zelezmut_difference_pair(
-    first: &[u8],
-    second: &[u8],
-    cursor: &[u64; 2],
-    said: &mut [u64; 5],
-)
+pub fn zelezmut_difference_pair(first: &[u8], second: &[u8], cursor: &[u64; 2], said: &mut [u64; 5])
     ensures { said.new ≡ pair_words (pair_at first.now second.now (cursor_in cursor.now)) }
 {
     let x = diff_calls::pair_at(first, second, cursor_in(cursor));

@@ -1,5 +1,7 @@
 // The exports for a host that is not Rattle: plain numbers, lent bytes and lent words in, numbers out.
 // Each only hands its words on, so that what it promises is the promise of the crate behind it. Crate `zelezmut_c` gives them their C names.
+#![tactic(auto)]
+
 pub mod device;
 pub mod difference;
 pub mod dump;

@@ -1,0 +1,6 @@
+-- `answer` meets its contract. Assumes nothing.
+use Rattle.device.specs.Calling.{calling}
+use Rattle.device.proofs.Device.answer.Goals as goal
+
+pub returns : goal.returns
+returns c = search calling

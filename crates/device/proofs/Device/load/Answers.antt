@@ -1,0 +1,6 @@
+-- `load` meets its contract. Assumes nothing.
+use Rattle.device.specs.Calling.{calling}
+use Rattle.device.proofs.Device.load.Goals as goal
+
+pub returns : goal.returns
+returns c = search calling

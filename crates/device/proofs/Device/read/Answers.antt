@@ -1,0 +1,6 @@
+-- `read` meets its contract. Assumes nothing.
+use Rattle.device.specs.Calling.{calling}
+use Rattle.device.proofs.Device.read.Goals as goal
+
+pub returns : goal.returns
+returns c = search calling

@@ -1,0 +1,6 @@
+-- `zelezmut_load` meets its contract. Assumes nothing.
+use Rattle.zelezmut.specs.Saying.{saying_saved}
+use Rattle.zelezmut.proofs.saved.zelezmut_load.Goals as goal
+
+pub returns : goal.returns
+returns c = search saying_saved
