@@ -17,7 +17,7 @@ use rules::{Ended, Form};
 use saved_save::FileSaved;
 
 // A device by value: its words, the entries kept, the two tables of resources, the two of tokens, and the records.
-#[derive(Drop)]
+#[derive(Clone, Copy)]
 pub struct Device {
     pub words: [u64; 36],
     pub entries: [u64; 256],
@@ -29,14 +29,14 @@ pub struct Device {
 }
 
 // What a write answers, and the device after it.
-#[derive(Drop)]
+#[derive(Clone, Copy)]
 pub struct Wrote {
     pub answer: u32,
     pub device: Device,
 }
 
 // What a run or an answer is answered with, the units spent, how it ended, and the device after it.
-#[derive(Drop)]
+#[derive(Clone, Copy)]
 pub struct Ran {
     pub answer: u32,
     pub units: u16,
@@ -45,7 +45,7 @@ pub struct Ran {
 }
 
 // What a load answers, the place of the first field or byte that is bad, and the device after it.
-#[derive(Drop)]
+#[derive(Clone, Copy)]
 pub struct Loaded {
     pub answer: u32,
     pub place: u32,

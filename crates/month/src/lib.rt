@@ -10,13 +10,13 @@ ghost use Rattle.month.specs.Views.{totals_of, fed_of};
 use kept_records::Records;
 
 // 26 words in the published order.
-#[derive(Drop)]
+#[derive(Clone, Copy)]
 pub struct Totals {
     pub words: [u64; 26],
 }
 
 // The answer of a feed or a merge, and the totals after it.
-#[derive(Drop)]
+#[derive(Clone, Copy)]
 pub struct Fed {
     pub answer: u32,
     pub totals: Totals,

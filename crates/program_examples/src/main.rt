@@ -1,5 +1,7 @@
 // Runs the worked examples of the night log through the code, and prints what it answers, a line a check.
 // Answers are what the code gave. Where that is a case without a number (a bad ring, a bad shape), the number is rules::numbers'.
+#![tactic(auto)]
+
 mod fences;
 mod guest;
 mod lines;

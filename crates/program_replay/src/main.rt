@@ -1,5 +1,7 @@
 // Plays a desk script on the device and prints the transcript, a line an operation: a script is the same on every desk.
 // What cannot be played on ends the transcript with a line that says why.
+#![tactic(auto)]
+
 mod lines;
 mod operations;
 mod saved;

@@ -14,7 +14,7 @@ use program_lines::{say, say_named};
 use rules::{Ended, Form};
 
 // An operation that was played: the device it leaves, and how the script goes on.
-#[derive(Drop)]
+#[derive(Clone, Copy)]
 pub struct Played {
     pub device: Device,
     pub next: Next,
