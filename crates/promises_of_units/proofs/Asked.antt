@@ -50,7 +50,6 @@ asked-have-changes (a ∷ qs) s =
 
 -- what changes make of something: events as they do, and a load whatever the file says
 module _ {A : Type 0} (by : Event → A → A) (part : State → A) where
-
   through-both : (ds es : List Change) (a : A) → (through-changes by part) (ds ++ es) a ≡ (through-changes by part) es ((through-changes by part) ds a)
   unfolding through-changes
   through-both [] es a = refl

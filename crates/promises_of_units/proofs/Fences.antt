@@ -24,7 +24,6 @@ use Rattle.rules.specs.declared.Opening.TheVariants.{Refused, Started}
 use Rattle.promises_of_units.specs.Fences.{accepted-waits, judged, refused-at-opening, refused-settles}
 
 module _ (w : World) (o : Opened) (opened : opening_of w.mem w.state.regs.ring w.state.regs.ringsize ≡ Started o) where
-
   -- so the fence, the status, the head and the page stand as before the opening, and the device's resources and tokens too
   pub waiting-keeps-registers : (judged w o opened).finding ≡ fine → (submitted w).state.state.regs ≡ w.state.regs
   waiting-keeps-registers e = ap (λ (x : World). x.state.regs) ((accepted-waits w o opened) e)
@@ -36,7 +35,6 @@ module _ (w : World) (o : Opened) (opened : opening_of w.mem w.state.regs.ring w
   waiting-keeps-belongings e = ap (λ (x : World). x.state.belongings) ((accepted-waits w o opened) e)
 
   module _ (f : Fault) (e : (judged w o opened).finding ≡ broken f) where
-
     -- its error and its fence stand in the registers
     pub refused-registers : (submitted w).state.state.regs ≡ ended_by o.job (broken f) w.state.regs
     unfolding settled
@@ -55,7 +53,6 @@ module _ (w : World) (o : Opened) (opened : opening_of w.mem w.state.regs.ring w
 -- ---- a submission that its opening refuses
 
 module _ (w : World) (j : Job) (r : Refusal) (opened : opening_of w.mem w.state.regs.ring w.state.regs.ringsize ≡ Refused j r) where
-
   pub opening-refusal-keeps-belongings : (submitted w).state.state.belongings ≡ w.state.belongings
   unfolding settled
   opening-refusal-keeps-belongings = ap (λ (x : Out World). x.state.state.belongings) (refused-at-opening w j r opened)

@@ -36,7 +36,6 @@ lent_any s (loads b good) = omega arith
 lent_any s (calls {s = t} c m k) = (omega arith, lent_any t k)
 
 module _ {Kind : List ℕ → Type 0} {Fact : ℕ → Work → Type 0} (c : KeptByUnits Kind Fact) where
-
   -- ---- by a unit, and by a run
 
   unit_lends : (w w' : World) → Unit w w' → (Lends c) w → (Lends c) w'

@@ -75,7 +75,6 @@ the-only-one id es e once h =
 -- ---- what a record call hands out
 
 module _ (s : State) (k : Called s) (i : ℕ) where
-
   record-lies : (j : Job) (es : List Entry) (h : Progress) (c : Record) → s.work ≡ waiting j es h → nth h.holdings.records i ≡ found c → (IfARange s k i) c
   record-lies j es h c w e range =
       by-entry (matching c.id es) refl

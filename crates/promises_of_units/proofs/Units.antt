@@ -62,7 +62,6 @@ unit w = by-work w w.state.work refl
 
 -- and what a case asks for decides it: a world that one of them gives is the unit's
 module _ (w : World) where
-
   broken-is-step : (k : Work) (j : Job) (f : Fault) → Breaks w k j f → step_on w k ≡ settled_keeping j (broken f) w
   unfolding open_step entry_step packet_step
   broken-is-step resting j f h = ap (after_opening w) h.here ∙ ap (λ x. settled_keeping j (broken x) w) (sym h.nowhere)
