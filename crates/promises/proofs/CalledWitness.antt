@@ -1,5 +1,4 @@
--- "The same device behaves the same for ever", of something that was called: the desk of TwoSubmissions.antt after both submissions, and the desk that is loaded
--- from its file. Both were made or loaded and called, they keep their names in another order, and they behave the same for ever. Assumes nothing.
+-- The theorems of specs/CalledWitness.antt, and what they rest on. Assumes nothing.
 use Rattle.std.specs.Prelude.{◌≡◌, refl, true, ℕ}
 use Rattle.std.proofs.Common.{sym, ap, subst, ◌∙◌, arith}
 use Rattle.machine.specs.Machine.{run_while}
@@ -29,7 +28,7 @@ use Rattle.promises_of_units.specs.Called.Call.{runs, answers}
 use Rattle.promises_of_units.specs.Called.Called.{loads, calls}
 use Rattle.promises_of_units.proofs.Ranges.{called-sound}
 use Rattle.promises_of_same_desks.proofs.ForEver.{sound-is-savable}
-use Rattle.promises_of_same_desks.proofs.ForEver2.{same-devices-for-ever}
+use Rattle.promises_of_same_desks.proofs.DesksForEver.{same-devices-for-ever}
 use Rattle.promises.specs.NightLog.{zeros}
 use Rattle.promises.specs.Witness.{in_bytes}
 use Rattle.promises.specs.StateWitness.{textured, stream_with}

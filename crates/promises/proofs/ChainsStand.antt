@@ -1,5 +1,4 @@
--- Demands 2 and 3, of calls with register writes: from any world, whatever is in work there, calls of which none resets stand where the
--- unsliced rules say, or some units into a submission. Assumes nothing.
+-- The theorems of specs/ChainsStand.antt, and what they rest on. Assumes nothing.
 use Rattle.std.specs.Prelude.{◌≡◌, refl, Bool, false, List, [], ◌∷◌, ◌++◌, suc, ◌+◌, ◌<◌}
 use Rattle.std.proofs.Common.{sym, ◌∙◌, append_assoc, append-nil, arith}
 use Rattle.std.proofs.Math.Path.{ap, subst}

@@ -1,5 +1,4 @@
--- A submission's units one by one: all but the last change the work alone, whatever the registers are, and with any registers that enable
--- they end where the unsliced rules end, after their count of units. Assumes nothing.
+-- The theorems of specs/Courses.antt, and what they rest on. Assumes nothing.
 use Rattle.std.specs.Prelude.{◌≡◌, Bool, true, false, ◌<◌, ltb}
 use Rattle.std.proofs.Math.Path.{refl, sym, ap}
 use Rattle.std.proofs.Common.{◌∙◌, arith, ltb-false, ltb-true}

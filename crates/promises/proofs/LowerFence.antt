@@ -1,5 +1,4 @@
--- 02, wish 1, "The completed fence may be lower after loading": a desk that was saved, went on to fence 8, and is loaded from that file again stands at fence 0.
--- By computation. Assumes nothing.
+-- The theorems of specs/LowerFence.antt, and what they rest on. Assumes nothing.
 use Rattle.std.specs.Prelude.{◌≡◌, refl, true}
 use Rattle.std.proofs.Common.{ap, ◌∙◌, arith}
 use Rattle.rules.specs.Numbers.{done}

@@ -1,6 +1,4 @@
--- What is promised, in the user's words and order: the three demands, 01's night log, then each wish that has landed. `Call`, `after` and what a call
--- reports are in Called.antt of promises_of_units; saves, loads and moves are in Asked.antt beside it. The calls' own definitions in rules/specs are what the
--- code's contracts cite. All else in this crate serves these statements. Those of wish 3 are in promises_of_dump: they speak of no device. Assumes nothing.
+-- The theorems of specs/Main.antt, and what they rest on. Assumes nothing.
 use Rattle.std.specs.Prelude.{◌≡◌, refl, Bool, true, false, List, [], ◌++◌, ◌⊎◌, ℕ, ◌+◌, ◌≤◌, ◌<◌, length, take}
 use Rattle.std.proofs.Common.{ap, ◌∙◌, sym, subst, inl, inr, ⊎_elim, arith}
 use Rattle.machine.specs.Machine.{run_none, run-stop}
@@ -94,7 +92,7 @@ use Rattle.promises_of_sharing.proofs.NamesOverCalls.{a-bound-token-keeps-its-na
 use Rattle.promises_of_sharing.specs.PacketsTaken.{packets_since}
 use Rattle.promises_of_sharing.specs.TokenLives.{Some, Exports, Spends, TokensLive, BoundIsFound, ImportAccepted}
 use Rattle.promises_of_sharing.proofs.TokenLives.{tokens-live-between-resets, a-token-stays-bound-exactly, bound-exactly-if-found}
-use Rattle.promises_of_sharing.proofs.TokenLives2.{a-later-import-is-accepted}
+use Rattle.promises_of_sharing.proofs.LaterImport.{a-later-import-is-accepted}
 use Rattle.promises_of_sharing.specs.TokenMeans.{TokensMean, NamesTheExported}
 use Rattle.promises_of_sharing.proofs.TokenMeans.{tokens-mean-between-resets, a-later-import-names-the-exported}
 use Rattle.promises_of_sharing.specs.RecordHandles.{AddsUnderItsHandle}
@@ -131,11 +129,11 @@ use Rattle.promises_of_saving.proofs.MoveAnswers.{move-refused-exactly, move-not
 use Rattle.promises_of_same_desks.specs.Desks.{SameDesk}
 use Rattle.promises_of_same_desks.specs.ForEver.{told_all, SameForEver}
 use Rattle.promises_of_same_desks.proofs.ForEver.{told-the-same-is-the-same}
-use Rattle.promises_of_same_desks.proofs.ForEver2.{same-desks-for-ever, same-devices-for-ever}
-use Rattle.promises_of_same_desks.proofs.ForEver3.{a-saved-desk-goes-on-elsewhere, a-moved-desk-goes-on-elsewhere}
+use Rattle.promises_of_same_desks.proofs.DesksForEver.{same-desks-for-ever, same-devices-for-ever}
+use Rattle.promises_of_same_desks.proofs.GoesOnElsewhere.{a-saved-desk-goes-on-elsewhere, a-moved-desk-goes-on-elsewhere}
 use Rattle.promises_of_saving.specs.Moved.{move_wrote}
 use Rattle.promises_of_saving.proofs.Moved.{form-1-is-never-refused-with-8, form-2-goes-back-exactly, load-of-moved, moves-there-and-back}
-use Rattle.promises_of_saving.proofs.Moved2.{form-1-moves-there-and-back}
+use Rattle.promises_of_saving.proofs.ThereAndBack.{form-1-moves-there-and-back}
 use Rattle.rules.specs.Listed.{submission_listed, listed_at, listed}
 use Rattle.promises_of_submissions.specs.Reads.{AgreeOn}
 use Rattle.promises_of_leftovers.specs.Matter.{AgreeOnListed, SameResults}
@@ -144,7 +142,7 @@ use Rattle.promises_of_leftovers.specs.AskedOver.{AgreeOnListedAsked, SameResult
 use Rattle.promises_of_leftovers.proofs.AskedOver.{whatever-is-asked-bytes-not-listed-cannot-matter as only-the-listed-asked, in-moving-memory-bytes-not-listed-cannot-matter}
 use Rattle.promises_of_leftovers.proofs.Fixed.{listed-is-fixed-at}
 use Rattle.promises_of_leftovers.proofs.UpTo.{up-to-the-settling, while-it-is-in-work, each-unit}
-use Rattle.promises_of_leftovers.proofs.UpTo2.{whole-submission}
+use Rattle.promises_of_leftovers.proofs.WholeSubmission.{whole-submission}
 use Rattle.promises_of_leftovers.specs.Touch.{AgreeInFirst, TouchNoListed}
 use Rattle.promises_of_leftovers.proofs.Touch.{beyond-if-no-listed-byte-is-touched as only-the-listed-beyond}
 use Rattle.promises_of_leftovers.specs.Spare.{agree-by-bytes, payloads-are-not-named}

@@ -1,4 +1,4 @@
--- The night log's examples marked [P], as one table: what the rules give, and what the log says. One statement holds of it all.
+-- The theorems of specs/NightLog.antt, and what they rest on. Assumes nothing.
 use Rattle.std.specs.Prelude.{◌≡◌, refl, true}
 use Rattle.rules.specs.Bytes.{le, bytes_of}
 use Rattle.rules.specs.Lists.{lookup}

@@ -1,5 +1,4 @@
--- Wish 9, "tell me where it broke": beside a broken rule's number stands the entry's index, the packet's offset in its stream, or 0. At each
--- settling of any device that was made and called, whatever bytes its memories hold. Assumes nothing.
+-- The theorems of specs/Places.antt, and what they rest on. Assumes nothing.
 use Rattle.std.specs.Prelude.{◌≡◌, refl, false, List, [], ℕ, ◌+◌, ◌≤◌, length}
 use Rattle.std.proofs.Common.{sym, ap, subst, ◌∙◌, arith}
 use Rattle.rules.specs.Numbers.{most, host_failed, no_place}

@@ -1,5 +1,4 @@
--- Wish 9, "tell me where it broke": at each settling of any device that was made and called, the number alone tells whether an entry or a packet broke a
--- rule, and number and detail tell which. Whatever bytes its memories hold. Assumes nothing.
+-- The theorems of specs/PlacesByNumber.antt, and what they rest on. Assumes nothing.
 use Rattle.std.specs.Prelude.{◌≡◌, true, false, ◌||◌, List, ℕ, eqb}
 use Rattle.std.proofs.Common.{ap, subst, ◌∙◌, inl, inr, arith, ne_eqb}
 use Rattle.rules.specs.Numbers.{bad_entry, twice_in_table, no_place}

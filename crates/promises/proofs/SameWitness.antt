@@ -1,7 +1,6 @@
--- Two devices that are the same desk stay so in the midst of a submission, where they are not equal: two buffers made in one order and in the other, and a guest
--- that sends packets to both. Assumes nothing.
+-- The theorems of specs/SameWitness.antt, and what they rest on. Assumes nothing.
 use Rattle.promises_of_same_desks.specs.Desks.{SameDesk}
-use Rattle.promises_of_same_desks.proofs.ForEver2.{same-devices-for-ever}
+use Rattle.promises_of_same_desks.proofs.DesksForEver.{same-devices-for-ever}
 use Rattle.promises_of_units.specs.Asked.{left, left_all}
 use Rattle.promises_of_same_desks.proofs.Witness.{having-sound}
 use Rattle.promises.specs.SameWitness.{into_the_midst, other_order, rising_order, two-orders-one-device}

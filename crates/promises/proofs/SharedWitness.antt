@@ -1,5 +1,4 @@
--- Wish 5's theorems are of something: streams that export, import, release and destroy, judged by the rules, each by computation; and a guest that
--- sends one of them. Assumes nothing.
+-- The theorems of specs/SharedWitness.antt, and what they rest on. Assumes nothing.
 use Rattle.std.specs.Prelude.{◌≡◌, refl, Bool, true, false, [], ◌∷◌}
 use Rattle.std.proofs.Common.{sym, ap, subst, arith}
 use Rattle.machine.specs.Machine.{run_while}

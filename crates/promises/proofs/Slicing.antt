@@ -1,5 +1,4 @@
--- Demand 3, of lists of calls that write no register: the units that they report and the answers that they take settle where they stand,
--- however the runs are cut. Assumes nothing.
+-- The theorems of specs/Slicing.antt, and what they rest on. Assumes nothing.
 use Rattle.std.specs.Prelude.{◌≡◌, refl, Bool, true, false, List, [], ◌∷◌, ℕ, eqb}
 use Rattle.std.proofs.Common.{sym, subst, ◌∙◌, arith}
 use Rattle.machine.specs.Machine.{pick}

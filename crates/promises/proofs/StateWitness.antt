@@ -1,5 +1,4 @@
--- Wish 7's theorems are of something: streams with a target, a viewport, a scissor and a clear, judged by the rules, each by computation.
--- Assumes nothing.
+-- The theorems of specs/StateWitness.antt, and what they rest on. Assumes nothing.
 use Rattle.std.specs.Prelude.{◌≡◌, refl, [], ◌++◌, ℕ}
 use Rattle.std.proofs.Common.{sym, ap, subst, arith}
 use Rattle.std.specs.Float.Ieee.{of_bits, to_bits}
@@ -44,8 +43,6 @@ state_streams =
       made_again = refl;
       target-0 = refl;
     }
-
--- ---- a guest that sends the first of them, with no table
 
 -- ---- so the theorems speak of them
 

@@ -1,5 +1,4 @@
--- Wish 5's tokens live from one submission to the next, of something: a ring with two submissions, of two programs. The first makes a texture and
--- exports it, and is answered good; the second imports it by its token under another handle, and is answered good. By computation. Assumes nothing.
+-- The theorems of specs/TwoSubmissions.antt, and what they rest on. Assumes nothing.
 use Rattle.std.specs.Prelude.{◌≡◌, refl, true, List, [], ◌∷◌, ◌++◌, ℕ}
 use Rattle.std.proofs.Common.{sym, ap, subst, ◌∙◌, inl, inr, ⊎_elim, arith}
 use Rattle.machine.specs.Machine.{run_while}
@@ -24,7 +23,7 @@ use Rattle.promises.specs.Witness.{in_bytes}
 use Rattle.promises_of_sharing.specs.Shared.{means}
 use Rattle.promises_of_sharing.specs.PacketsTaken.{Taken, Packets, packets_after_units, packets_after_call, packets_in_work, packets_since}
 use Rattle.promises_of_sharing.specs.TokenLives.{Some, Exports, Spends, ImportAccepted}
-use Rattle.promises_of_sharing.proofs.TokenLives2.{a-later-import-is-accepted}
+use Rattle.promises_of_sharing.proofs.LaterImport.{a-later-import-is-accepted}
 use Rattle.promises_of_sharing.specs.TokenMeans.{MeantAtExport, NamesTheExported}
 use Rattle.promises_of_sharing.proofs.TokenMeans.{a-later-import-names-the-exported}
 use Rattle.promises_of_packets.specs.Held.{Every}

@@ -1,5 +1,4 @@
--- Wish 9 by the unsliced rules: of a submission that an opening started, the first broken rule is an entry's, with its index, or a packet's,
--- with its offset in the stream. Assumes nothing.
+-- The theorems of specs/UnslicedPlaces.antt, and what they rest on. Assumes nothing.
 use Rattle.std.specs.Prelude.{◌≡◌, ◌⊎◌, take, drop}
 use Rattle.std.proofs.Math.Path.{refl}
 use Rattle.std.proofs.Common.{sym, subst, ◌∙◌, inl, inr, length-drop}

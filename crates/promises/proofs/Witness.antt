@@ -1,6 +1,4 @@
--- No theorem is vacuous: one small guest with a ring, a table and a stream, whose submission is accepted with a record, the same with its
--- entry twice in the table, which is refused with 15 at entry 1, with none, which is refused at its packet, and its packet with bytes
--- appended. Assumes nothing.
+-- The theorems of specs/Witness.antt, and what they rest on. Assumes nothing.
 use Rattle.std.specs.Prelude.{◌≡◌, true, [], ◌∷◌, ℕ, ◌+◌, ◌*◌}
 use Rattle.std.proofs.Math.Path.{refl, ap}
 use Rattle.std.proofs.Common.{sym, subst, ◌∙◌}
@@ -30,7 +28,7 @@ use Rattle.promises_of_submissions.specs.Submission.{LiesOn}
 use Rattle.promises_of_submissions.proofs.Submission.{opening-lies}
 use Rattle.promises_of_submissions.specs.LocalBytes.{Agree}
 use Rattle.promises_of_submissions.specs.Locality.{after_one, over_moving, SameWhenRead}
-use Rattle.promises_of_submissions.proofs.Locality2.{moving-memory-reads-only}
+use Rattle.promises_of_submissions.proofs.MovingMemory.{moving-memory-reads-only}
 use Rattle.promises_of_submissions.specs.Locality.SameWhenRead.{ends, unit}
 use Rattle.promises_of_submissions.proofs.Appended.{appended-bytes-cannot-matter}
 use Rattle.promises_of_submissions.specs.Appended.SameButAppended.{packet, ends as stream-ends}
@@ -45,8 +43,6 @@ use Rattle.promises_of_units.specs.Called.{Called, after}
 use Rattle.promises_of_units.specs.Called.Call.{writes, runs}
 use Rattle.promises_of_units.specs.Called.Called.{makes, calls}
 use Rattle.promises.specs.Witness.{asking, awaiting, awaiting-lies, begun, entry_alone, entry_words, guest, held, in_bytes, longer, longer_stream, opening_alone, packet_alone, ring_words, slot_words, stream_words, table_words, the_entry, two_guests}
-
--- ---- and where it broke, of two more: with no entry its packet is refused, with 65 its opening
 
 -- ---- so the theorems speak of them
 

@@ -87,8 +87,6 @@ module _ (w : World) (m : midst w.state.work ≡ true) where
         (ends m (spending span) on'
         (one_further q on' (subst (λ (r : Registers). Course (units_in first) (registering (registers_after first r) (step w)) x) same k)) c) s n
 
--- ---- any acts
-
 -- ---- from a clear world to a clear one
 
 pub clear_served : {w v : World} {xs : List Act} → Stands w xs v → Clear w → Clear v → Served w xs v

@@ -279,8 +279,6 @@ pub an-allowance-of-0-is-the-old-call : (w : World) (good : Bool)
     → ((call_answer w good 0).answer ≡ (answer_alone w good).answer) × ((call_answer w good 0).world ≡ (answer_alone w good).world) × ((call_answer w good 0).units ≡ 0)
 an-allowance-of-0-is-the-old-call = allowance-0-is-the-old-call
 
--- ---- wish 2, "newer drivers send longer packets"
-
 -- ---- wish 7, "state packets"
 
 -- "Read each packet as one of viewport, clear, scissor or target": what is framed is read from its first bytes; a viewport or clear with a NaN

@@ -95,8 +95,6 @@ taken-number m t kept r = by_test (in_reach m t (length kept))
     by_test true k = by-verdict (entry_rules (length m) kept next) refl k
     by_test false k = inl (let is : refusal bad_entry ≡ r = cc in ap (λ (x : Refusal). x.code) (sym is))
 
--- ---- at a unit
-
 -- ---- of any device that was made and called
 
 pub packets-fit : (j : Job) (t : Stream) (at : ℕ) (es : List Entry) (h : Progress) → t.size < 2 ^ 32 → SizeFits (packets_at j t at es h)

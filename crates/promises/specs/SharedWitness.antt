@@ -150,8 +150,6 @@ pub record SharingGuest : Type 0 where
   -- "forgotten at reset"
   pub forgotten : (after (writes 0x10c 3) (after (answers true 0) sharing_waits)).state.belongings ≡ nothing_owned
 
--- ---- so the theorems speak of it
-
 -- ---- the names that count: of this submission 3, which it imports, and 5, which it destroys, with "good"; none with "failed"
 
 unfoldable pub answered-on : (good : Bool) → CalledOn sharing_asked.state (after (answers good 0) (after (runs 65535) sharing_asked)).state

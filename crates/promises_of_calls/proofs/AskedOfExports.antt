@@ -1,5 +1,4 @@
--- The exports with saves, loads and moves among them: what a host asked leads where the rules lead, so the completed fence, the error, the resources and the tokens are
--- what settlings, bad rings, resets and loads of good files made of them; and between a make, a reset or a load and the next a token lives on. Assumes nothing.
+-- The theorems of specs/AskedOfExports.antt, and what they rest on. Assumes nothing.
 use Rattle.std.specs.Prelude.{List, ◌≤◌}
 use Rattle.std.proofs.Common.{sym, subst}
 use Rattle.rules.specs.State.{State}

@@ -1,5 +1,4 @@
--- One call that a host made, in any layer: it says and leaves what the rules do; what a record call hands out, and what a run of one unit
--- reads; and two devices that mean the same state cannot be told apart. Assumes nothing.
+-- The theorems of specs/Calls.antt, and what they rest on. Assumes nothing.
 use Rattle.std.specs.Prelude.{◌≡◌, true, ℕ, length}
 use Rattle.std.proofs.Math.Path.{refl, ap}
 use Rattle.std.proofs.Common.{sym, subst, ◌∙◌}

@@ -1,6 +1,4 @@
--- Chains of calls that a host made, in any layer, over memory that nobody else writes: each is lent what the one before left. A chain leads
--- where the rules' calls lead, and what its calls said adds up to what the rules' calls report; so every theorem about lists of calls is one
--- about chains. Assumes nothing.
+-- The theorems of specs/Chains.antt, and what they rest on. Assumes nothing.
 use Rattle.std.specs.Prelude.{◌≡◌, refl, Bool, ℕ, ◌+◌}
 use Rattle.std.proofs.Math.Path.{sym}
 use Rattle.std.proofs.Common.{ap, subst, ◌∙◌, zero-add, add-zero}
@@ -45,8 +43,6 @@ chain-is-calls {L} {d} {d'} {m} {m'} (call_then {d₁ = d₁} {m₁ = m₁} {c =
       taken = ap (λ l. l ++ answers_taken later) here.taken ∙ ap (λ l. taken_by c (standing L d m) ++ l) (rest.taken ∙ ap (taken_by_all cs) here.world);
       acts = ap (λ l. l ++ acts_said later) here.acts ∙ ap (λ l. acts_of c (standing L d m) ++ l) (rest.acts ∙ ap (acts_of_all cs) here.world);
     }
-
--- ---- chains without a write, as schedules of runs and answers
 
 -- ---- the theorems about lists of calls, of a chain
 

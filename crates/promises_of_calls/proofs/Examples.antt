@@ -1,6 +1,4 @@
--- No theorem holds of nothing: the exports called over words and tables that are written out, with the small guests of the promises'
--- `Witness`. A device is made, its registers are written, a submission with an entry, a packet and a record is run, its record is asked for
--- and it is answered; and one is refused. Assumes nothing.
+-- The theorems of specs/Examples.antt, and what they rest on. Assumes nothing.
 use Rattle.std.specs.Prelude.{◌≡◌, true, List, [], ◌∷◌, ℕ, ◌+◌, ◌*◌}
 use Rattle.std.proofs.Math.Path.{refl}
 use Rattle.std.proofs.Common.{sym, arith}

@@ -1,5 +1,4 @@
--- Wish 12 by the contracts: two chains of the same calls that a host made, in any layer, of devices that mean one state, over memories that agree on what is listed.
--- Of the exports, saves, loads and moves are joined to the calls. Assumes nothing.
+-- The theorems of specs/LeftoversOfCalls.antt, and what they rest on. Assumes nothing.
 use Rattle.std.specs.Prelude.{◌≡◌, refl, List, [], ◌∷◌, map, ℕ}
 use Rattle.std.proofs.Common.{sym, ap, ◌∙◌}
 use Rattle.rules.specs.State.{State, World}

@@ -6,6 +6,6 @@ pub mod PlacesOfCalls
 pub mod AskedOfExports
 pub mod Saving
 pub mod SameDesks
-pub mod SameDesks2
+pub mod SavedElsewhere
 pub mod LeftoversOfCalls
 pub mod Examples

@@ -1,5 +1,4 @@
--- 02, wish 9, of the calls that a host made, in any layer: after a run of one unit that finds a rule broken, the error registers alone tell where: 14 and 15 an entry's
--- index, any other number with a detail a packet's offset, else no place. Assumes nothing.
+-- The theorems of specs/PlacesOfCalls.antt, and what they rest on. Assumes nothing.
 use Rattle.std.specs.Prelude.{◌≡◌, true, false}
 use Rattle.std.proofs.Common.{sym, ap, subst, ◌∙◌, arith}
 use Rattle.rules.specs.State.{State, World}

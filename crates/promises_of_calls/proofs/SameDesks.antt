@@ -1,6 +1,4 @@
--- Two devices of a host that are the same desk, in any layer: whatever calls are made of both, lent whatever memories, each says the same and leaves the same
--- memory, and the devices stay the same desk. Of the exports, saves, loads and moves are joined to the calls. So a device that was loaded from what another one
--- saved goes on as that one would have. Assumes nothing.
+-- The theorems of specs/SameDesks.antt, and what they rest on. Assumes nothing.
 use Rattle.std.specs.Prelude.{◌≡◌, refl, List, [], ◌∷◌, ℕ, take}
 use Rattle.std.proofs.Common.{sym, ap, subst, ◌∙◌}
 use Rattle.rules.specs.Numbers.{done}

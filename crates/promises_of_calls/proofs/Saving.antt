@@ -1,5 +1,4 @@
--- 02, wishes 1 and 11, of the calls themselves: a device that was saved in either form, by value, over lent state or by the exports, and loaded
--- elsewhere is the same device. Its numbers fit the fields of a file, since they stand in words. Assumes nothing.
+-- The theorems of specs/Saving.antt, and what they rest on. Assumes nothing.
 use Rattle.std.specs.Prelude.{◌≡◌, Bool, true, false, List, get_or, take}
 use Rattle.std.proofs.Common.{sym, ap, subst, ◌∙◌}
 use Prim.Native.Nat.{ℕ, zero, suc, ◌+◌, ◌*◌, ◌/◌, ◌≤◌, ◌<◌}

@@ -1,5 +1,4 @@
--- 02, wish 5, of the calls that a host made, in any layer: a token lives from one submission to the next, over calls each lent any memory, of which none is a reset;
--- and a run of one unit that stands at an import of such a token goes on with one name more. Assumes nothing.
+-- The theorems of specs/TokensOfCalls.antt, and what they rest on. Assumes nothing.
 use Rattle.std.proofs.Math.Path.{◌≡◌}
 use Rattle.std.specs.Prelude.{true, false, List, ◌++◌, ◌⊎◌, ℕ, ◌<◌, length, take}
 use Rattle.std.proofs.Common.{ap, ◌∙◌, inl, inr, ⊎_elim, arith}
@@ -27,7 +26,7 @@ use Rattle.promises_of_sharing.specs.Shared.{IsBound, SecondName}
 use Rattle.promises_of_sharing.specs.PacketsTaken.{Packets, packets_since}
 use Rattle.promises_of_sharing.specs.TokenLives.{Some, Exports, Spends, TokensLive, ImportAccepted, WorksOn}
 use Rattle.promises_of_sharing.proofs.TokenLives.{tokens-live-between-resets, an-accepted-import-works-on}
-use Rattle.promises_of_sharing.proofs.TokenLives2.{a-later-import-is-accepted}
+use Rattle.promises_of_sharing.proofs.LaterImport.{a-later-import-is-accepted}
 use Rattle.promises_of_sharing.specs.TokenMeans.{TokensMean, NamesTheExported}
 use Rattle.promises_of_sharing.proofs.TokenMeans.{tokens-mean-between-resets, a-later-import-names-the-exported}
 use Rattle.promises_of_sharing.specs.SinceBegun.{since-begun, BoundSince}

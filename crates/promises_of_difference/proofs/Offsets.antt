@@ -1,5 +1,4 @@
--- "No difference is left out and none is reported of equal bytes." The list of differing offsets has exactly the offsets past the shorter packet's end
--- and those where the bytes differ; it rises; and asking for the next offset again and again gives all of it. Assumes nothing.
+-- The theorems of specs/Offsets.antt, and what they rest on. Assumes nothing.
 use Rattle.std.specs.Prelude.{◌≡◌, length}
 use Rattle.std.proofs.Math.Path.{refl, ap}
 use Rattle.std.proofs.Common.{sym, ◌∙◌, arith}

@@ -1,4 +1,4 @@
--- "The text for a packet is exact, and every accepted packet appears once, in order." Assumes nothing.
+-- The theorems of specs/Dump.antt, and what they rest on. Assumes nothing.
 use Rattle.std.specs.Prelude.{◌≡◌, Bool, List, [], ◌∷◌, eqb, length, take, drop}
 use Rattle.std.proofs.Math.Path.{refl, ap}
 use Rattle.std.proofs.Math.Bool.{true, false}

@@ -1,4 +1,4 @@
--- Wish 12 with saves, loads and moves among the calls: they read and write no byte of guest memory, and a load makes the same device of both. Assumes nothing.
+-- The theorems of specs/AskedOver.antt, and what they rest on. Assumes nothing.
 use Rattle.std.specs.Prelude.{◌≡◌, ℕ}
 use Rattle.std.proofs.Math.Path.{refl, ap}
 use Rattle.std.proofs.Common.{sym, ◌∙◌}

@@ -1,5 +1,4 @@
--- Wish 12: "It holds up to each settling, and beyond if the head and fence writes touch no listed byte but the head's own." Then every submission can be listed in the memory
--- as it was first lent, with only the head as it is when the submission is opened. Assumes nothing.
+-- The theorems of specs/Beyond.antt, and what they rest on. Assumes nothing.
 use Rattle.std.specs.Prelude.{◌≡◌, ◌⊎◌, length}
 use Rattle.std.proofs.Common.{subst, ◌∙◌}
 use mathlib.Core.List.{List, [], ◌∷◌}
@@ -15,8 +14,6 @@ use Rattle.promises_of_leftovers.specs.Submissions.{openings, listed_there}
 use Rattle.promises_of_leftovers.specs.Matter.{SameResults, AgreeOnListed}
 use Rattle.promises_of_leftovers.proofs.Matter.{bytes-not-listed-cannot-matter}
 use Rattle.promises_of_leftovers.specs.Beyond.{AgreeAtFirst, Unwritten, fields-now, headed, headed-length, listed_at_first, same-lengths}
-
--- ---- the bytes of such a memory
 
 -- ---- what is listed at first is what is listed there
 

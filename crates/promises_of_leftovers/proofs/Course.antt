@@ -1,6 +1,4 @@
--- Any calls over two memories that agree on what the units of these calls list, each as memory is at that unit: every call answers and reports the same, and the device
--- comes to the same state. This is the theorem from which the rest follows; what a whole submission lists, from its opening on, covers what its units do
--- (Cover.antt). Assumes nothing.
+-- The theorems of specs/Course.antt, and what they rest on. Assumes nothing.
 use Rattle.std.proofs.Math.Path.{◌≡◌, ap}
 use Rattle.std.specs.Prelude.{refl, Bool, List, [], ◌∷◌, ◌++◌, ℕ, zero, suc, ◌+◌, eqb, length}
 use Rattle.std.proofs.Common.{sym, subst, ◌∙◌, arith}

@@ -1,6 +1,4 @@
--- No theorem is vacuous: a desk with two submissions in which each word that no field names is the same number x: in the gaps of every layout, between 64 and the ring's
--- stride, in the other entries' room, behind the table's header size, in an unknown packet's payload, in a known packet's gaps and appended field, past the stream size, and on the
--- fence page. Two such desks agree on all that is listed, whatever the two numbers; a night over them is told alike. Assumes nothing.
+-- The theorems of specs/Desk.antt, and what they rest on. Assumes nothing.
 use Rattle.std.specs.Prelude.{◌≡◌, refl, Bool, true, false, ◌&&◌, ◌||◌, List, [], ◌∷◌, ℕ, ◌+◌, leb, eqb}
 use Rattle.std.proofs.Common.{ap, ◌∙◌, inl, inr, arith, eqb-true}
 use Rattle.machine.specs.Machine.{run_while}

@@ -1,5 +1,4 @@
--- What is listed is fixed by the bytes that are listed: two memories that agree on what one of them lists list the same. So it does not matter in which of the two it is
--- read. Assumes nothing.
+-- The theorems of specs/Fixed.antt, and what they rest on. Assumes nothing.
 use Rattle.std.specs.Prelude.{◌≡◌, length}
 use Rattle.std.proofs.Math.Path.{refl}
 use Rattle.std.proofs.Common.{ap}

@@ -9,6 +9,6 @@ pub mod Fixed
 pub mod Beyond
 pub mod Touch
 pub mod UpTo
-pub mod UpTo2
+pub mod WholeSubmission
 pub mod Spare
 pub mod Desk

@@ -1,4 +1,4 @@
--- Wish 12, "bytes that cannot matter", of the rules' calls: two memories that agree on what is listed of the submissions that the calls open. Assumes nothing.
+-- The theorems of specs/Matter.antt, and what they rest on. Assumes nothing.
 use Rattle.std.specs.Prelude.{◌≡◌, refl, List, [], ◌∷◌, ℕ, length}
 use Rattle.std.proofs.Common.{ap}
 use Rattle.rules.specs.State.{State, World}

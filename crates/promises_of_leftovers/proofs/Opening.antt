@@ -1,4 +1,4 @@
--- Two memories that agree on what an opening lists open alike. Assumes nothing.
+-- The theorems of specs/Opening.antt, and what they rest on. Assumes nothing.
 use Rattle.std.specs.Prelude.{◌≡◌, ◌&&◌, List, ℕ, ◌+◌, eqb, length}
 use Rattle.std.proofs.Math.Bool.{not}
 use borrow.Author.Tests.{le-leb, ne_eqb}

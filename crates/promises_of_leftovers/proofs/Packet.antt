@@ -1,4 +1,4 @@
--- Two memories that agree on what the packet at a place of a stream lists frame it alike, with the same result. Assumes nothing.
+-- The theorems of specs/Packet.antt, and what they rest on. Assumes nothing.
 use Rattle.std.specs.Prelude.{◌≡◌}
 use Rattle.std.proofs.Math.Path.{refl, sym}
 use Rattle.std.proofs.Common.{ap, ◌∙◌}
@@ -17,8 +17,6 @@ use Rattle.rules.specs.declared.Frame.TheVariants.{Whole, Misframed}
 use Rattle.promises_of_submissions.specs.LocalPackets.{framed-is-read, left-length}
 use Rattle.promises_of_submissions.specs.Reads.{AgreeOn, named-packet}
 use Rattle.promises_of_leftovers.specs.Packet.{fields-same, header-same, named-frame}
-
--- ---- what is left of a stream, and the memory that it is a part of
 
 -- ---- some bytes, whatever they are a part of
 

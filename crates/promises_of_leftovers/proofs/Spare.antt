@@ -1,5 +1,4 @@
--- Wish 12: "Unknown packets' payloads, appended fields, strides' spare bytes and bytes past the stream size may differ": none of them is named; and any byte that no listed field
--- covers may be anything. Assumes nothing.
+-- The theorems of specs/Spare.antt, and what they rest on. Assumes nothing.
 use Rattle.std.specs.Prelude.{◌≡◌, refl, Bool, length}
 use Rattle.std.proofs.Math.Bool.{true, false}
 use mathlib.Core.List.{List}

@@ -1,5 +1,4 @@
--- What calls list, submission by submission: each that they open, as memory is when it is opened; and of one that is in work when they begin, what is still to be
--- read. It covers what their units list. Assumes nothing.
+-- The theorems of specs/Submissions.antt, and what they rest on. Assumes nothing.
 use Rattle.std.proofs.Math.Path.{◌≡◌, refl}
 use Rattle.std.specs.Prelude.{Bool, eqb}
 use Rattle.std.proofs.Math.Bool.{true, false}
@@ -25,8 +24,6 @@ use Rattle.promises_of_units.specs.Called.Call.{writes, reads, runs, records, an
 use Rattle.promises_of_leftovers.specs.Course.{units_listed, call_units_listed, calls_units_listed}
 use Rattle.promises_of_leftovers.specs.Cover.{unit-of-listed, next-listed}
 use Rattle.promises_of_leftovers.specs.Submissions.{Covered, InWork, There, call_openings, in-work-answered, in-work-written, in_work, listed_in_work, no-work, openings, run_openings, where_so}
-
--- ---- where calls open a submission
 
 -- ---- it covers what their units list
 

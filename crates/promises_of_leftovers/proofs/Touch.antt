@@ -1,5 +1,4 @@
--- Wish 12, "beyond": where ring and fence page stay where they are, the head and fence writes are those of that ring and that page. It is then enough that no listed byte but the
--- head's own lies in the ring's head or in the page. Assumes nothing.
+-- The theorems of specs/Touch.antt, and what they rest on. Assumes nothing.
 use Rattle.std.specs.Prelude.{◌≡◌, ◌⊎◌, ℕ, ◌+◌, ◌<◌, length}
 use Rattle.std.proofs.Math.Path.{refl, sym}
 use Rattle.std.proofs.Common.{ap, subst, ◌∙◌, inl, inr, arith}

@@ -1,5 +1,4 @@
--- One unit over two memories that agree on what it lists: it comes to the same state and writes the same. Then the bytes on which they agreed agree
--- still. Assumes nothing.
+-- The theorems of specs/Unit.antt, and what they rest on. Assumes nothing.
 use Rattle.std.specs.Prelude.{◌≡◌, refl, ℕ, length}
 use mathlib.Core.List.{List}
 use Rattle.rules.specs.Judging.{at_place}

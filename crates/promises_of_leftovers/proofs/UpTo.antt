@@ -1,5 +1,4 @@
--- Wish 12, "up to each settling": until a submission settles, what is listed of it in the memory first lent is all that counts. By slices and by the unsliced rules. Assumes
--- nothing.
+-- The theorems of specs/UpTo.antt, and what they rest on. Assumes nothing.
 use Rattle.std.specs.Prelude.{◌≡◌, refl, true, List, [], ◌∷◌, length}
 use Rattle.std.proofs.Common.{arith}
 use Prim.Native.Nat.{ℕ, suc, ◌≤◌}

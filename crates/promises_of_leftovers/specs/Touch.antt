@@ -171,7 +171,6 @@ module _ (m : List ℕ) (ring page : ℕ) where
       by-work g (packets j t at es h) on = k
       by-work true (waiting j es h) on = settled-stays j _ _ w on k
       by-work false (waiting j es h) on = settled-stays j _ _ w on k
-      -- ---- so a field outside both has not been written
 
 -- ---- the theorem
 

@@ -1,5 +1,4 @@
--- The causes of answer 10, and that there are no others; 9 exactly where there is none of them and a named total would reach 2^64.
--- Assumes nothing.
+-- The theorems of specs/Causes.antt, and what they rest on. Assumes nothing.
 use Rattle.std.proofs.Math.Path.{◌≡◌, refl}
 use Rattle.std.proofs.Common.{arith}
 use Rattle.std.specs.Prelude.{Bool}

@@ -1,5 +1,4 @@
--- The promises, of calls that were made one after the other: what the words of the totals are after any feeds, and after a merge of two months.
--- Assumes nothing.
+-- The theorems of specs/Chains.antt, and what they rest on. Assumes nothing.
 use Rattle.std.specs.Prelude.{◌≡◌, true, List, ◌++◌, ℕ}
 use Rattle.std.proofs.Common.{ap, ◌∙◌}
 use Rattle.rules.specs.Numbers.{done}

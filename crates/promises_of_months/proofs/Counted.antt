@@ -1,5 +1,4 @@
--- Which submissions are counted, when each answer is given, and that the totals after any feeds are the sums over exactly the counted ones.
--- Assumes nothing.
+-- The theorems of specs/Counted.antt, and what they rest on. Assumes nothing.
 use Rattle.std.specs.Prelude.{◌≡◌, refl, Bool, true, false, List, [], ◌∷◌, ◌++◌, ◌<◌, eqb}
 use Rattle.std.proofs.Common.{arith, eqb-true}
 use Rattle.rules.specs.Numbers.{done}
@@ -8,8 +7,6 @@ use Rattle.rules.specs.Month.{Finished, totals, below, fed_all, good_feed, feed_
 use Rattle.rules.specs.Numbers.{too_much}
 use Rattle.promises_of_months.specs.Sums.{below-nothing, largest-below}
 use Rattle.promises_of_months.specs.Counted.{Exactly, counts-when, nine-when, ten-when}
-
--- ---- one feed, on any totals
 
 -- ---- one feed, after the submissions counted so far
 

@@ -1,6 +1,6 @@
 pub mod Counted
 pub mod Parts
-pub mod Parts2
+pub mod ManyParts
 pub mod Named
 pub mod Causes
 pub mod Chains

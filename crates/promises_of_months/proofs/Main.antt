@@ -1,10 +1,9 @@
--- The month in numbers (02, wish 13): its sentences as seven statements, over the rule book's `fed` and `merged`, which are what the calls do. `Chains` carries
--- them to calls that were really made. Assumes nothing.
+-- The theorems of specs/Main.antt, and what they rest on. Assumes nothing.
 use Rattle.std.specs.Prelude.{◌≡◌, true, List, [], ◌++◌}
 use Rattle.rules.specs.Month.{Finished, totals, fed_all, counted, answers}
 use Rattle.promises_of_months.specs.Counted.{month-totals}
 use Rattle.promises_of_months.specs.Parts.{no_nine, all_of, merged_all}
-use Rattle.promises_of_months.proofs.Parts2.{parts-many}
+use Rattle.promises_of_months.proofs.ManyParts.{parts-many}
 use Rattle.promises_of_months.specs.Named.{Small}
 use Rattle.promises_of_months.proofs.Named.{month-small}
 use Rattle.promises_of_months.specs.Causes.{Ten, NineBelow}

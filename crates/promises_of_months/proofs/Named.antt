@@ -1,4 +1,4 @@
--- The totals by their names: each is below 2^64, and each word is the sum that its name says. Assumes nothing.
+-- The theorems of specs/Named.antt, and what they rest on. Assumes nothing.
 use Rattle.std.specs.Prelude.{◌≡◌, refl, Bool, true, false, List, ℕ}
 use Rattle.std.proofs.Common.{sym, ◌∙◌, arith}
 use Rattle.rules.specs.Lists.{pushed}

@@ -1,4 +1,4 @@
--- Parts of a month that are totalled apart and merged. Assumes nothing.
+-- The theorems of specs/Parts.antt, and what they rest on. Assumes nothing.
 use Rattle.std.proofs.Math.Path.{◌≡◌}
 use Rattle.std.proofs.Common.{sym, ap, ◌∙◌}
 use Rattle.std.proofs.Math.Bool.{true}

@@ -1,5 +1,4 @@
--- What a packet can come to, whatever it is: refused with what was held, or one of ten effects, each with what the rules then
--- know. A fact about what a submission carries from packet to packet is shown once for these. Assumes nothing.
+-- The theorems of specs/Effects.antt, and what they rest on. Assumes nothing.
 use Rattle.std.specs.Prelude.{◌≡◌, true, List, ℕ}
 use Rattle.std.proofs.Math.Path.{refl}
 use Rattle.machine.specs.Machine.{pick}

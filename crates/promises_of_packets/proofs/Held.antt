@@ -1,6 +1,4 @@
--- What is true of a submission's resources, records, target and tokens, whatever packets came: names are non-zero and each once, at most 64 of
--- them and of records, every resource is as create leaves it, every record of a range lies inside the one entry with its id, the target is a
--- live texture, and names and tokens are sound (SoundNames.antt). Assumes nothing.
+-- The theorems of specs/Held.antt, and what they rest on. Assumes nothing.
 use Rattle.std.specs.Prelude.{◌≡◌, Bool, take}
 use Rattle.std.proofs.Math.Path.{refl, ap, subst}
 use Rattle.std.proofs.Common.{sym, ◌∙◌, length-append}

@@ -1,5 +1,4 @@
--- Names of resources and tokens (02, wish 5): what is found by a name once a resource's lowest name has changed, which is the lowest of the names
--- that are left, and that every packet keeps names and tokens sound. Assumes nothing.
+-- The theorems of specs/Names.antt, and what they rest on. Assumes nothing.
 use Rattle.std.specs.Prelude.{◌≡◌, Bool, get_or, take}
 use Rattle.std.proofs.Math.Path.{refl, sym, ap}
 use Rattle.std.proofs.Common.{subst, ◌∙◌, ⊎_elim, eq-eqb, ne_eqb, eqb-true}
@@ -16,8 +15,6 @@ use Rattle.rules.specs.Names.{token_of, without_token}
 use Rattle.rules.specs.declared.Token.{Token}
 use Rattle.rows.specs.Keys.{same_or_not, Once, lookup-nil, lookup-here, lookup-later, index-here, index-later}
 use Rattle.promises_of_packets.specs.Names.{none-not-found, spend, spent}
-
--- ---- the lowest name of those that are left
 
 -- ---- a token released: the first that has the number, spent
 

@@ -1,6 +1,4 @@
--- What is true of names and tokens, whatever packets came (02, wish 5): the lowest name of a resource is live and means the same resource, only a
--- texture of one mip and one layer has two names or a token, and a token is spent or has the lowest name of a live resource. A create, a destroy,
--- an import, an export and a release keep it. Assumes nothing.
+-- The theorems of specs/SoundNames.antt, and what they rest on. Assumes nothing.
 use Rattle.std.specs.Prelude.{◌≡◌, refl, Bool, true, false, ◌&&◌, List, [], ℕ, ◌≤◌, ◌<◌, leb, length, get_or}
 use Rattle.std.proofs.Common.{sym, ap, subst, ◌∙◌, ⊎_elim, arith, leb-false, length-append}
 use Rattle.machine.specs.Machine.{pick}
@@ -25,8 +23,6 @@ no_names =
       least = λ k r e. absurd (none-not-found r (sym (lookup-nil handle_of k) ∙ e));
       shared = λ k r e. absurd (none-not-found r (sym (lookup-nil handle_of k) ∙ e));
     }
-
--- ---- tokens
 
 -- ---- names of one resource
 

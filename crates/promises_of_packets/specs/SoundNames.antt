@@ -53,8 +53,6 @@ no-tokens rs =
       bound-to = λ token t e. absurd (none-not-found t (sym (lookup-nil token_of token) ∙ e));
     }
 
--- ---- names of one resource
-
 -- ---- a resource whose lowest name changes
 
 -- names that are sound once the resource with the lowest name `low` is called `new`
@@ -144,8 +142,6 @@ module _ (low new : ℕ) (rs after : List Resource) (ts after-ts : List Token) (
       by_found : (token : ℕ) (t' : Token) (f : Found Token) → lookup token_of token ts ≡ f → in_found (rebound low new) f ≡ found t' → (t'.name ≡ no_name → ⊥) → Bindable t'.name after
       by_found token t' none h i = absurd (none-not-found t' i)
       by_found token t' (found t) h i = by_name t t' token h (found-same i)
-
--- ---- a new resource, which has one name
 
 -- ---- a name destroyed
 

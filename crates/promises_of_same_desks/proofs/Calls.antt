@@ -1,5 +1,4 @@
--- One call of two devices that are the same desk, lent the same memory: it says the same of both, leaves the same memory, and leaves the same desk.
--- Assumes nothing.
+-- The theorems of specs/Calls.antt, and what they rest on. Assumes nothing.
 use Rattle.std.specs.Prelude.{◌≡◌, Bool, not, ◌&&◌, ◌||◌, List, ℕ, eqb, length}
 use Rattle.std.proofs.Math.Path.{refl, ap}
 use Rattle.std.proofs.Common.{◌∙◌}

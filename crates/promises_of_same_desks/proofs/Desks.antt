@@ -1,6 +1,4 @@
--- When two devices are the same desk, at rest or in the midst of a submission: every number is the same, every handle means the same resource or none,
--- every token the same or none, and what is in work is the same, what the submission holds read in the same way. A unit, a run and a call of the two come
--- to the same (Units.antt, Calls.antt).
+-- The theorems of specs/Desks.antt, and what they rest on. Assumes nothing.
 use Rattle.std.specs.Prelude.{◌≡◌, refl, Bool, List, ℕ}
 use Rattle.std.proofs.Common.{subst}
 use Rattle.rules.specs.Names.{token_of}

@@ -1,4 +1,4 @@
--- Saving and loading of two devices that are the same desk: the same answer, the same bytes, and the same desk after it. Assumes nothing.
+-- The theorems of specs/Files.antt, and what they rest on. Assumes nothing.
 use Rattle.std.specs.Prelude.{◌≡◌, true, false, not, ltb}
 use Rattle.std.proofs.Math.Path.{refl, ap}
 use Rattle.std.proofs.Common.{sym, ◌∙◌, arith}
@@ -29,8 +29,6 @@ use Rattle.promises_of_same_desks.specs.Desks.{SameWork, SameDesk}
 use Rattle.promises_of_same_desks.proofs.Desks.{same_rest, desk-itself}
 use Rattle.promises_of_same_desks.specs.Desks.SameWork.{both_rest, both_at_entries, both_at_packets, both_wait}
 use Rattle.promises_of_same_desks.specs.Files.{SameLoaded, other-name-same}
-
--- ---- whether a second name is live
 
 -- ---- saving
 

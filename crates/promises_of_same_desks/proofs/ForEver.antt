@@ -1,5 +1,4 @@
--- Two devices that are the same desk behave the same for ever: whatever a host asks of both, over whatever memories, buffers and files, each is told the
--- same and they stay the same desk. So a desk that was saved and is loaded elsewhere goes on exactly as the one that was saved would have. Assumes nothing.
+-- The theorems of specs/ForEver.antt, and what they rest on. Assumes nothing.
 use Rattle.std.specs.Prelude.{◌≡◌, refl, true, List, [], ◌∷◌, ℕ, length, take}
 use Rattle.std.proofs.Common.{sym, ap, ◌∙◌, arith}
 use Rattle.rules.specs.Numbers.{done}

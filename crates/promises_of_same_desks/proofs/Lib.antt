@@ -1,11 +1,11 @@
 pub mod Maps
 pub mod Packets
-pub mod Packets2
+pub mod PassedPackets
 pub mod Desks
 pub mod Units
 pub mod Calls
 pub mod Files
 pub mod ForEver
-pub mod ForEver2
-pub mod ForEver3
+pub mod DesksForEver
+pub mod GoesOnElsewhere
 pub mod Witness

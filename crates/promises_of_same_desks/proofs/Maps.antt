@@ -1,5 +1,4 @@
--- Lists whose members have a key, each key once, that are the same map: they are as long, and stay the same map whatever the rules do to both. The order in
--- which they stand says nothing. Assumes nothing.
+-- The theorems of specs/Maps.antt, and what they rest on. Assumes nothing.
 use Rattle.std.specs.Prelude.{◌≡◌, List, ℕ}
 use Rattle.std.proofs.Common.{sym, ap, ◌∙◌, ⊎_elim}
 use Rattle.rules.specs.Lists.{lookup}

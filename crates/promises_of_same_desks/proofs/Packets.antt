@@ -1,4 +1,4 @@
--- One packet, put to two submissions that hold the same: it comes to the same, and they hold the same after it. Assumes nothing.
+-- The theorems of specs/Packets.antt, and what they rest on. Assumes nothing.
 use Rattle.std.specs.Prelude.{◌≡◌, Bool, true, false, List, ℕ, length}
 use Rattle.std.proofs.Math.Path.{refl, ap}
 use Rattle.std.proofs.Common.{sym, ◌∙◌}
@@ -17,8 +17,6 @@ use Rattle.promises_of_packets.specs.Names.{none-not-found, found-place}
 use Rattle.promises_of_packets.specs.Held.{SoundProgress}
 use Rattle.promises_of_same_desks.specs.Maps.{SameMap, same_length, same-pushed, same-removed, same-renamed, same-lowest, same-rebound}
 use Rattle.promises_of_same_desks.specs.Packets.{SameHeld, SamePassed}
-
--- ---- the rules of a packet, one by one, over two holdings
 
 -- ---- one packet, whatever it is
 

@@ -1,5 +1,4 @@
--- One unit of two devices that are the same desk, a run of them, and the host's answer: they come to the same memory and are the same desk after it, and
--- spend the same units. Assumes nothing.
+-- The theorems of specs/Units.antt, and what they rest on. Assumes nothing.
 use Rattle.std.specs.Prelude.{◌≡◌, refl, Bool, true, false, ◌&&◌, List, [], ℕ, zero, suc, ◌+◌, ltb, length}
 use Rattle.std.proofs.Common.{sym, ◌∙◌}
 use Rattle.std.proofs.Math.Path.{ap, subst}
@@ -26,7 +25,7 @@ use Rattle.rules.specs.declared.Opening.TheVariants.{BadRing, NoWork, Refused, S
 use Rattle.promises_of_units.specs.Sound.{SoundWork, SoundState}
 use Rattle.promises_of_units.proofs.Sound.{step-keeps-sound}
 use Rattle.promises_of_same_desks.specs.Packets.{SameHeld, SamePassed}
-use Rattle.promises_of_same_desks.proofs.Packets2.{take_same}
+use Rattle.promises_of_same_desks.proofs.PassedPackets.{take_same}
 use Rattle.promises_of_same_desks.specs.Desks.{SameBelongings, SameWork, SameWorld}
 use Rattle.promises_of_same_desks.proofs.Desks.{same-busy, first-same, left-same}
 use Rattle.promises_of_same_desks.specs.Desks.SameWork.{both_rest, both_at_entries, both_at_packets, both_wait}

@@ -1,5 +1,4 @@
--- The theorems are of something: two devices that came about in different ways and keep their rows in another order are the same, are not equal, and answer the
--- same. Assumes nothing.
+-- The theorems of specs/Witness.antt, and what they rest on. Assumes nothing.
 use Rattle.std.specs.Prelude.{refl, List, [], ◌∷◌, ℕ}
 use Rattle.rules.specs.Packets.{Progress, at_first, pass}
 use Rattle.rules.specs.State.{nothing_owned}
@@ -17,7 +16,7 @@ use Rattle.promises_of_units.specs.Sound.{SoundState}
 use Rattle.promises_of_units.proofs.Sound.{made-sound}
 use Rattle.promises_of_units.proofs.LoadedSound.{loaded-sound}
 use Rattle.promises_of_same_desks.specs.ForEver.{SameForEver}
-use Rattle.promises_of_same_desks.proofs.ForEver2.{same-devices-for-ever}
+use Rattle.promises_of_same_desks.proofs.DesksForEver.{same-devices-for-ever}
 use Rattle.promises_of_same_desks.specs.Witness.{having, held_after, one, other, two-ways-one-device}
 
 -- ---- packets one after the other

@@ -72,8 +72,6 @@ module _ (rs qs : List Resource) (o : Once handle_of rs) (p : Once handle_of qs)
       (λ e. let m : OtherName rs = among-found rs o e in found_among m.key qs m.what (sym (same m.key) ∙ m.here) m.other)
       (λ e. let m : OtherName qs = among-found qs p e in found_among m.key rs m.what (same m.key ∙ m.here) m.other)
 
--- ---- saving
-
 -- ---- loading
 
 pub record SameLoaded (l m : Loaded) : Type 0 where

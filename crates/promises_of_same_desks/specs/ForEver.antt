@@ -31,8 +31,6 @@ unfoldable pub told_all : List Asked → State → List Told
 told_all [] s = []
 told_all (a ∷ qs) s = told a s ∷ told_all qs (left a s)
 
--- ---- one
-
 -- ---- any, for ever
 
 -- every one of them is told the same, and they are the same desk after it

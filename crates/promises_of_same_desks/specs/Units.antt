@@ -5,8 +5,6 @@ use Rattle.machine.specs.Machine.{Out}
 use Rattle.rules.specs.State.{World}
 use Rattle.promises_of_same_desks.specs.Desks.{SameWorld}
 
--- ---- one unit
-
 -- ---- a run
 
 pub record SameOut (o q : Out World) : Type 0 where

@@ -1,4 +1,4 @@
--- Devices with a buffer and a texture, saved in both forms, loaded, refused and moved: that the theorems speak of something, by computation alone.
+-- The theorems of specs/Example.antt, and what they rest on. Assumes nothing.
 use Rattle.std.specs.Prelude.{◌≡◌, refl, [], ◌∷◌}
 use Rattle.std.proofs.Common.{arith}
 use Rattle.rules.specs.Numbers.{done}

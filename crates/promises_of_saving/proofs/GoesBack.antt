@@ -1,5 +1,4 @@
--- "Form 2 goes back exactly when both sections are empty and detail is 0": what form 1 has a field for, of a device that a file of form 2 says, by the
--- fields of that file. Assumes nothing.
+-- The theorems of specs/GoesBack.antt, and what they rest on. Assumes nothing.
 use Rattle.std.specs.Prelude.{◌≡◌, refl, false, ℕ, ◌+◌, ◌≤◌}
 use Rattle.std.proofs.Math.Path.{sym, ap, subst}
 use Rattle.std.proofs.Common.{◌∙◌, arith}
@@ -17,8 +16,6 @@ use Rattle.promises_of_saving.specs.LoadedResources.{OneName}
 use Rattle.promises_of_saving.specs.LoadedShared.{length-names, names-are-others, length-tokens}
 use Rattle.promises_of_saving.specs.LoadOfSave.{InForm1, in-form-1}
 use Rattle.promises_of_saving.specs.GoesBack.{Goes, GoesBack, empty-names, empty-tokens, form-1-has, names_at, no_other, ns, own, rs}
-
--- ---- what form 1 has a field for
 
 -- ---- a file of form 2
 

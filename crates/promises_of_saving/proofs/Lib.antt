@@ -7,7 +7,7 @@ pub mod LoadOfSave
 pub mod OneFile
 pub mod SaveOfLoad
 pub mod Moved
-pub mod Moved2
+pub mod ThereAndBack
 pub mod Example
 pub mod Places
 pub mod GoesBack

@@ -1,5 +1,4 @@
--- "I need the device at rest written into a lent buffer and read back elsewhere": what saving wrote in either form, any device loads, and it is
--- then the same device, as maps of names and of tokens. Assumes nothing.
+-- The theorems of specs/LoadOfSave.antt, and what they rest on. Assumes nothing.
 use Rattle.std.specs.Prelude.{◌≡◌, refl, true, false, List, [], ◌∷◌, ◌++◌, ℕ, ◌+◌, eqb, length, take}
 use Rattle.std.proofs.Math.Path.{sym, ap}
 use Rattle.std.proofs.Common.{subst, ◌∙◌, arith}
@@ -31,8 +30,6 @@ use Rattle.promises_of_saving.specs.SavedFile.{saved_sections, form-of-saved, se
 use Rattle.promises_of_saving.specs.WrittenHead.{flag-of-bit, bits-of-status, saved_detail, HeadRead}
 use Rattle.promises_of_saving.proofs.WrittenHead.{head_read, good-head-written, reads-resources}
 use Rattle.promises_of_saving.specs.LoadOfSave.{LoadedBack, SharedBack, at, b, c, in-form-1, next, one_name, rests, said, same-error, same-registers, tokens_part}
-
--- ---- registers of equal numbers
 
 -- ---- the sections
 

@@ -1,4 +1,4 @@
--- A device that was loaded from a file of bytes, of either form, can be saved again: its numbers fit their fields, too. Assumes nothing.
+-- The theorems of specs/LoadedIsSavable.antt, and what they rest on. Assumes nothing.
 use Rattle.std.specs.Prelude.{◌≡◌, List}
 use Prim.Native.Nat.{ℕ}
 use Rattle.rules.specs.Lists.Found.{none}

@@ -1,5 +1,4 @@
--- A device that was loaded is as sound as one that calls made, whatever file it came from: that is what the rules of a file are for.
--- Assumes nothing.
+-- The theorems of specs/LoadedIsSound.antt, and what they rest on. Assumes nothing.
 use Rattle.std.specs.Prelude.{◌≡◌, refl, List, [], ◌++◌, ℕ, ◌+◌, ◌≤◌, length}
 use Rattle.std.proofs.Common.{sym, ap, subst, ◌∙◌, append-nil, ⊎_elim, arith, length-append}
 use Rattle.rules.specs.Numbers.{done}

@@ -1,4 +1,4 @@
--- Which moves are refused, with what, and what a refused one leaves: 7, 8 and 6, each exactly in its case, and else it is done. Assumes nothing.
+-- The theorems of specs/MoveAnswers.antt, and what they rest on. Assumes nothing.
 use Rattle.std.specs.Prelude.{◌≡◌, refl, Bool, true, false, List, ◌⊎◌, ℕ, ◌≤◌, length}
 use Rattle.std.proofs.Common.{sym, ap, ◌∙◌, inl, inr, ⊎_elim, arith}
 use Rattle.rules.specs.Numbers.{done, in_work, too_short, bad_file, not_in_form}
@@ -14,8 +14,6 @@ use Rattle.promises_of_saving.specs.SaveOfLoad.{loaded-rests}
 use Rattle.promises_of_saving.specs.GoesBack.{Goes}
 use Rattle.promises_of_saving.proofs.GoesBack.{goes-exactly}
 use Rattle.promises_of_saving.specs.MoveAnswers.{LoadRefused, Loads, MoveDone, MoveNotInForm, MoveTooShort, answered, good-if-loads, its_beyond, loads-if-good, move-of-good, move-refused, moved, refused-if-bad}
-
--- ---- the cases
 
 -- ---- by the rules of a file
 

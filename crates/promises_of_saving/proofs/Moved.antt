@@ -1,5 +1,4 @@
--- "one load for all, and a move between forms": a file that moves says the same device in the other form, and moves back to equal bytes. Every form 1
--- file moves, and a form 2 file exactly if it says nothing that form 1 has no field for. Assumes nothing.
+-- The theorems of specs/Moved.antt, and what they rest on. Assumes nothing.
 use Rattle.std.specs.Prelude.{◌≡◌, refl, false, List, [], ℕ, ◌+◌, ◌≤◌, length, take}
 use Rattle.std.proofs.Common.{sym, subst, ◌∙◌, append-nil, arith}
 use Rattle.std.proofs.Math.Path.{ap}

@@ -1,5 +1,4 @@
--- A device has one file of a form, and a file one device: the same devices are saved as the same bytes, and devices whose bytes are the same are
--- the same. Assumes nothing.
+-- The theorems of specs/OneFile.antt, and what they rest on. Assumes nothing.
 use Rattle.std.specs.Prelude.{◌≡◌, true, false}
 use Rattle.std.proofs.Common.{sym, subst}
 use Rattle.rules.specs.State.{State}

@@ -1,5 +1,4 @@
--- "It gives the offset of the first such field .. or byte": every place that is reported lies in the file, or is its length, and no broken rule has a
--- lower one. Assumes nothing.
+-- The theorems of specs/Places.antt, and what they rest on. Assumes nothing.
 use Rattle.std.specs.Prelude.{◌≡◌, Bool}
 use Rattle.std.proofs.Math.Path.{refl, subst}
 use Rattle.std.proofs.Common.{sym, ◌∙◌}

@@ -1,5 +1,4 @@
--- "written into a lent buffer and read back elsewhere": saving in its form what a file loads gives that file, an old one with its number. So a good
--- file is the only one of its form that says its device: two good files of a form and of the same device are equal. Assumes nothing.
+-- The theorems of specs/SaveOfLoad.antt, and what they rest on. Assumes nothing.
 use Rattle.std.specs.Prelude.{◌≡◌, List, ℕ, ◌≤◌, length}
 use Rattle.std.proofs.Common.{ap, ◌∙◌}
 use Rattle.rules.specs.Numbers.{done}

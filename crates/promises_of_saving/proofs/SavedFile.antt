@@ -1,4 +1,4 @@
--- What saving writes, as the number of the form and the fields of its sections; how long it is. Assumes nothing.
+-- The theorems of specs/SavedFile.antt, and what they rest on. Assumes nothing.
 use Rattle.std.specs.Prelude.{◌≤◌, length}
 use Rattle.std.proofs.Common.{arith}
 use Rattle.rules.specs.State.{State}

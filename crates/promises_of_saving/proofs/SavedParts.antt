@@ -1,5 +1,4 @@
--- The parts of a device that a file's sections say: "live resources by rising handle", "each of which stands under its lowest name", other names, and
--- tokens. Each is as the rules of a file ask, and together they say what the device has. Assumes nothing.
+-- The theorems of specs/SavedParts.antt, and what they rest on. Assumes nothing.
 use Rattle.std.specs.Prelude.{◌≡◌, refl, Bool, true, false, ◌||◌, ◌++◌, ℕ, ◌+◌, ◌≤◌, eqb, length}
 use Rattle.std.proofs.Common.{sym, ap, ◌∙◌, arith}
 use Rattle.std.proofs.lemmas.Bool.{eqb-false}

@@ -1,4 +1,4 @@
--- The head that saving writes keeps the rules of a file, and is read back as it was. Assumes nothing.
+-- The theorems of specs/WrittenHead.antt, and what they rest on. Assumes nothing.
 use Rattle.std.specs.Prelude.{◌≡◌, refl, ◌++◌, ℕ, ◌+◌, ◌*◌, ◌%◌, ◌^◌, ◌≤◌, ◌<◌, length, get_or}
 use Rattle.std.proofs.Common.{sym, ap, ◌∙◌, zero-add, arith}
 use Rattle.rules.specs.Layouts.{word}

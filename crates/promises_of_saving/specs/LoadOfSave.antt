@@ -104,8 +104,6 @@ abbrev pub said : Form → State → Belongings
 said One s = record { resources = firsts_of s; tokens = [] }
 said Two s = record { resources = firsts_of s ++ others_of s; tokens = tokens_of s }
 
--- ---- what a form has a field for, is said
-
 -- ---- the theorem
 
 -- what loading answers, and that its device is this one

@@ -9,8 +9,6 @@ use Rattle.rules.specs.declared.Form.{Form}
 use Rattle.promises_of_submissions.specs.LentBytes.{OfBytes}
 use Rattle.promises_of_saving.specs.SameDevice.{SameDevice}
 
--- ---- which files move
-
 -- ---- what a move writes
 
 -- a good file of the other form, with its number, that says the same device

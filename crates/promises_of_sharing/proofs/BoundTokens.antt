@@ -1,5 +1,4 @@
--- Wish 5, "destroying one name leaves the others, and destroying the last frees the room", of the tokens: a bound token is spent only by its own
--- release, or with the last name of its resource. Whatever the packet, of any sound progress. Assumes nothing.
+-- The theorems of specs/BoundTokens.antt, and what they rest on. Assumes nothing.
 use Rattle.std.specs.Prelude.{◌≡◌, refl, List, ◌⊎◌, ℕ}
 use Rattle.std.proofs.Common.{sym, ap, ◌∙◌}
 use Rattle.std.proofs.Math.Logic.{inl, inr, ⊎_elim}

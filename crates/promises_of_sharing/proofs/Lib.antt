@@ -9,7 +9,7 @@ pub mod NamesOverCalls
 pub mod PacketsTaken
 pub mod NamesTaken
 pub mod TokenLives
-pub mod TokenLives2
+pub mod LaterImport
 pub mod TokenMeans
 pub mod SinceBegun
 pub mod RecordHandles

@@ -1,5 +1,4 @@
--- Wish 5, the names of a token's resource from packet to packet: a token that is bound before and after a packet keeps each of them and gets no other,
--- but for the one name that an import gives and a destroy takes away. Of any sound progress. Assumes nothing.
+-- The theorems of specs/NamesKept.antt, and what they rest on. Assumes nothing.
 use Rattle.std.specs.Prelude.{◌≡◌, ℕ, take}
 use Rattle.std.proofs.Math.Path.{refl}
 use Rattle.std.proofs.Common.{sym, ap, ◌∙◌, ⊎_elim, arith}

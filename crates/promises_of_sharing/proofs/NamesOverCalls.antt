@@ -1,6 +1,4 @@
--- Wish 5, the names of a token's resource over a device's whole life: between resets, a bound token of the device's own keeps its resource's names but
--- for those imported or destroyed since. Over any calls and any memories; what a refused or failed submission imported or destroyed does not count.
--- Assumes nothing.
+-- The theorems of specs/NamesOverCalls.antt, and what they rest on. Assumes nothing.
 use Rattle.std.proofs.Math.Path.{◌≡◌, refl, subst}
 use Rattle.std.proofs.Common.{sym, one-add}
 use Rattle.std.specs.Prelude.{Bool, ltb, length}

@@ -1,4 +1,4 @@
--- The names that packets taken imported or destroyed, from packet to packet: they are the names that count over calls between resets. Assumes nothing.
+-- The theorems of specs/NamesTaken.antt, and what they rest on. Assumes nothing.
 use Rattle.std.specs.Prelude.{◌≡◌, refl, Bool, true, false, eqb, List, [], ◌++◌, ℕ, zero, suc}
 use Rattle.std.proofs.Common.{sym, ap, subst, ◌∙◌, append-nil}
 use Rattle.machine.specs.Machine.{pick}

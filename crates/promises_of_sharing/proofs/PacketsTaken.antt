@@ -1,6 +1,4 @@
--- The packets that a device's submissions have taken, each with what was held before it: those of the submissions that were answered good, and so far of
--- the one in work. What a refused or failed submission took does not count. And what holds of them from packet to packet holds over any calls. Assumes
--- nothing.
+-- The theorems of specs/PacketsTaken.antt, and what they rest on. Assumes nothing.
 use Rattle.std.proofs.Math.Path.{◌≡◌, refl, sym, subst}
 use Rattle.std.proofs.Common.{one-add}
 use Rattle.std.specs.Prelude.{Bool, ltb, length, take}

@@ -1,5 +1,4 @@
--- Wish 5, "A record made under a second name carries the packet's handle": each range that a packet hands out has the handle by which the packet names its
--- resource, whichever of the resource's names that is. Whatever the packet and what is held. Assumes nothing.
+-- The theorems of specs/RecordHandles.antt, and what they rest on. Assumes nothing.
 use Rattle.std.specs.Prelude.{◌≡◌, refl, Bool, true, false, not, ◌||◌, List, [], ◌∷◌, ℕ, ◌+◌, ◌%◌, eqb, ltb}
 use Rattle.std.proofs.Common.{sym, append-nil, arith}
 use Rattle.machine.specs.Machine.{pick}

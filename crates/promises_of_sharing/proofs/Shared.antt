@@ -1,5 +1,4 @@
--- Wish 5, "two programs, one surface", the names: "Import makes the handle a second name for the exported resource; destroying one name leaves the
--- others, and destroying the last frees the room." Of any sound progress, as a submission of any device made and called has it. Assumes nothing.
+-- The theorems of specs/Shared.antt, and what they rest on. Assumes nothing.
 use Rattle.std.specs.Prelude.{◌≡◌, refl, Bool, true, false, List, ℕ, suc, ◌<◌, length}
 use Rattle.std.proofs.Common.{sym, ap, subst, ◌∙◌, ⊎_elim, arith, length-append}
 use Rattle.machine.specs.Machine.{pick}
@@ -22,8 +21,6 @@ use Rattle.promises_of_packets.proofs.SoundNames.{two-names-shareable, gone, oth
 use Rattle.promises_of_packets.specs.Effects.{Imported, destroyed, imported}
 use Rattle.promises_of_packets.specs.Held.{SoundProgress}
 use Rattle.promises_of_sharing.specs.Shared.{Destroyed, LeavesOthers, OneResource, SecondName, destroyed-is, first_name, imported-is, is, its-names, left, meaning-moved, meaning_in, new, now, rs, sound-names, was}
-
--- ---- what a name means, and which names are one resource
 
 -- ---- a resource whose lowest name changes
 

@@ -1,4 +1,4 @@
--- Wish 5, what an export, an import and a release come to, rule by rule and in their order. Of any progress. Assumes nothing.
+-- The theorems of specs/SharedPackets.antt, and what they rest on. Assumes nothing.
 use Rattle.std.specs.Prelude.{◌≡◌, List, eqb, length}
 use Rattle.std.proofs.Common.{ap, ◌∙◌}
 use borrow.Author.Tests.{eq-eqb, ne_eqb, le-leb, lt-leb}

@@ -1,5 +1,4 @@
--- Wish 5, the tokens from packet to packet: whatever the packet, one that was used stays used, one that is spent stays spent, and one that is bound
--- stays with its resource. Of any sound progress. Assumes nothing.
+-- The theorems of specs/SharedTokens.antt, and what they rest on. Assumes nothing.
 use Rattle.std.specs.Prelude.{◌≡◌, List, [], ◌∷◌, ◌⊎◌, ℕ, take}
 use Rattle.std.proofs.Math.Path.{refl}
 use Rattle.std.proofs.Common.{sym, ap, subst, ◌∙◌, inl, inr, ⊎_elim}

@@ -1,6 +1,4 @@
--- Since a make, a reset or a load: whatever a host asks, saves, moves and loads of bad files among it, what is said of calls between resets holds. And of any
--- device made and called, from the last of the three on: a token is bound exactly if it was in the file that was loaded, bound, or was exported since, and was
--- not spent since. Assumes nothing.
+-- The theorems of specs/SinceBegun.antt, and what they rest on. Assumes nothing.
 use Rattle.std.specs.Prelude.{◌≡◌, refl, true, false, List, [], ◌∷◌, ℕ}
 use Rattle.std.proofs.Common.{sym, ap, subst, ⊎_elim, arith}
 use Rattle.rules.specs.State.{State, World, nothing_owned}

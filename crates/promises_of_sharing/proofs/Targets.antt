@@ -1,5 +1,4 @@
--- Wish 7: "The target is a live texture, else 18; it lasts until the submission ends or that handle is destroyed." What each packet does to
--- it, what a scissor wants of it, and that it names a live texture for as long as it lasts. Assumes nothing.
+-- The theorems of specs/Targets.antt, and what they rest on. Assumes nothing.
 use Rattle.std.proofs.Math.Path.{◌≡◌}
 use Rattle.std.proofs.Common.{subst, arith}
 use Rattle.std.specs.Prelude.{List, ℕ}
@@ -18,8 +17,6 @@ use Rattle.promises_of_units.specs.Kept.{AnyMemory, KeptByUnits}
 use Rattle.promises_of_units.proofs.Kept.{lent_any, called-keeps}
 use Rattle.promises_of_units.proofs.Ranges.{called-sound}
 use Rattle.promises_of_sharing.specs.Targets.{BeginsWithNone, next-begins}
-
--- ---- what a scissor wants
 
 -- ---- of any device that was made and called
 

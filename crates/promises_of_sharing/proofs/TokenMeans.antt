@@ -1,5 +1,4 @@
--- Wish 5, "Import makes the handle a second name for the exported resource", from one submission to the next: as long as a token is bound, it is bound to the
--- resource that it was exported with, which has the same kind, bytes, pitch, backing and offset. Over any calls between resets. Assumes nothing.
+-- The theorems of specs/TokenMeans.antt, and what they rest on. Assumes nothing.
 use Rattle.std.proofs.Math.Path.{◌≡◌, ap}
 use Rattle.std.specs.Prelude.{refl, false, ◌⊎◌, ℕ, eqb}
 use Rattle.std.proofs.Common.{sym, subst, ◌∙◌, inl, inr, ⊎_elim, eqb-true}

@@ -1,6 +1,4 @@
--- Wish 5, tokens over a device's whole life: between resets, a token that was used stays used and one that is spent stays spent, over any calls and
--- any memories; a reset forgets all of them, and "a submission refused or answered failed leaves the tokens, too, as they were before it". Assumes
--- nothing.
+-- The theorems of specs/TokensOverCalls.antt, and what they rest on. Assumes nothing.
 use Rattle.std.specs.Prelude.{◌≡◌, Bool, List, [], ℕ, zero, suc, ◌≤◌, ltb, length}
 use Rattle.std.proofs.Math.Path.{refl}
 use Rattle.std.proofs.Common.{sym, ap, subst}

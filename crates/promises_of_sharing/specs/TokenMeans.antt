@@ -91,8 +91,6 @@ module _ (es : List Entry) (h : Progress) (s : SoundProgress es h) (c : ExportSu
   abbrev pub AsTheHandle : Belongings → Type 0
   AsTheHandle after = IsBound c.token after.tokens → token_means c.token after ≡ means c.handle held_now
 
--- ---- over any calls between resets
-
 -- ---- so the handle of an accepted import is a second name of the resource that was exported
 
 pub record NamesTheExported (token handle : ℕ) (xs : List Taken) (before : Belongings) (after : List Resource) : Type 0 where

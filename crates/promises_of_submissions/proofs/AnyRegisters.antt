@@ -1,5 +1,4 @@
--- Demand 2, with the registers written meanwhile: what a submission comes to does not depend on them. Only those that stand at its last
--- unit matter, for the settling. Assumes nothing.
+-- The theorems of specs/AnyRegisters.antt, and what they rest on. Assumes nothing.
 use Rattle.std.proofs.Math.Path.{◌≡◌, ap}
 use Rattle.std.proofs.Common.{◌∙◌, arith}
 use Rattle.std.specs.Prelude.{ℕ, suc, length}
@@ -17,8 +16,6 @@ use Rattle.promises_of_submissions.specs.Whole.{Course}
 use Rattle.promises_of_submissions.specs.Submission.{Lies, later_units, table_judged, packets_judged}
 use Rattle.promises_of_submissions.proofs.Submission.{course_started, submission-units}
 use Rattle.promises_of_submissions.specs.AnyRegisters.{under, under-any-registers}
-
--- ---- units, each under registers of its own; q are those of the last
 
 -- ---- a submission that was opened, and its units after the opening, whatever registers stand at each, the device being enabled at the last:
 -- what the unsliced rules give, settled by the registers that stand at the last one

@@ -1,5 +1,4 @@
--- Wish 2: appended bytes cannot matter. Two streams that are the same packet by packet, in opcode, size and the bytes that the table of
--- opcodes gives the packet, come to the same finding, records, resources and tokens, whatever stands past those bytes. Assumes nothing.
+-- The theorems of specs/Appended.antt, and what they rest on. Assumes nothing.
 use Rattle.std.specs.Prelude.{◌≡◌, List, ◌++◌, ℕ, zero, suc, ◌+◌, ◌≤◌, length, drop}
 use Rattle.std.proofs.Math.Path.{refl}
 use Rattle.std.proofs.Common.{sym, ap, ◌∙◌, arith, length-drop, length-append}

@@ -1,5 +1,4 @@
--- Wish 2, unit by unit: over two memories that differ only in bytes appended to a submission's packets, each unit comes to the same state,
--- with the same resources, records, tokens and place kept, and writes the same. Assumes nothing.
+-- The theorems of specs/AppendedUnits.antt, and what they rest on. Assumes nothing.
 use Rattle.std.specs.Prelude.{◌≡◌, Bool, ltb, length, drop}
 use Rattle.std.proofs.Math.Path.{refl, ap, subst}
 use Rattle.std.proofs.Common.{sym, ◌∙◌, arith, ltb-true, drop-drop}

@@ -1,5 +1,4 @@
--- Wish 7: "A scissor is clipped to the target over plain integers, negative corners included". The record that an accepted scissor makes lies
--- within the target that stands there, and its pixels are those that the target and the scissor's rectangle have in common. Assumes nothing.
+-- The theorems of specs/Clipping.antt, and what they rest on. Assumes nothing.
 use Rattle.std.specs.Prelude.{◌≡◌, Bool, ◌||◌, List, ℕ, ◌≤◌, pos, nat_abs, ◌+ℤ◌, ◌<ℤ◌}
 use Rattle.std.proofs.Math.Path.{refl}
 use Rattle.std.proofs.Common.{sym, subst, ⊎_elim}

@@ -1,5 +1,4 @@
--- Wish 7: "Read each packet as one of viewport, clear, scissor or target, its floats carried bit for bit." The floats of a packet have the bits
--- that stand in memory, and whether a viewport or a clear is error 30 goes by these. Assumes nothing.
+-- The theorems of specs/FloatBits.antt, and what they rest on. Assumes nothing.
 use Rattle.std.specs.Prelude.{◌≡◌, Bool, List, ℕ, ◌%◌}
 use Rattle.std.proofs.Math.Path.{refl, ap}
 use Rattle.std.proofs.Common.{sym, ◌∙◌}
@@ -18,8 +17,6 @@ use Rattle.promises_of_packets.specs.Held.{Every}
 use Rattle.promises_of_submissions.specs.LentBytes.{OfBytes, word_fits}
 use Rattle.promises_of_submissions.specs.LocalPackets.{framed-is-read}
 use Rattle.promises_of_submissions.specs.FloatBits.{ClearCarried, ViewportCarried, bad_clear_words, bad_viewport_words, bits-are-carried, clear-comes-to, judged_state, nan-comes-to, nan-not-finite-among, none-among, not-finite-clear, not-finite-viewport, viewport-comes-to}
-
--- ---- what a state packet comes to: nothing of what is held changes
 
 -- ---- a packet's own bytes
 

@@ -1,11 +1,11 @@
 pub mod Submission
-pub mod Submission2
+pub mod RunThrough
 pub mod Slices
 pub mod AnyRegisters
 pub mod Night
 pub mod LocalOpening
 pub mod Locality
-pub mod Locality2
+pub mod MovingMemory
 pub mod Appended
 pub mod AppendedUnits
 pub mod Clipping

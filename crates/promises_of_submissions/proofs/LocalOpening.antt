@@ -1,5 +1,4 @@
--- An opening reads the ring's header, the head's slot, and the headers of the table and of the stream, each only where the rules before
--- it let it be read. Assumes nothing.
+-- The theorems of specs/LocalOpening.antt, and what they rest on. Assumes nothing.
 use Rattle.std.specs.Prelude.{◌≡◌, Bool, ◌&&◌, List, eqb, length}
 use Rattle.std.proofs.Math.Path.{refl, ap}
 use Rattle.std.proofs.Common.{◌∙◌, leb-true}

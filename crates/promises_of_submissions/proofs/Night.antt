@@ -1,5 +1,4 @@
--- Demand 3, of submissions: wherever a submission is finished or waits, that is what the unsliced rules give, and the units are their
--- count, however the runs were cut. Assumes nothing.
+-- The theorems of specs/Night.antt, and what they rest on. Assumes nothing.
 use Rattle.std.specs.Prelude.{◌≡◌, refl, Bool, true, false, List, [], ◌∷◌, ℕ, zero, suc, ◌+◌, ◌-◌, ◌≤◌, ◌<◌, ltb}
 use Rattle.std.proofs.Common.{sym, ap, subst, ◌∙◌, zero-add, add_assoc, arith, ltb-false, ltb-true}
 use Rattle.machine.specs.Machine.{pick, Out, spent, sliced, run-exact}
@@ -10,7 +9,7 @@ use Rattle.rules.specs.Steps.{step, go, run_for, waits, answered}
 use Rattle.rules.specs.Unsliced.{submitted}
 use Rattle.promises_of_submissions.specs.Submission.{Submits}
 use Rattle.promises_of_submissions.proofs.Submission.{submits}
-use Rattle.promises_of_submissions.proofs.Submission2.{run-through}
+use Rattle.promises_of_submissions.proofs.RunThrough.{run-through}
 use Rattle.promises_of_submissions.specs.Slices.{world_waits, played}
 use Rattle.promises_of_submissions.specs.Night.{At, Clear, Leads, Night, Reached, answered-clear, at_clear, at_once, night_on, reached-still, rests, submitted-clear, waits-clear}
 use Rattle.promises_of_submissions.specs.Night.Night.{answer, begun, submission}

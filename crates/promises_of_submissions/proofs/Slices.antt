@@ -1,4 +1,4 @@
--- Demand 3: slices and answers in any order. What was spent and what was accepted settles state and memory. Assumes nothing.
+-- The theorems of specs/Slices.antt, and what they rest on. Assumes nothing.
 use Rattle.std.specs.Prelude.{◌≡◌, Bool, false, List}
 use Rattle.machine.specs.Schedule.{Event, schedules}
 use Rattle.rules.specs.State.{World}

@@ -1,5 +1,4 @@
--- Demand 2, whole: from its opening on, over still memory, a submission's steps end where the unsliced rules end, after their
--- count of units. Assumes nothing.
+-- The theorems of specs/Submission.antt, and what they rest on. Assumes nothing.
 use Rattle.std.specs.Prelude.{◌≡◌, Bool, eqb}
 use Rattle.std.proofs.Math.Path.{refl}
 use Rattle.std.proofs.Common.{sym, subst}

@@ -53,14 +53,14 @@ pub record SameOpening (m m' : List ℕ) (ring size : ℕ) : Type 0 where
 
 module _ {H : Type 0} (rules : H → Verdict) (code least size : ℕ) (small : ltb size least ≡ true → (y : H) → rules y ≡ Broken (refusal code))
     (x x' : H) (same : least ≤ size → x ≡ x') where
-  same-rules : only (present size) (rules x) ≡ only (present size) (rules x')
+  pub same-rules : only (present size) (rules x) ≡ only (present size) (rules x')
   same-rules = by_test (ltb size least) refl
     where
       by_test : (t : Bool) → ltb size least ≡ t → only (present size) (rules x) ≡ only (present size) (rules x')
       by_test true t = rw (small t x, small t x')
       by_test false t = rw (same (ltb-false size least t))
 
-  same_kept : {K : Type 0} (of : H → K) (none : K) → only (present size) (rules x) ≡ Fine → pick (present size) (of x) none ≡ pick (present size) (of x') none
+  pub same_kept : {K : Type 0} (of : H → K) (none : K) → only (present size) (rules x) ≡ Fine → pick (present size) (of x) none ≡ pick (present size) (of x') none
   same_kept of none h = by_tests (present size) (ltb size least) refl h
     where
       by_tests : (a b : Bool) → ltb size least ≡ b → only a (rules x) ≡ Fine → pick a (of x) none ≡ pick a (of x') none
@@ -68,11 +68,11 @@ module _ {H : Type 0} (rules : H → Verdict) (code least size : ℕ) (small : l
       by_tests a false t k = rw (same (ltb-false size least t))
       by_tests false true t k = refl
 
-small-table : (size : ℕ) → ltb size table_header_size ≡ true → (h : TableHeader) → header_rules size h ≡ Broken (refusal bad_table)
+pub small-table : (size : ℕ) → ltb size table_header_size ≡ true → (h : TableHeader) → header_rules size h ≡ Broken (refusal bad_table)
 unfolding header_rules wrong_header
 small-table size t h = rw t
 
-small-stream : (size : ℕ) → ltb size stream_header_size ≡ true → (h : StreamHeader) → stream_rules size h ≡ Broken (refusal bad_stream)
+pub small-stream : (size : ℕ) → ltb size stream_header_size ≡ true → (h : StreamHeader) → stream_rules size h ≡ Broken (refusal bad_stream)
 unfolding stream_rules wrong_header
 small-stream size t h = rw t
 

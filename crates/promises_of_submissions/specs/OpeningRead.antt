@@ -27,10 +27,7 @@ use Rattle.rules.specs.declared.Verdict.TheVariants.{Fine, Broken}
 use Rattle.rules.specs.declared.Opening.{Opening}
 use Rattle.rules.specs.declared.Opening.TheVariants.{BadRing, NoWork, Started}
 use Rattle.rule_laws.specs.Fine.{broken-not-fine, both_left, both_right}
-
--- the rules of a stream that is present, if one is
-abbrev pub stream_fine : List ℕ → Descriptor → Verdict
-stream_fine m d = only (present d.cmdsize) (stream_rules d.cmdsize (stream_header m d.cmd))
+use Rattle.promises_of_submissions.specs.LocalOpening.{stream_fine, same-rules, same_kept, small-table, small-stream}
 
 -- of the ranges that a descriptor names: the table's header, and the stream's if the table's is good
 pub record RangesRead (m m' : List ℕ) (d : Descriptor) : Type 0 where
@@ -47,33 +44,6 @@ pub record OpeningRead (m m' : List ℕ) (ring size : ℕ) : Type 0 where
   pub header : ring_header_size ≤ size → ring + size ≤ length m → ring_header m ring ≡ ring_header m' ring
   pub pending : good_ring m ring size ≡ true → ((ring_header m ring).head ≡ (ring_header m ring).tail → ⊥)
       → SlotRead m m' (slot_place ring (ring_header m ring)) (ring_header m ring).stride
-
--- ---- a header that a descriptor leads to, the table's or the stream's: a range that is too small for it is refused without a look at it
-
-module _ {H : Type 0} (rules : H → Verdict) (code least size : ℕ) (small : ltb size least ≡ true → (y : H) → rules y ≡ Broken (refusal code))
-    (x x' : H) (same : least ≤ size → x ≡ x') where
-  same-rules : only (present size) (rules x) ≡ only (present size) (rules x')
-  same-rules = by_test (ltb size least) refl
-    where
-      by_test : (t : Bool) → ltb size least ≡ t → only (present size) (rules x) ≡ only (present size) (rules x')
-      by_test true t = rw (small t x, small t x')
-      by_test false t = rw (same (ltb-false size least t))
-
-  same_kept : {K : Type 0} (of : H → K) (none : K) → only (present size) (rules x) ≡ Fine → pick (present size) (of x) none ≡ pick (present size) (of x') none
-  same_kept of none h = by_tests (present size) (ltb size least) refl h
-    where
-      by_tests : (a b : Bool) → ltb size least ≡ b → only a (rules x) ≡ Fine → pick a (of x) none ≡ pick a (of x') none
-      by_tests true true t k = absurd (broken-not-fine (refusal code) (sym (small t x) ∙ k))
-      by_tests a false t k = rw (same (ltb-false size least t))
-      by_tests false true t k = refl
-
-small-table : (size : ℕ) → ltb size table_header_size ≡ true → (h : TableHeader) → header_rules size h ≡ Broken (refusal bad_table)
-unfolding header_rules wrong_header
-small-table size t h = rw t
-
-small-stream : (size : ℕ) → ltb size stream_header_size ≡ true → (h : StreamHeader) → stream_rules size h ≡ Broken (refusal bad_stream)
-unfolding stream_rules wrong_header
-small-stream size t h = rw t
 
 -- ---- a submission
 

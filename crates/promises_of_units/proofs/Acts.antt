@@ -1,5 +1,4 @@
--- What calls do to a device, act by act: a unit is spent, a register is written, an answer is taken. A refused call, a read and a record
--- are no act. Calls of which none resets lead where their acts lead. Assumes nothing.
+-- The theorems of specs/Acts.antt, and what they rest on. Assumes nothing.
 use Rattle.std.specs.Prelude.{◌≡◌, refl, Bool, true, false, List, [], ◌∷◌, eqb}
 use Rattle.std.proofs.Common.{sym, ap, subst, ◌∙◌}
 use Rattle.machine.specs.Machine.{pick}

@@ -1,5 +1,4 @@
--- Wish 6, "answer and carry on in one call": the one call is the two old ones, one after the other, and with an allowance of 0 it is the old
--- answer. "Answers 1 and 3 refuse the whole call, nothing run." Assumes nothing.
+-- The theorems of specs/AnswerAndRun.antt, and what they rest on. Assumes nothing.
 use Rattle.std.specs.Prelude.{◌≡◌, refl, Bool, ℕ}
 use Rattle.std.proofs.Common.{sym, ap, ◌∙◌, arith, eq-eqb}
 use Rattle.machine.specs.Machine.{pick}

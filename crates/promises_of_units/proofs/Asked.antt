@@ -1,6 +1,4 @@
--- All that a host asks of a device: the five calls, saves, loads and moves, in any order. What happens to the device, in order: the calls' events, and
--- loads of good files. The completed fence, the error and the belongings are what these make of them, so between a make, a reset or a load and the next
--- reset or load what is said of calls holds. Assumes nothing.
+-- The theorems of specs/Asked.antt, and what they rest on. Assumes nothing.
 use Rattle.std.specs.Prelude.{◌≡◌, false, ℕ}
 use Rattle.std.proofs.Math.Path.{refl, sym}
 use Rattle.std.proofs.Common.{ap, ◌∙◌}
@@ -20,8 +18,6 @@ use Rattle.promises_of_units.specs.Asked.Asked.{calls, loads, moves, saves}
 use Rattle.promises_of_units.specs.Asked.Change.{loading}
 use Rattle.promises_of_units.specs.Asked.Course.{no_more, one_more}
 use Rattle.promises_of_units.specs.Asked.Happened.{by-bad-file, by_call, by_load, by_move, by_save}
-
--- ---- what happens to the device
 
 -- ---- there are such changes, whatever is asked
 

@@ -1,5 +1,4 @@
--- The bytes of guest memory over whole runs and any calls, resets among them: they are what the settlings wrote over those before, one after
--- the other, and a byte outside the heads and the pages of the submissions settled is what it was. Assumes nothing.
+-- The theorems of specs/Bytes.antt, and what they rest on. Assumes nothing.
 use Rattle.std.specs.Prelude.{◌≡◌, ◌⊎◌, ℕ, ◌≤◌, length, get_or}
 use Rattle.std.proofs.Math.Path.{refl}
 use Rattle.std.proofs.Common.{ap, ◌∙◌, inl, inr}

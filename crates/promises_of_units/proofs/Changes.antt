@@ -1,5 +1,4 @@
--- What events say: the completed fence, the error registers and the device's resources and tokens after any run and any calls are what the events
--- make of those before, one after the other. Nothing else changes them. Assumes nothing.
+-- The theorems of specs/Changes.antt, and what they rest on. Assumes nothing.
 use Rattle.std.specs.Prelude.{◌≡◌, Bool, true, false, ℕ}
 use Rattle.std.proofs.Math.Path.{refl, sym, ap}
 use Rattle.std.proofs.Common.{◌∙◌}

@@ -1,5 +1,4 @@
--- What happens to a device, in order: submissions settle, a ring is refused, the guest resets. The units of any run and any list of calls
--- come to such a list of events, each with what it needs to happen. Assumes nothing.
+-- The theorems of specs/Events.antt, and what they rest on. Assumes nothing.
 use Rattle.std.specs.Prelude.{◌≡◌, refl, Bool, true, false, List, [], ◌∷◌, ◌++◌, ℕ, zero, suc}
 use Rattle.std.proofs.Common.{ap, subst, ◌∙◌, arith}
 use Rattle.machine.specs.Machine.{run_none, run-stop, run-go}

@@ -1,4 +1,4 @@
--- 02, wish 1, "The completed fence may be lower after loading": and after nothing else but a reset. Assumes nothing.
+-- The theorems of specs/FenceRises.antt, and what they rest on. Assumes nothing.
 use Rattle.std.specs.Prelude.{◌≡◌, false, List, [], ◌∷◌, ℕ, ◌≤◌}
 use Rattle.std.proofs.Common.{sym, subst, arith}
 use Rattle.rules.specs.Shapes.{larger}

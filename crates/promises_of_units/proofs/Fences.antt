@@ -1,5 +1,4 @@
--- Demand 2, the fence: one that is accepted waits for the host, with registers, memory and the device's resources as before the
--- opening; one that is refused is settled with its error, hands out nothing and keeps every resource and token. Assumes nothing.
+-- The theorems of specs/Fences.antt, and what they rest on. Assumes nothing.
 use Rattle.std.specs.Prelude.{◌≡◌, true, false, ℕ}
 use Rattle.std.proofs.Math.Path.{ap}
 use Rattle.machine.specs.Machine.{Out}

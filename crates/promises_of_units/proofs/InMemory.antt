@@ -1,5 +1,4 @@
--- What is handed out lies in memory: every entry that is kept ends within the memory's length, so every range of a device that waits
--- does. A new device has it and every call keeps it, whatever bytes stood in memory. Assumes nothing.
+-- The theorems of specs/InMemory.antt, and what they rest on. Assumes nothing.
 use Rattle.std.specs.Prelude.{◌≡◌, ℕ, suc, ◌+◌, ◌≤◌, length}
 use Rattle.std.proofs.Math.Path.{subst}
 use mathlib.Core.List.{List, [], ◌∷◌}

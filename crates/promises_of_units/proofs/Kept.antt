@@ -1,5 +1,4 @@
--- What holds of a device at rest, and is kept by each unit, holds of any device that was made or loaded, and called: whatever calls, whatever
--- memories. It may ask for a kind of memory, if every call was lent such. Assumes nothing.
+-- The theorems of specs/Kept.antt, and what they rest on. Assumes nothing.
 use Rattle.std.specs.Prelude.{◌≡◌, Bool, ℕ, eqb, length}
 use Rattle.std.proofs.Common.{◌∙◌, arith, eqb-true}
 use Rattle.std.proofs.Math.Bool.{true, false}

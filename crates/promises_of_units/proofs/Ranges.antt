@@ -1,6 +1,4 @@
--- Every range that a record call hands out, of any device that was made or loaded, and called: whatever calls came, whatever bytes stood in memory at
--- each, it lies inside exactly one entry of the table of the submission that waits, and inside memory. A range is a record of kind 1 to 3; one of
--- kind 4 is a clipped rectangle. Assumes nothing.
+-- The theorems of specs/Ranges.antt, and what they rest on. Assumes nothing.
 use Rattle.std.specs.Prelude.{◌≡◌, get_or}
 use Rattle.std.proofs.Math.Path.{refl, ap, subst}
 use Rattle.std.proofs.Common.{sym, ◌∙◌}

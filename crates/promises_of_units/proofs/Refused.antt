@@ -1,4 +1,4 @@
--- Demand 1: a refused call gives its number and changes no state and no byte; every call keeps the device sound. Assumes nothing.
+-- The theorems of specs/Refused.antt, and what they rest on. Assumes nothing.
 use Rattle.std.specs.Prelude.{◌≡◌, Bool, ℕ}
 use Rattle.std.proofs.Common.{sym, subst}
 use Rattle.rules.specs.Numbers.{done}
@@ -12,8 +12,6 @@ use Rattle.promises_of_units.specs.Writes.Written.{keeps, drops}
 use Rattle.promises_of_units.specs.Runs.{of-run, of-answer}
 use Rattle.promises_of_units.specs.Sound.{SoundState}
 use Rattle.promises_of_units.proofs.Sound.{run-keeps-sound, answer-keeps-sound, made-sound}
-
--- ---- refused calls
 
 -- ---- soundness, kept by every call
 

@@ -1,5 +1,4 @@
--- What is true of every device that was made and called, whatever bytes stood in memory: its soundness. A new device has it and
--- every step, run and answer keeps it; Refused.antt says it of every call. Assumes nothing.
+-- The theorems of specs/Sound.antt, and what they rest on. Assumes nothing.
 use Rattle.std.specs.Prelude.{◌≡◌, Bool, true, false, ℕ, zero, suc, ◌+◌, ◌<◌, ltb, eqb, length}
 use Rattle.std.proofs.Math.Path.{refl, subst}
 use Rattle.std.proofs.Common.{sym, arith, ltb-true, length-append}

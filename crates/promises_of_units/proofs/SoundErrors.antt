@@ -1,5 +1,4 @@
--- The last error stays sound: its code is 0 or listed, its count 0 exactly with code 0, and then its fence and its place. What a submission's end and a
--- bad ring make of it. Assumes nothing.
+-- The theorems of specs/SoundErrors.antt, and what they rest on. Assumes nothing.
 use Rattle.std.specs.Prelude.{◌≡◌, Bool, true, ℕ, ◌+◌, ◌-◌, ◌^◌, ltb, eqb}
 use Rattle.std.proofs.Common.{ne_eqb}
 use Rattle.machine.specs.Machine.{pick}

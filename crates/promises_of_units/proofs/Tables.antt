@@ -1,6 +1,4 @@
--- The table of a submission in work is its own: the one that its opening read, with each entry read and found good in the memory lent at
--- its unit, and all of them once packets are judged; and so is its stream. Of any device that was made and called, whatever memories.
--- Assumes nothing.
+-- The theorems of specs/Tables.antt, and what they rest on. Assumes nothing.
 use Rattle.std.proofs.Math.Path.{◌≡◌, refl}
 use Rattle.std.proofs.Common.{sym, subst, arith, ltb-true, ltb-false, length-append}
 use Rattle.std.specs.Prelude.{Bool, List, [], ℕ, ◌≤◌, ◌<◌, ltb, length}
@@ -24,8 +22,6 @@ use Rattle.promises_of_units.specs.Kept.{AnyMemory, KeptByUnits}
 use Rattle.promises_of_units.proofs.Kept.{lent_any, called-keeps}
 use Rattle.promises_of_units.specs.Tables.{OwnTable, StartedOnce, TakenFrom, WholeTable, good-entry-is-kept, next_entry}
 use Rattle.promises_of_units.specs.Tables.TakenFrom.{kept-one, none_kept}
-
--- ---- whose table it is, over memories of n bytes
 
 -- ---- kept by a unit
 

@@ -1,5 +1,4 @@
--- What one unit does, over any world at all: any state, any bytes in memory. It works on, finds a bad ring or no work, or settles a
--- submission whose rule is broken; and there is no other way. Assumes nothing.
+-- The theorems of specs/Units.antt, and what they rest on. Assumes nothing.
 use Rattle.std.specs.Prelude.{◌≡◌, Bool, true, false, List, [], ℕ, zero, suc, length}
 use Rattle.std.proofs.Math.Path.{refl, sym, ap}
 use Rattle.std.proofs.Common.{subst, ◌∙◌}

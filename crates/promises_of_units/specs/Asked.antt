@@ -59,8 +59,6 @@ pub data Course : State → List Asked → List Change → State → Type 0 wher
   no_more : {s : State} → Course s [] [] s
   one_more : {s t u : State} {a : Asked} {qs : List Asked} {ds es : List Change} → Happened s a ds t → Course t qs es u → Course s (a ∷ qs) (ds ++ es) u
 
--- ---- there are such changes, whatever is asked
-
 -- ---- and they say what is there after them
 
 -- what changes make of something: events as they do, and a load whatever the file says
@@ -78,8 +76,6 @@ pub record SaysAll (s : State) (ds : List Change) (t : State) : Type 0 where
   pub completed : t.regs.completed ≡ through-changes completed_by (λ (x : State). x.regs.completed) ds s.regs.completed
   pub error : t.regs.error ≡ through-changes error_by (λ (x : State). x.regs.error) ds s.regs.error
   pub belongings : t.belongings ≡ through-changes belongings_by (λ (x : State). x.belongings) ds s.belongings
-
--- ---- whatever was asked of a device made and called, it is one still: a load between calls is one at the beginning
 
 -- ---- neither a reset nor a load of a good file
 

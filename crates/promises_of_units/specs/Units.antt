@@ -81,8 +81,6 @@ module _ (w : World) where
       ap (λ v. after_packet w j s (next_place at (left w.mem s at)) es (take_packet es held (left w.mem s at)).held (at_place at v)) h.0 ∙ ap (λ k. working k w) (sym h.1)
   next-is-step (waiting j es held) next e h = ap (λ k. working k w) (e ∙ sym h)
 
--- ---- the device's resources and tokens: units never change them
-
 -- ---- what does not wait hands out nothing: every record call answers 4, with zeros beside it
 
 pub not-waiting-hands-out-nothing : (s : State) → waits s ≡ false → (i : ℕ) → call_record s i ≡ record { answer = no_record; range = no_range }

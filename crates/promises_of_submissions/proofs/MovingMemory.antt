@@ -1,5 +1,4 @@
--- A unit reads where it stands and nothing else: over two memories that hold the same bytes there, whatever stands elsewhere, it comes
--- to the same state and writes the same. So a front that has read ahead, or reads what it has kept once more, is shut out. Assumes nothing.
+-- A run over memories that change from unit to unit reads, at each, only what that unit reads. Assumes nothing.
 use Rattle.std.specs.Prelude.{◌≡◌, refl, List, ℕ, length}
 use Rattle.std.proofs.Common.{ap, ◌∙◌}
 use Rattle.std.proofs.Math.Bool.{true}

@@ -1,4 +1,4 @@
--- One packet, put to two submissions that hold the same: it comes to the same, and they hold the same after it. Assumes nothing.
+-- Two submissions that hold the same are still the same after a packet. Assumes nothing.
 use Rattle.std.specs.Prelude.{◌≡◌, List, ℕ, take}
 use Rattle.std.proofs.Math.Path.{refl, ap}
 use Rattle.std.proofs.Common.{◌∙◌}
@@ -23,8 +23,6 @@ use Rattle.promises_of_same_desks.specs.Maps.{same-rebound, same-with-token}
 use Rattle.promises_of_same_desks.proofs.Maps.{same-without-token}
 use Rattle.promises_of_same_desks.specs.Packets.{Of, SameHeld, SamePassed, bound-same, copy-both, create-both, destroy-both, dirty-both, export-both, import-both, refuse-both, release-both, scissor-both, target-both}
 use Rattle.promises_of_same_desks.proofs.Packets.{few-names, few-tokens, keeps, more, names-left-same, names-with-same, refuses, stores, tokens-left-same}
-
--- ---- the rules of a packet, one by one, over two holdings
 
 -- ---- one packet, whatever it is
 

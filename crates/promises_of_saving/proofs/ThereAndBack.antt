@@ -1,5 +1,4 @@
--- "one load for all, and a move between forms": a file that moves says the same device in the other form, and moves back to equal bytes. Every form 1
--- file moves, and a form 2 file exactly if it says nothing that form 1 has no field for. Assumes nothing.
+-- A file of form 1 that is moved to form 2 and back is the file that it was. Assumes nothing.
 use Rattle.std.specs.Prelude.{◌≡◌, List, ℕ, ◌+◌, ◌≤◌, length}
 use Rattle.rules.specs.Numbers.{done}
 use Rattle.rules.specs.Lists.{over}

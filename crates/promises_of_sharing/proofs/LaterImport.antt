@@ -1,6 +1,4 @@
--- Wish 5, "two programs, one surface": a token lives from one submission to the next. One that is bound, or exported since, is bound over any calls
--- between resets, exactly unless a submission answered good has released it or destroyed the last name of its resource since. And import's own test finds
--- it, so an import of it in a later submission, with a free handle and room, is accepted. Assumes nothing.
+-- A later import of a token that is still bound is accepted. Assumes nothing.
 use Rattle.std.specs.Prelude.{◌≡◌, ◌⊎◌, ℕ, ◌<◌, length}
 use mathlib.Core.List.{List, [], ◌++◌}
 use Rattle.std.proofs.Math.Logic.{inl, inr, ⊎_elim}

@@ -1,5 +1,4 @@
--- Demand 2, whole: from its opening on, over still memory, a submission's steps end where the unsliced rules end, after their
--- count of units. Assumes nothing.
+-- A run with more units than the submission has is the submission and a run of the rest. Assumes nothing.
 use Rattle.std.specs.Prelude.{◌≡◌}
 use Rattle.std.proofs.Common.{ap, ◌∙◌}
 use Rattle.std.proofs.Math.Bool.{true}

@@ -1,6 +1,4 @@
--- Two devices of a host that are the same desk, in any layer: whatever calls are made of both, lent whatever memories, each says the same and leaves the same
--- memory, and the devices stay the same desk. Of the exports, saves, loads and moves are joined to the calls. So a device that was loaded from what another one
--- saved goes on as that one would have. Assumes nothing.
+-- A desk that was saved and is loaded elsewhere goes on as the one that was saved, said of the exports. Assumes nothing.
 use Rattle.std.specs.Prelude.{◌≡◌, List, ℕ, ◌/◌, take}
 use Rattle.rules.specs.Numbers.{done}
 use Rattle.rules.specs.declared.Form.{Form}
@@ -16,8 +14,6 @@ use Rattle.promises_of_calls.specs.Saving.{OfWords}
 use Rattle.promises_of_calls.proofs.Saving.{export-saved-and-loaded}
 use Rattle.promises_of_calls.specs.SameDesks.{Course, Heard, SameHeard}
 use Rattle.promises_of_calls.proofs.SameDesks.{exports-hear-the-same}
-
--- ---- the exports, with saves, loads and moves among them
 
 -- ---- a desk that was saved, and loaded elsewhere: from then on both hear the same, whatever is asked of them
 

@@ -1,5 +1,4 @@
--- Two devices that are the same desk behave the same for ever: whatever a host asks of both, over whatever memories, buffers and files, each is told the
--- same and they stay the same desk. So a desk that was saved and is loaded elsewhere goes on exactly as the one that was saved would have. Assumes nothing.
+-- A desk that was saved, or moved to the other form, and is loaded elsewhere goes on as the one that was saved. Assumes nothing.
 use Rattle.std.specs.Prelude.{◌≡◌, List, ℕ, length, take}
 use Rattle.std.proofs.Common.{ap}
 use Rattle.rules.specs.Numbers.{done}
@@ -21,9 +20,7 @@ use Rattle.promises_of_units.specs.Asked.Asked.{saves}
 use Rattle.promises_of_same_desks.proofs.Files.{save-same, load-is-sound}
 use Rattle.promises_of_same_desks.specs.ForEver.{SameForEver}
 use Rattle.promises_of_same_desks.proofs.ForEver.{sound-is-savable}
-use Rattle.promises_of_same_desks.proofs.ForEver2.{same-devices-for-ever}
-
--- ---- and no two others at rest do
+use Rattle.promises_of_same_desks.proofs.DesksForEver.{same-devices-for-ever}
 
 -- ---- a desk that was saved, and loaded elsewhere
 

@@ -1,5 +1,4 @@
--- Wish 12, "up to each settling": until a submission settles, what is listed of it in the memory first lent is all that counts. By slices and by the unsliced rules. Assumes
--- nothing.
+-- A whole submission over two memories that agree on what it lists: as many units, the same at each, and the same in the end. Assumes nothing.
 use Rattle.std.specs.Prelude.{◌≡◌, true, false, List, length}
 use Rattle.std.proofs.Common.{sym, ap, subst, ◌∙◌, ⊎_elim, arith}
 use Prim.Native.Nat.{ℕ, suc, ◌≤◌, ◌<◌}

@@ -1,4 +1,4 @@
--- Parts of a month that are totalled apart and merged. Assumes nothing.
+-- A month cut into any number of parts: their totals, merged, are the totals of all. Assumes nothing.
 use Rattle.std.proofs.Math.Path.{◌≡◌}
 use Rattle.std.proofs.Common.{sym, ap, ◌∙◌}
 use Rattle.std.proofs.Math.Bool.{true}
