@@ -1,4 +1,4 @@
--- What the beginning of a submission asks: a law for each way out, by the words spelled out. Assumes nothing.
+-- The law of `store_job`, by the words spelled out. Assumes nothing.
 use Rattle.std.specs.Prelude.{◌≡◌, List, ℕ, ◌<◌, length, set}
 use Rattle.std.proofs.Common.{◌∙◌}
 use Rattle.rules.specs.declared.Job.{Job}

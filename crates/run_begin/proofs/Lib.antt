@@ -1,2 +1,2 @@
 pub mod Beginning
-pub mod Beginning2
+pub mod StoringJob

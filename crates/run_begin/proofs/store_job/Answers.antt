@@ -1,5 +1,5 @@
 -- `store_job` meets its contract. Assumes nothing.
-use Rattle.run_begin.proofs.Beginning2.{storing_job}
+use Rattle.run_begin.proofs.StoringJob.{storing_job}
 use Rattle.run_begin.proofs.store_job.Goals as goal
 
 pub returns : goal.returns
