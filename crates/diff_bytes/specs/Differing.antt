@@ -1,5 +1,5 @@
 -- Where two packets differ, offset by offset. Assumes nothing.
-use Rattle.std.specs.Prelude.{◌≡◌, refl, Bool, true, false, not, List, [], ◌∷◌, ◌++◌, ◌⊎◌, ℕ, zero, suc, ◌+◌, ◌-◌, ◌≤◌, ◌<◌, min, max, ltb, eqb, get_or, take, drop}
+use Rattle.std.specs.Prelude.{◌≡◌, refl, Bool, true, false, not, List, [], ◌∷◌, ◌++◌, ◌⊎◌, ℕ, zero, suc, ◌+◌, ◌-◌, ◌≤◌, ◌<◌, min, max, ltb, eqb, get_or, take, drop, None, Option, Some}
 use Rattle.std.proofs.Common.{sym, ap, ◌∙◌, ⊎_elim, zero-add, add-zero, rules, Fits, length-take, length-drop, take-append-drop, drop-cons, drop-drop, get_or-take, get_or-drop, length-take-le}
 use native.Mathlib.Omega.{arith}
 use borrow.Author.Tests.{lt-ltb, le-ltb, eq-eqb, eqb-true, not-false}
@@ -11,8 +11,6 @@ use Rattle.words.specs.Fields.{bytes_of-le}
 use Rattle.words.specs.Over.{below_or_not}
 use Rattle.rules.specs.Bytes.{bytes_of, field}
 use Rattle.rules.specs.Difference.{differing_from, differing, next_from}
-use Rattle.rules.specs.declared.Offset.{Offset}
-use Rattle.rules.specs.declared.Offset.TheVariants.{At, Nowhere}
 
 -- "bytes past the shorter of two count as differing": whether two packets differ at an offset
 unfoldable pub differs_at : List ℕ → List ℕ → ℕ → Bool
@@ -39,9 +37,9 @@ pub ruleset differing_there = (differs-both, differs-first, differs-second, rule
 -- ---- the list from an offset on
 
 -- the first of a list
-abbrev pub first_of : List ℕ → Offset
-first_of [] = Nowhere
-first_of (i ∷ offsets) = At i
+abbrev pub first_of : List ℕ → Option ℕ
+first_of [] = None
+first_of (i ∷ offsets) = Some i
 
 -- the bytes from an offset on
 abbrev pub from_offset : List ℕ → List ℕ → ℕ → List ℕ
@@ -185,7 +183,7 @@ module _ (x y : List ℕ) (from i : ℕ) (w : from_offset x y from ≡ from_offs
 pub ruleset going_by_eight = (eight-first, eight-second, eight-on, rules)
 
 module _ (x y : List ℕ) (from : ℕ) where
-  abbrev asked : Offset
+  abbrev asked : Option ℕ
   asked = next_from from (differing x y)
 
   pub next_start : asked ≡ first_of (from_offset x y from)
@@ -195,11 +193,11 @@ module _ (x y : List ℕ) (from : ℕ) where
   next-begin i e = next_start ∙ ap first_of e
 
   module _ (i : ℕ) (w : asked ≡ first_of (from_offset x y i)) (end : ℕ) (long : end ≡ max (length x) (length y)) where
-    pub next-none : end ≤ i → Nowhere ≡ asked
+    pub next-none : end ≤ i → None ≡ asked
     next-none h = rw (w, none-there x y i (rw (← long) h))
 
     module _ (h : i < end) (b : Bool) (is : b ≡ differs_at x y i) where
-      pub next_here : b ≡ true → At i ≡ asked
+      pub next_here : b ≡ true → Some i ≡ asked
       next_here t = rw (w, there-or-not x y i (rw (← long) h), ← is, t)
 
       pub next-on : b ≡ false → asked ≡ first_of (from_offset x y (i + 1))

@@ -5,7 +5,7 @@ ghost use Rattle.std.specs.Prelude.{◌≡◌, ◌+◌, ◌≤◌, min, max, len
 ghost use Rattle.rules.specs.Difference.{differing, next_from};
 ghost use Rattle.diff_bytes.specs.Differing.{differs_at, from_offset, SameEight};
 
-use rules::Offset;
+use rules::Option<usize>;
 use words::u64_at;
 
 fn longer(a: &[u8], b: &[u8]) -> usize
@@ -67,16 +67,16 @@ fn equal_until(a: &[u8], b: &[u8], from: usize) -> usize
 }
 
 // The least offset, not below `from`, where two packets differ.
-pub fn next_differing(a: &[u8], b: &[u8], from: usize) -> Offset
+pub fn next_differing(a: &[u8], b: &[u8], from: usize) -> Option<usize>
     ensures { result ≡ next_from from (differing a.now b.now) }
 {
     let end = longer(a, b);
     let mut i = equal_until(a, b, from);
     while i < end {
         if differs(a, b, i) {
-            return Offset::At(i);
+            return Some(i);
         }
         i += 1;
     }
-    Offset::Nowhere
+    None
 }

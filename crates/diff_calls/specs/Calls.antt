@@ -1,58 +1,51 @@
 -- What the questions ask of their parts. Assumes nothing.
-use Rattle.std.specs.Prelude.{◌≡◌, List, ℕ, ◌+◌, ◌<◌, ◌^◌, length}
+use Rattle.std.specs.Prelude.{◌≡◌, List, ℕ, ◌+◌, ◌<◌, ◌^◌, length, Option, ⊤, Result, Ok, Err}
 use Rattle.std.proofs.Common.{ap, ◌∙◌, ⊎_elim, arith, rules, eq-eqb, ne_eqb, Fits}
 use Rattle.std.specs.Int.{w64}
 use Rattle.words.specs.Over.{below_or_not}
 use Rattle.rules.specs.Layouts.{stream_header_size}
 use Rattle.rules.specs.Lists.{nth}
-use Rattle.rules.specs.Difference.{packets, checked, check, class_of, offsets_of, next_from, parted, parts, class_asked, next_asked, own, packet_at, size_at, behind, pair_in, pair_at, next_at, onward, start}
-use Rattle.rules.specs.declared.Checked.{Checked}
-use Rattle.rules.specs.declared.Checked.TheVariants.{Valid, Refused}
+use Rattle.rules.specs.Difference.{packets, refused_stream, checked, check, class_of, offsets_of, next_from, parted, parts, class_asked, next_asked, own, packet_at, size_at, behind, pair_in, pair_at, next_at, onward, start}
 use Rattle.rules.specs.declared.Class.{Class}
-use Rattle.rules.specs.declared.Offset.{Offset}
-use Rattle.rules.specs.declared.Parting.{Parting}
-use Rattle.rules.specs.declared.PartsAnswer.TheVariants.{Is as PartsIs, Refused as PartsRefused}
-use Rattle.rules.specs.declared.ClassAnswer.TheVariants.{Is as ClassIs, Refused as ClassRefused}
-use Rattle.rules.specs.declared.OffsetAnswer.TheVariants.{Is as OffsetIs, Refused as OffsetRefused}
-use Rattle.rules.specs.declared.StartAnswer.TheVariants.{Is as StartIs, Refused as StartRefused}
 use Rattle.rules.specs.declared.Cursor.{Cursor}
 use Rattle.rules.specs.declared.Pair.{Pair}
 use Rattle.diff_walk.specs.Walk.{packets_from, some-packet}
 use Rattle.diff_walk.specs.Own.{own-packets}
+use Rattle.rules.specs.declared.RefusedStream.{RefusedStream}
 
 -- ---- check
 
 module _ (m n x : ℕ) (p : x ≡ m) where
-  pub refused-first : (x ≡ 0 → ⊥) → Refused x 1 ≡ checked m n
+  pub refused-first : (x ≡ 0 → ⊥) → Err (refused_stream x 1) ≡ checked m n
   refused-first k = rw (← p, ne_eqb x 0 k)
 
   module _ (e : x ≡ 0) (y : ℕ) (q : y ≡ n) where
-    pub refused-second : (y ≡ 0 → ⊥) → Refused y 2 ≡ checked m n
+    pub refused-second : (y ≡ 0 → ⊥) → Err (refused_stream y 2) ≡ checked m n
     refused-second k = rw (← p, ← q, eq-eqb x 0 e, ne_eqb y 0 k)
 
-    pub valid : y ≡ 0 → Valid ≡ checked m n
+    pub valid : y ≡ 0 → Ok tt ≡ checked m n
     valid f = rw (← p, ← q, eq-eqb x 0 e, eq-eqb y 0 f)
 
 pub ruleset checking = (refused-first, refused-second, valid, rules)
 
 -- ---- parts, class_of, next_offset, start
 
-module _ (b c : List ℕ) (x : Checked) (is : x ≡ check b c) where
-  module _ (code which : ℕ) (e : x ≡ Refused code which) where
-    pub parts-refused : PartsRefused code which ≡ parts b c
+module _ (b c : List ℕ) (x : Result ⊤ RefusedStream) (is : x ≡ check b c) where
+  module _ (r : RefusedStream) (e : x ≡ Err r) where
+    pub parts-refused : Err r ≡ parts b c
     parts-refused = rw (← is, e)
 
-    pub class-refused : (i : ℕ) → ClassRefused code which ≡ class_asked b c i
+    pub class-refused : (i : ℕ) → Err r ≡ class_asked b c i
     class-refused i = rw (← is, e)
 
-    pub next-refused : (i from : ℕ) → OffsetRefused code which ≡ next_asked b c i from
+    pub next-refused : (i from : ℕ) → Err r ≡ next_asked b c i from
     next-refused i from = rw (← is, e)
 
-    pub start-refused : StartRefused code which ≡ start b c
+    pub start-refused : Err r ≡ start b c
     start-refused = rw (← is, e)
 
-  module _ (e : x ≡ Valid) where
-    pub start_is : StartIs (record { first = 24; second = 24 }) ≡ start b c
+  module _ (e : x ≡ Ok tt) where
+    pub start_is : Ok (record { first = 24; second = 24 }) ≡ start b c
     start_is = rw (← is, e)
 
     module _ (s t : List ℕ) (p : s ≡ own b) (q : t ≡ own c) where
@@ -62,11 +55,11 @@ module _ (b c : List ℕ) (x : Checked) (is : x ≡ check b c) where
       second_is : packets_from t stream_header_size ≡ packets c
       second_is = ap (λ l. packets_from l stream_header_size) q ∙ own-packets c
 
-      pub parts_is : (r : Parting) → r ≡ parted 0 (packets_from s stream_header_size) (packets_from t stream_header_size) → PartsIs r ≡ parts b c
+      pub parts_is : (r : Option ℕ) → r ≡ parted 0 (packets_from s stream_header_size) (packets_from t stream_header_size) → Ok r ≡ parts b c
       parts_is r h = rw (← is, e, ← first-is, ← second_is, h)
 
       module _ (i at to : ℕ) (f : packet_at s at ≡ nth (packets_from s stream_header_size) i) (g : packet_at t to ≡ nth (packets_from t stream_header_size) i) where
-        pub class-is : (r : Pair) (k : Class) → r ≡ pair_in s at t to → k ≡ r.class → ClassIs k ≡ class_asked b c i
+        pub class-is : (r : Pair) (k : Class) → r ≡ pair_in s at t to → k ≡ r.class → Ok k ≡ class_asked b c i
         class-is r k h l =
             let same : k ≡ class_of (nth (packets b) i) (nth (packets c) i) =
             l ∙ (ap (λ (y : Pair). y.class) h
@@ -74,7 +67,7 @@ module _ (b c : List ℕ) (x : Checked) (is : x ≡ check b c) where
             ∙ ap (λ u. class_of (nth (packets b) i) u) (g ∙ ap (λ u. nth u i) second_is))) in
             rw (← is, e, same)
 
-        pub next-is : (from : ℕ) (r : Offset) → r ≡ next_from from (offsets_of (packet_at s at) (packet_at t to)) → OffsetIs r ≡ next_asked b c i from
+        pub next-is : (from : ℕ) (r : Option ℕ) → r ≡ next_from from (offsets_of (packet_at s at) (packet_at t to)) → Ok r ≡ next_asked b c i from
         next-is from r h =
             let same : r ≡ next_from from (offsets_of (nth (packets b) i) (nth (packets c) i)) =
             h ∙ (ap (λ u. next_from from (offsets_of u (packet_at t to))) (f ∙ ap (λ u. nth u i) first-is)
@@ -95,7 +88,7 @@ module _ (b c s t : List ℕ) (p : s ≡ own b) (q : t ≡ own c) (k : Cursor) w
   pub pair-here : (r : Pair) → r ≡ pair_in s k.first t k.second → r ≡ pair_at b c k
   pair-here r h = rw (← p, ← q) h
 
-  pub next_here : (from : ℕ) (r : Offset) → r ≡ next_from from (offsets_of (packet_at s k.first) (packet_at t k.second)) → r ≡ next_at b c k from
+  pub next_here : (from : ℕ) (r : Option ℕ) → r ≡ next_from from (offsets_of (packet_at s k.first) (packet_at t k.second)) → r ≡ next_at b c k from
   next_here from r h = rw (← p, ← q) h
 
   pub goes-onward : (m n : ℕ) → m ≡ behind s k.first → n ≡ behind t k.second → record { first = m; second = n } ≡ onward b c k

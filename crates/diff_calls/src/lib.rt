@@ -7,76 +7,68 @@ ghost use Rattle.rules.specs.Difference.{check, parts, class_asked, next_asked, 
 
 use diff_pairs::{next_in, pair_in, parting};
 use diff_walk::{fault_of, own_bytes, place_of, size_at};
-use rules::{Checked, ClassAnswer, Cursor, Offset, OffsetAnswer, Pair, PartsAnswer, StartAnswer};
+use rules::{Class, Cursor, Pair, RefusedStream};
 
 const STREAM_HEADER_SIZE: usize = rules::numbers::STREAM_HEADER_SIZE as usize;
 
 // Whether two dumps are valid streams. The first is refused if both break a rule.
-pub fn check(first: &[u8], second: &[u8]) -> Checked
+pub fn check(first: &[u8], second: &[u8]) -> Result<(), RefusedStream>
     ensures { result ≡ check first.now second.now }
 {
     let a = fault_of(first);
     if a != 0 {
-        return Checked::Refused(a, 1);
+        return Err(RefusedStream { code: a, which: 1 });
     }
     let b = fault_of(second);
     if b != 0 {
-        return Checked::Refused(b, 2);
+        return Err(RefusedStream { code: b, which: 2 });
     }
-    Checked::Valid
+    Ok(())
 }
 
 // The first packet index that is not equal.
-pub fn parts(first: &[u8], second: &[u8]) -> PartsAnswer
+pub fn parts(first: &[u8], second: &[u8]) -> Result<Option<usize>, RefusedStream>
     ensures { result ≡ parts first.now second.now }
 {
-    match check(first, second) {
-        Checked::Refused(code, which) => PartsAnswer::Refused(code, which),
-        Checked::Valid => PartsAnswer::Is(parting(own_bytes(first), own_bytes(second))),
-    }
+    check(first, second)?;
+    Ok(parting(own_bytes(first), own_bytes(second)))
 }
 
 // How the packets with an index compare, whatever the index is.
-pub fn class_of(first: &[u8], second: &[u8], index: usize) -> ClassAnswer
+pub fn class_of(first: &[u8], second: &[u8], index: usize) -> Result<Class, RefusedStream>
     ensures { result ≡ class_asked first.now second.now index }
 {
-    match check(first, second) {
-        Checked::Refused(code, which) => ClassAnswer::Refused(code, which),
-        Checked::Valid => {
-            let a = own_bytes(first);
-            let b = own_bytes(second);
-            let pair = pair_in(a, place_of(a, index), b, place_of(b, index));
-            let class = pair.class;
-            ClassAnswer::Is(class)
-        }
-    }
+    check(first, second)?;
+    let a = own_bytes(first);
+    let b = own_bytes(second);
+    let pair = pair_in(a, place_of(a, index), b, place_of(b, index));
+    Ok(pair.class)
 }
 
 // The next differing offset of the packets with an index, from a given one on.
-pub fn next_offset(first: &[u8], second: &[u8], index: usize, from: usize) -> OffsetAnswer
+pub fn next_offset(
+    first: &[u8],
+    second: &[u8],
+    index: usize,
+    from: usize,
+) -> Result<Option<usize>, RefusedStream>
     ensures { result ≡ next_asked first.now second.now index from }
 {
-    match check(first, second) {
-        Checked::Refused(code, which) => OffsetAnswer::Refused(code, which),
-        Checked::Valid => {
-            let a = own_bytes(first);
-            let b = own_bytes(second);
-            OffsetAnswer::Is(next_in(a, place_of(a, index), b, place_of(b, index), from))
-        }
-    }
+    check(first, second)?;
+    let a = own_bytes(first);
+    let b = own_bytes(second);
+    Ok(next_in(a, place_of(a, index), b, place_of(b, index), from))
 }
 
 // A cursor at the first packets.
-pub fn start(first: &[u8], second: &[u8]) -> StartAnswer
+pub fn start(first: &[u8], second: &[u8]) -> Result<Cursor, RefusedStream>
     ensures { result ≡ start first.now second.now }
 {
-    match check(first, second) {
-        Checked::Refused(code, which) => StartAnswer::Refused(code, which),
-        Checked::Valid => StartAnswer::Is(Cursor {
-            first: STREAM_HEADER_SIZE,
-            second: STREAM_HEADER_SIZE,
-        }),
-    }
+    check(first, second)?;
+    Ok(Cursor {
+        first: STREAM_HEADER_SIZE,
+        second: STREAM_HEADER_SIZE,
+    })
 }
 
 // The packets at a cursor, whatever its places are.
@@ -92,7 +84,7 @@ pub fn pair_at(first: &[u8], second: &[u8], cursor: Cursor) -> Pair
 }
 
 // The next differing offset of the packets at a cursor, from a given one on.
-pub fn next_at(first: &[u8], second: &[u8], cursor: Cursor, from: usize) -> Offset
+pub fn next_at(first: &[u8], second: &[u8], cursor: Cursor, from: usize) -> Option<usize>
     ensures { result ≡ next_at first.now second.now cursor from }
 {
     next_in(

@@ -1,35 +1,33 @@
 -- How the packets at two places compare, and what asking it needs. Assumes nothing.
-use Rattle.std.specs.Prelude.{◌≡◌, refl, List, [], ◌∷◌, ℕ, ◌+◌, ◌≤◌, length, take, drop}
+use Rattle.std.specs.Prelude.{◌≡◌, refl, List, [], ◌∷◌, ℕ, ◌+◌, ◌≤◌, length, take, drop, None, Option, Some}
 use Rattle.std.proofs.Common.{sym, ◌∙◌, arith, rules, length-drop, length-take-le}
 use borrow.Author.Tests.{eq-eqb, ne_eqb}
 use Rattle.rules.specs.Layouts.{word}
 use Rattle.rules.specs.Difference.{differing, same_opcode, class_both, offsets_both, class_of, offsets_of, next_from, packet_at, size_at, pair_in}
 use Rattle.rules.specs.declared.Class.{Class}
 use Rattle.rules.specs.declared.Class.TheVariants.{Equal, SameOpcode, OtherOpcode, OnlyFirst, OnlySecond, Neither}
-use Rattle.rules.specs.declared.Offset.{Offset}
-use Rattle.rules.specs.declared.Offset.TheVariants.{At, Nowhere}
 use Rattle.diff_bytes.specs.Differing.{first_of, next_start}
 use Rattle.diff_walk.specs.Walk.{no-packet, some-packet}
 
 -- ---- compare, next_of_parts
 
 -- the whole list, by its first member
-module _ (x y : List ℕ) (o : Offset) (is : o ≡ next_from 0 (differing x y)) where
+module _ (x y : List ℕ) (o : Option ℕ) (is : o ≡ next_from 0 (differing x y)) where
   first-is : o ≡ first_of (differing x y)
   first-is = is ∙ next_start x y 0
 
-  by-some : (l : List ℕ) (i : ℕ) → o ≡ first_of l → o ≡ At i → same_opcode l ≡ SameOpcode
+  by-some : (l : List ℕ) (i : ℕ) → o ≡ first_of l → o ≡ Some i → same_opcode l ≡ SameOpcode
   by-some [] i e f = absurd (let z : ◌≡◌ {A = ℕ} 0 1 = cc in omega arith)
   by-some (j ∷ l) i e f = refl
 
-  by-none : (l : List ℕ) → o ≡ first_of l → o ≡ Nowhere → same_opcode l ≡ Equal
+  by-none : (l : List ℕ) → o ≡ first_of l → o ≡ None → same_opcode l ≡ Equal
   by-none [] e f = refl
   by-none (j ∷ l) e f = absurd (let z : ◌≡◌ {A = ℕ} 0 1 = cc in omega arith)
 
-  pub some-differ : (i : ℕ) → o ≡ At i → same_opcode (differing x y) ≡ SameOpcode
+  pub some-differ : (i : ℕ) → o ≡ Some i → same_opcode (differing x y) ≡ SameOpcode
   some-differ i f = by-some (differing x y) i first-is f
 
-  pub none_differ : o ≡ Nowhere → same_opcode (differing x y) ≡ Equal
+  pub none_differ : o ≡ None → same_opcode (differing x y) ≡ Equal
   none_differ f = by-none (differing x y) first-is f
 
 module _ (x y : List ℕ) (a b : ℕ) (p : a ≡ word x 0) (q : b ≡ word y 0) where
@@ -37,20 +35,20 @@ module _ (x y : List ℕ) (a b : ℕ) (p : a ≡ word x 0) (q : b ≡ word y 0) 
   unfolding class_both
   other-class n = rw (← p, ← q, ne_eqb a b n)
 
-  pub other-next : (from : ℕ) → (a ≡ b → ⊥) → Nowhere ≡ next_from from (offsets_both x y)
+  pub other-next : (from : ℕ) → (a ≡ b → ⊥) → None ≡ next_from from (offsets_both x y)
   unfolding offsets_both next_from
   other-next from n = rw (← p, ← q, ne_eqb a b n)
 
   module _ (e : a ≡ b) where
-    pub same_class : (o : Offset) → o ≡ next_from 0 (differing x y) → (i : ℕ) → o ≡ At i → SameOpcode ≡ class_both x y
+    pub same_class : (o : Option ℕ) → o ≡ next_from 0 (differing x y) → (i : ℕ) → o ≡ Some i → SameOpcode ≡ class_both x y
     unfolding class_both
     same_class o is i f = rw (← p, ← q, eq-eqb a b e, some-differ x y o is i f)
 
-    pub equal-class : (o : Offset) → o ≡ next_from 0 (differing x y) → o ≡ Nowhere → Equal ≡ class_both x y
+    pub equal-class : (o : Option ℕ) → o ≡ next_from 0 (differing x y) → o ≡ None → Equal ≡ class_both x y
     unfolding class_both
     equal-class o is f = rw (← p, ← q, eq-eqb a b e, none_differ x y o is f)
 
-    pub same_next : (from : ℕ) (o : Offset) → o ≡ next_from from (differing x y) → o ≡ next_from from (offsets_both x y)
+    pub same_next : (from : ℕ) (o : Option ℕ) → o ≡ next_from from (differing x y) → o ≡ next_from from (offsets_both x y)
     unfolding offsets_both
     same_next from o is = rw (← p, ← q, eq-eqb a b e) is
 
@@ -75,7 +73,7 @@ module _ (s : List ℕ) (at size : ℕ) (is : size ≡ size_at s at) (t : List �
   pub in-second : size ≡ 0 → (long ≡ 0 → ⊥) → OnlySecond ≡ class_of (packet_at s at) (packet_at t to)
   in-second a b = rw (no-packet s at (sym is ∙ a), (some-packet t to long also b).is)
 
-  pub next-no-first : size ≡ 0 → (from : ℕ) → Nowhere ≡ next_from from (offsets_of (packet_at s at) (packet_at t to))
+  pub next-no-first : size ≡ 0 → (from : ℕ) → None ≡ next_from from (offsets_of (packet_at s at) (packet_at t to))
   unfolding next_from
   next-no-first a from = rw (no-packet s at (sym is ∙ a))
 
@@ -83,7 +81,7 @@ module _ (s : List ℕ) (at size : ℕ) (is : size ≡ size_at s at) (t : List �
     pub in-first : long ≡ 0 → OnlyFirst ≡ class_of (packet_at s at) (packet_at t to)
     in-first b = rw ((some-packet s at size is n).is, no-packet t to (sym also ∙ b))
 
-    pub next-no-second : long ≡ 0 → (from : ℕ) → Nowhere ≡ next_from from (offsets_of (packet_at s at) (packet_at t to))
+    pub next-no-second : long ≡ 0 → (from : ℕ) → None ≡ next_from from (offsets_of (packet_at s at) (packet_at t to))
     unfolding next_from
     next-no-second b from = rw ((some-packet s at size is n).is, no-packet t to (sym also ∙ b))
 
@@ -91,7 +89,7 @@ module _ (s : List ℕ) (at size : ℕ) (is : size ≡ size_at s at) (t : List �
       pub in_both : (r : Class) → r ≡ class_both a b → r ≡ class_of (packet_at s at) (packet_at t to)
       in_both r g = rw ((some-packet s at size is n).is, (some-packet t to long also m).is, ← part, ← part') g
 
-      pub next-in-both : (from : ℕ) (r : Offset) → r ≡ next_from from (offsets_both a b) → r ≡ next_from from (offsets_of (packet_at s at) (packet_at t to))
+      pub next-in-both : (from : ℕ) (r : Option ℕ) → r ≡ next_from from (offsets_both a b) → r ≡ next_from from (offsets_of (packet_at s at) (packet_at t to))
       next-in-both from r g = rw ((some-packet s at size is n).is, (some-packet t to long also m).is, ← part, ← part') g
 
 pub ruleset classing = (part-inside, part-head, in-neither, in-second, in-first, in_both, rules)

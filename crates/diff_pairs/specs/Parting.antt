@@ -1,5 +1,5 @@
 -- Where two streams part: the pass over both. Assumes nothing.
-use Rattle.std.specs.Prelude.{◌≡◌, refl, List, ℕ, ◌+◌, ◌-◌, ◌≤◌, ◌<◌, ◌^◌, length}
+use Rattle.std.specs.Prelude.{◌≡◌, refl, List, ℕ, ◌+◌, ◌-◌, ◌≤◌, ◌<◌, ◌^◌, length, None, Option, Some}
 use Rattle.std.proofs.Common.{sym, ap, ◌∙◌, arith, rules, Fits}
 use Rattle.std.specs.Int.{w64}
 use Rattle.rules.specs.Layouts.{stream_header_size}
@@ -9,8 +9,6 @@ use Rattle.rules.specs.Dump.{Listed}
 use Rattle.rules.specs.Difference.{class_of, parted_by, parted, packet_at, size_at, behind, pair_in}
 use Rattle.rules.specs.declared.Class.{Class}
 use Rattle.rules.specs.declared.Class.TheVariants.{Equal, SameOpcode, OtherOpcode, OnlyFirst, OnlySecond, Neither}
-use Rattle.rules.specs.declared.Parting.{Parting}
-use Rattle.rules.specs.declared.Parting.TheVariants.{At, Never}
 use Rattle.rules.specs.declared.Pair.{Pair}
 use Rattle.diff_walk.specs.Walk.{packets_from, packets-first, found_then, PacketThere, no-packet, some-packet}
 
@@ -42,25 +40,25 @@ module _ (s t : List ℕ) where
     class-is : class_of (packet_at s at) (packet_at t to) ≡ c
     class-is = sym (of ∙ ap (λ (p : Pair). p.class) is)
 
-    abbrev later : Parting
+    abbrev later : Option ℕ
     later = parted (i + 1) (packets_from s (behind s at)) (packets_from t (behind t to))
 
     parts-by : parted 0 (packets_from s stream_header_size) (packets_from t stream_header_size) ≡ parted_by c i later
     parts-by = w.same ∙ (parted-first at to i ∙ ap (λ k. parted_by k i later) class-is)
 
-    pub parts-never : c ≡ Neither → Never ≡ parted 0 (packets_from s stream_header_size) (packets_from t stream_header_size)
+    pub parts-never : c ≡ Neither → None ≡ parted 0 (packets_from s stream_header_size) (packets_from t stream_header_size)
     parts-never e = sym (parts-by ∙ ap (λ k. parted_by k i later) e)
 
-    pub parts-same-opcode : c ≡ SameOpcode → At i ≡ parted 0 (packets_from s stream_header_size) (packets_from t stream_header_size)
+    pub parts-same-opcode : c ≡ SameOpcode → Some i ≡ parted 0 (packets_from s stream_header_size) (packets_from t stream_header_size)
     parts-same-opcode e = sym (parts-by ∙ ap (λ k. parted_by k i later) e)
 
-    pub parts-other-opcode : c ≡ OtherOpcode → At i ≡ parted 0 (packets_from s stream_header_size) (packets_from t stream_header_size)
+    pub parts-other-opcode : c ≡ OtherOpcode → Some i ≡ parted 0 (packets_from s stream_header_size) (packets_from t stream_header_size)
     parts-other-opcode e = sym (parts-by ∙ ap (λ k. parted_by k i later) e)
 
-    pub parts-only-first : c ≡ OnlyFirst → At i ≡ parted 0 (packets_from s stream_header_size) (packets_from t stream_header_size)
+    pub parts-only-first : c ≡ OnlyFirst → Some i ≡ parted 0 (packets_from s stream_header_size) (packets_from t stream_header_size)
     parts-only-first e = sym (parts-by ∙ ap (λ k. parted_by k i later) e)
 
-    pub parts-only-second : c ≡ OnlySecond → At i ≡ parted 0 (packets_from s stream_header_size) (packets_from t stream_header_size)
+    pub parts-only-second : c ≡ OnlySecond → Some i ≡ parted 0 (packets_from s stream_header_size) (packets_from t stream_header_size)
     parts-only-second e = sym (parts-by ∙ ap (λ k. parted_by k i later) e)
 
     module _ (e : c ≡ Equal) where

@@ -8,7 +8,7 @@ ghost use Rattle.diff_walk.specs.Walk.{packets_from};
 
 use diff_bytes::next_differing;
 use diff_walk::size_at;
-use rules::{Class, Offset, Pair, Parting};
+use rules::{Class, Pair};
 use stream_packets::framing::packet_part;
 use words::u32_at;
 
@@ -24,8 +24,8 @@ fn compare(a: &[u8], b: &[u8]) -> Class
         return Class::OtherOpcode;
     }
     match next_differing(a, b, 0) {
-        Offset::At(_) => Class::SameOpcode,
-        Offset::Nowhere => Class::Equal,
+        Some(_) => Class::SameOpcode,
+        None => Class::Equal,
     }
 }
 
@@ -71,28 +71,28 @@ pub fn pair_in(first: &[u8], at: usize, second: &[u8], to: usize) -> Pair
 }
 
 // The next differing offset of two packets that have one opcode.
-fn next_of_parts(x: &[u8], y: &[u8], from: usize) -> Offset
+fn next_of_parts(x: &[u8], y: &[u8], from: usize) -> Option<usize>
     requires in_bounds { 4 ≤ length x.now }
     requires in_bounds_2 { 4 ≤ length y.now }
     ensures { result ≡ next_from from (offsets_both x.now y.now) }
 {
     if u32_at(x, 0) != u32_at(y, 0) {
-        return Offset::Nowhere;
+        return None;
     }
     next_differing(x, y, from)
 }
 
 // The next differing offset, from a given one on, of the packets at two places.
-pub fn next_in(first: &[u8], at: usize, second: &[u8], to: usize, from: usize) -> Offset
+pub fn next_in(first: &[u8], at: usize, second: &[u8], to: usize, from: usize) -> Option<usize>
     ensures { result ≡ next_from from (offsets_of (packet_at first.now at) (packet_at second.now to)) }
 {
     let size = size_at(first, at);
     let long = size_at(second, to);
     if size == 0 {
-        return Offset::Nowhere;
+        return None;
     }
     if long == 0 {
-        return Offset::Nowhere;
+        return None;
     }
     next_of_parts(
         packet_part(first, at, size),
@@ -102,7 +102,7 @@ pub fn next_in(first: &[u8], at: usize, second: &[u8], to: usize, from: usize) -
 }
 
 // The first packet index where two streams part: one pass over both.
-pub fn parting(first: &[u8], second: &[u8]) -> Parting
+pub fn parting(first: &[u8], second: &[u8]) -> Option<usize>
     ensures { result ≡ parted 0 (packets_from first.now stream_header_size) (packets_from second.now stream_header_size) }
 {
     let mut at = STREAM_HEADER_SIZE;
@@ -112,11 +112,11 @@ pub fn parting(first: &[u8], second: &[u8]) -> Parting
         let pair = pair_in(first, at, second, to);
         let class = pair.class;
         match class {
-            Class::Neither => return Parting::Never,
-            Class::SameOpcode => return Parting::At(i),
-            Class::OtherOpcode => return Parting::At(i),
-            Class::OnlyFirst => return Parting::At(i),
-            Class::OnlySecond => return Parting::At(i),
+            Class::Neither => return None,
+            Class::SameOpcode => return Some(i),
+            Class::OtherOpcode => return Some(i),
+            Class::OnlyFirst => return Some(i),
+            Class::OnlySecond => return Some(i),
             Class::Equal => {
                 at += pair.firstsize;
                 to += pair.secondsize;

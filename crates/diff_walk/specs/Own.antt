@@ -1,5 +1,5 @@
 -- A stream's own bytes have its packets, and its header's check tells them. Assumes nothing.
-use Rattle.std.specs.Prelude.{◌≡◌, refl, false, List, [], ℕ, ◌-◌, ◌≤◌, length, take, drop}
+use Rattle.std.specs.Prelude.{◌≡◌, refl, false, List, [], ℕ, ◌-◌, ◌≤◌, length, take, drop, Err, Ok, Result}
 use Rattle.std.proofs.Math.Path.{sym, ap}
 use Rattle.std.proofs.Common.{◌∙◌, arith, rules, length-drop, length-take-le}
 use Rattle.rules.specs.Layouts.{stream_header, stream_header_size}
@@ -7,38 +7,35 @@ use Rattle.rules.specs.Stream.{stream_rules, stream_of}
 use Rattle.rules.specs.Dump.{Dump, dump_in, dump_of, listed}
 use Rattle.rules.specs.declared.Refusal.{Refusal}
 use Rattle.rules.specs.declared.Stream.{Stream}
-use Rattle.rules.specs.declared.Verdict.{Verdict}
-use Rattle.rules.specs.declared.Verdict.TheVariants.{Fine, Broken}
 use Rattle.stream_header.specs.Header.{begun, stream-sound}
-use Rattle.stream_header.specs.declared.header.CheckedStream.{CheckedStream}
-use Rattle.stream_header.specs.declared.header.CheckedStream.TheVariants.{Good, Bad}
 use Rattle.stream_listing.specs.Walk.{listed_from, listed-end, listed-fuel}
 use Rattle.stream_listing.specs.Begin.{begins-bad, begins-good, size-inside}
 use Rattle.rules.specs.Difference.{packets, broken_by, fault, own_in, own}
 use Rattle.diff_walk.specs.Walk.{packets_from, ending_from}
+use Rattle.rules.specs.Judging.{Verdict}
 
 -- ---- own_bytes, fault_of: `x` is what the check of the header gave
 
-module _ (b : List ℕ) (n : ℕ) (all_of : n ≡ length b) (x : CheckedStream) (is : x ≡ begun (stream_rules n (stream_header b 0)) (stream_of 0 (stream_header b 0))) where
-  by-bad : (v : Verdict) (st : Stream) (r : Refusal) → begun v st ≡ Bad r → v ≡ Broken r
-  by-bad Fine st r e = absurd (let z : ◌≡◌ {A = ℕ} 0 1 = cc in omega arith)
-  by-bad (Broken q) st r e = let p : q ≡ r = cc in rw p
+module _ (b : List ℕ) (n : ℕ) (all_of : n ≡ length b) (x : Result Stream Refusal) (is : x ≡ begun (stream_rules n (stream_header b 0)) (stream_of 0 (stream_header b 0))) where
+  by-bad : (v : Verdict) (st : Stream) (r : Refusal) → begun v st ≡ Err r → v ≡ Err r
+  by-bad (Ok tt) st r e = absurd (let z : ◌≡◌ {A = ℕ} 0 1 = cc in omega arith)
+  by-bad (Err q) st r e = let p : q ≡ r = cc in rw p
 
-  by_good : (v : Verdict) (st st' : Stream) → begun v st ≡ Good st' → (v ≡ Fine) × (st ≡ st')
-  by_good Fine st st' e = (refl, cc)
-  by_good (Broken r) st st' e = absurd (let z : ◌≡◌ {A = ℕ} 0 1 = cc in omega arith)
+  by_good : (v : Verdict) (st st' : Stream) → begun v st ≡ Ok st' → (v ≡ Ok tt) × (st ≡ st')
+  by_good (Ok tt) st st' e = (refl, cc)
+  by_good (Err r) st st' e = absurd (let z : ◌≡◌ {A = ℕ} 0 1 = cc in omega arith)
 
-  module _ (r : Refusal) (e : x ≡ Bad r) where
+  module _ (r : Refusal) (e : x ≡ Err r) where
     pub own-none : [] ≡ own b
     unfolding own
     own-none =
-        let v : stream_rules (length b) (stream_header b 0) ≡ Broken r = rw all_of at (by-bad (stream_rules n (stream_header b 0)) (stream_of 0 (stream_header b 0)) r (sym is ∙ e)) in
+        let v : stream_rules (length b) (stream_header b 0) ≡ Err r = rw all_of at (by-bad (stream_rules n (stream_header b 0)) (stream_of 0 (stream_header b 0)) r (sym is ∙ e)) in
         rw v
 
     pub fault-header : r.code ≡ fault b
     fault-header = rw (begins-bad false b n all_of x is r e)
 
-  module _ (st : Stream) (e : x ≡ Good st) (size : ℕ) (z : size ≡ st.size) where
+  module _ (st : Stream) (e : x ≡ Ok st) (size : ℕ) (z : size ≡ st.size) where
     pub own-inside : size ≤ length b
     own-inside = size-inside false b n all_of x is st e size z
 
@@ -49,7 +46,7 @@ module _ (b : List ℕ) (n : ℕ) (all_of : n ≡ length b) (x : CheckedStream) 
     unfolding own
     own_is =
         let g = by_good (stream_rules n (stream_header b 0)) (stream_of 0 (stream_header b 0)) st (sym is ∙ e) in
-        let fine : stream_rules (length b) (stream_header b 0) ≡ Fine = rw all_of at g.0 in
+        let fine : stream_rules (length b) (stream_header b 0) ≡ Ok tt = rw all_of at g.0 in
         let kept : (stream_header b 0).size ≡ size = ap (λ (t : Stream). t.size) g.1 ∙ sym z in
         rw (fine, kept)
 
@@ -60,13 +57,13 @@ pub ruleset heading = (own-none, fault-header, own-inside, own-there, own_is, fa
 
 -- ---- the packets of a stream are those of its own bytes
 
-own-by : (b : List ℕ) (size : ℕ) (v : Verdict) → (v ≡ Fine → size ≤ length b) → packets_from (own_in v size b) stream_header_size ≡ (dump_in false b v size).packets
+own-by : (b : List ℕ) (size : ℕ) (v : Verdict) → (v ≡ Ok tt → size ≤ length b) → packets_from (own_in v size b) stream_header_size ≡ (dump_in false b v size).packets
 unfolding listed_from
-own-by b size Fine h =
+own-by b size (Ok tt) h =
     let t : length (take size b) ≡ size = length-take-le size b (h refl) in
     ap (λ k. (listed false (k - 24) 24 (drop 24 (take size b))).packets) t
     ∙ ap (λ (d : Dump). d.packets) (listed-fuel false (size - 24) size 24 (drop 24 (take size b)) (rw (length-drop, t) (omega arith)) (rw (length-drop, t) (omega arith)))
-own-by b size (Broken r) h = ap (λ (d : Dump). d.packets) (listed-end false (0 - 24) 24 (drop 24 []) refl)
+own-by b size (Err r) h = ap (λ (d : Dump). d.packets) (listed-end false (0 - 24) 24 (drop 24 []) refl)
 
 pub own-packets : (b : List ℕ) → packets_from (own b) stream_header_size ≡ packets b
 unfolding own dump_of

@@ -1,5 +1,5 @@
 -- A stream packet by packet: the packet at a place, those behind it, and the walk to the one with an index. Assumes nothing.
-use Rattle.std.specs.Prelude.{◌≡◌, Bool, true, false, not, List, [], ◌∷◌, ℕ, suc, ◌+◌, ◌-◌, ◌%◌, ◌≤◌, ◌<◌, ◌^◌, ltb, eqb, length, drop}
+use Rattle.std.specs.Prelude.{◌≡◌, Bool, true, false, not, List, [], ◌∷◌, ℕ, suc, ◌+◌, ◌-◌, ◌%◌, ◌≤◌, ◌<◌, ◌^◌, ltb, eqb, length, drop, Err, Ok, Result}
 use Rattle.std.proofs.Math.Path.{refl, ap}
 use Rattle.std.proofs.Common.{sym, ◌∙◌, ⊎_elim, rules, Fits, length-drop}
 use Rattle.std.proofs.Math.Nat.{sub-zero}
@@ -11,15 +11,11 @@ use Rattle.rules.specs.Judging.{rule, ◌▹◌}
 use Rattle.rules.specs.Layouts.{word, stream_header_size, packet_header_size}
 use Rattle.rules.specs.Lists.{Found, nth}
 use Rattle.rules.specs.Lists.Found.{none, found}
-use Rattle.rules.specs.Stream.{frame_of, frame_rules, framed, least_size, size_of}
+use Rattle.rules.specs.Stream.{frame_of, frame_rules, framed, least_size, size_of, Frame}
 use Rattle.rules.specs.Dump.{Listed, Dump, Ending, listed_at}
 use Rattle.rules.specs.declared.Refusal.{Refusal}
 use Rattle.rules.specs.declared.Packet.{Packet}
-use Rattle.rules.specs.declared.Frame.{Frame}
-use Rattle.rules.specs.declared.Frame.TheVariants.{Whole, Misframed}
 use Rattle.stream_packets.specs.Framing.{packet_read_at, was-whole, was-misframed, frame-sound}
-use Rattle.stream_packets.specs.declared.framing.PacketRead.{PacketRead}
-use Rattle.stream_packets.specs.declared.framing.PacketRead.TheVariants.{Whole as WholePacket, Misframed as NoPacket}
 use Rattle.stream_listing.specs.Walk.{listed_from, from-none, from-bad, from_on}
 use Rattle.rules.specs.Difference.{broken_by, framed_at, packet_at, size_at, behind}
 
@@ -32,11 +28,11 @@ ending_from s at = (listed_from false s at).ending
 
 -- ---- size_at
 
-module _ (s : List ℕ) (at : ℕ) (x : PacketRead) (is : x ≡ packet_read_at (drop at s)) where
-  pub size_none : (r : Refusal) → x ≡ NoPacket r → 0 ≡ size_at s at
+module _ (s : List ℕ) (at : ℕ) (x : Result (ℕ × Packet) Refusal) (is : x ≡ packet_read_at (drop at s)) where
+  pub size_none : (r : Refusal) → x ≡ Err r → 0 ≡ size_at s at
   size_none r e = rw (was-misframed (drop at s) x is r e)
 
-  pub size-whole : (size : ℕ) (k : Packet) (long : ℕ) → x ≡ WholePacket size k → long ≡ size → long ≡ size_at s at
+  pub size-whole : (size : ℕ) (k : Packet) (long : ℕ) → x ≡ Ok (size, k) → long ≡ size → long ≡ size_at s at
   size-whole size k long e l = rw (was-whole (drop at s) x is size k e).frame l
 
 pub ruleset sizing = (size_none, size-whole, rules)
@@ -47,21 +43,21 @@ pub ruleset sizing = (size_none, size-whole, rules)
 pub record PacketThere (s : List ℕ) (at size : ℕ) : Type 0 where
   pub opcode : ℕ
   pub is : packet_at s at ≡ found (listed_at at opcode size (drop at s))
-  pub framed : frame_of (drop at s) ≡ Whole opcode size
+  pub framed : frame_of (drop at s) ≡ Ok (opcode, size)
   pub inside : at + size ≤ length s
   pub some : 8 ≤ size
 
 module _ (s : List ℕ) (at : ℕ) where
   by-none : (f : Frame) → frame_of (drop at s) ≡ f → size_of f ≡ 0 → packet_at s at ≡ none
-  by-none (Whole op size) e z = absurd (omega (arith, (frame-sound (drop at s) op size e).header))
-  by-none (Misframed r) e z = rw e
+  by-none (Ok (op, size)) e z = absurd (omega (arith, (frame-sound (drop at s) op size e).header))
+  by-none (Err r) e z = rw e
 
   pub no-packet : size_at s at ≡ 0 → packet_at s at ≡ none
   no-packet z = by-none (frame_of (drop at s)) refl z
 
   by-some : (f : Frame) → frame_of (drop at s) ≡ f → (size_of f ≡ 0 → ⊥) → PacketThere s at (size_of f)
-  by-some (Misframed r) e n = absurd (n refl)
-  by-some (Whole op size) e n =
+  by-some (Err r) e n = absurd (n refl)
+  by-some (Ok (op, size)) e n =
       let i : size ≤ length s - at = rw length-drop at (frame-sound (drop at s) op size e).inside in
       let k : 8 ≤ size = (frame-sound (drop at s) op size e).header in
       record { opcode = op; is = rw e; framed = e; inside = omega arith; some = k }
@@ -77,14 +73,14 @@ found_then (found p) later = p ∷ later
 
 module _ (s : List ℕ) (at : ℕ) where
   by_frame : (f : Frame) → frame_of (drop at s) ≡ f → at < length s → packets_from s at ≡ found_then (framed_at f at (drop at s)) (packets_from s (at + size_of f))
-  by_frame (Whole op size) e here = ap (λ (d : Dump). d.packets) (from_on false s at here op size e refl)
-  by_frame (Misframed r) e here = ap (λ (d : Dump). d.packets) (from-bad false s at here r e)
+  by_frame (Ok (op, size)) e here = ap (λ (d : Dump). d.packets) (from_on false s at here op size e refl)
+  by_frame (Err r) e here = ap (λ (d : Dump). d.packets) (from-bad false s at here r e)
 
   by_end : (f : Frame) → frame_of (drop at s) ≡ f → length s ≤ at → packets_from s at ≡ found_then (framed_at f at (drop at s)) (packets_from s (at + size_of f))
-  by_end (Whole op size) e h =
+  by_end (Ok (op, size)) e h =
       let i : size ≤ length s - at = rw length-drop at (frame-sound (drop at s) op size e).inside in
       absurd (omega (arith, (frame-sound (drop at s) op size e).header))
-  by_end (Misframed r) e h = ap (λ (d : Dump). d.packets) (from-none false s at h)
+  by_end (Err r) e h = ap (λ (d : Dump). d.packets) (from-none false s at h)
 
   pub packets-first : packets_from s at ≡ found_then (packet_at s at) (packets_from s (behind s at))
   packets-first = ⊎_elim (λ h. by_frame (frame_of (drop at s)) refl h) (λ h. by_end (frame_of (drop at s)) refl h) (below_or_not at (length s))
@@ -106,8 +102,8 @@ module _ (s : List ℕ) (at : ℕ) where
 
   nth-behind : (f : Frame) → frame_of (drop at s) ≡ f → (i : ℕ) → nth (packets_from s at) (suc i) ≡ nth (packets_from s (at + size_of f)) i
   unfolding nth
-  nth-behind (Whole op size) e i = ap (λ l. nth l (suc i)) packets-first ∙ rw e
-  nth-behind (Misframed r) e i =
+  nth-behind (Ok (op, size)) e i = ap (λ l. nth l (suc i)) packets-first ∙ rw e
+  nth-behind (Err r) e i =
       let z : size_at s at ≡ 0 = rw e in
       let same : at + 0 ≡ at = omega arith in
       nth_none z (suc i) ∙ (sym (nth_none z i) ∙ ap (λ n. nth (packets_from s n) i) (sym same))
@@ -154,7 +150,7 @@ pub ruleset placing = (left_start, place_here, place_none, place-fits, place_on,
 
 module _ (op size : ℕ) (r : Refusal) where
   broken-in : (a b c d e : Bool)
-      → framed (rule bad_packet a ▹ rule bad_packet b ▹ rule bad_packet c ▹ rule bad_packet d ▹ rule bad_packet e) op size ≡ Misframed r → r.code ≡ bad_packet
+      → framed (rule bad_packet a ▹ rule bad_packet b ▹ rule bad_packet c ▹ rule bad_packet d ▹ rule bad_packet e) op size ≡ Err r → r.code ≡ bad_packet
   broken-in true b c d e h = cc
   broken-in false true c d e h = cc
   broken-in false false true d e h = cc
@@ -163,7 +159,7 @@ module _ (op size : ℕ) (r : Refusal) where
   broken-in false false false false false h = absurd (let z : ◌≡◌ {A = ℕ} 0 1 = cc in omega arith)
 
 -- a packet breaks no rule but 17
-pub misframed-code : (b : List ℕ) (r : Refusal) → frame_of b ≡ Misframed r → r.code ≡ bad_packet
+pub misframed-code : (b : List ℕ) (r : Refusal) → frame_of b ≡ Err r → r.code ≡ bad_packet
 unfolding frame_of frame_rules
 misframed-code b r e =
     broken-in (word b 0) (word b 4) r (ltb (length b) packet_header_size) (ltb (word b 4) packet_header_size) (not (eqb (word b 4 % 4) 0)) (ltb (length b) (word b 4))
@@ -175,8 +171,8 @@ module _ (s : List ℕ) (at : ℕ) (w : broken_by (ending_from s stream_header_s
 
   module _ (here : at < length s) (size : ℕ) (is : size ≡ size_at s at) where
     by-fault : (f : Frame) → frame_of (drop at s) ≡ f → size_of f ≡ 0 → bad_packet ≡ broken_by (ending_from s at)
-    by-fault (Whole op n) e z = absurd (omega (arith, (frame-sound (drop at s) op n e).header))
-    by-fault (Misframed r) e z = sym (ap (λ (d : Dump). broken_by d.ending) (from-bad false s at here r e) ∙ misframed-code (drop at s) r e)
+    by-fault (Ok (op, n)) e z = absurd (omega (arith, (frame-sound (drop at s) op n e).header))
+    by-fault (Err r) e z = sym (ap (λ (d : Dump). broken_by d.ending) (from-bad false s at here r e) ∙ misframed-code (drop at s) r e)
 
     pub fault-here : size ≡ 0 → 17 ≡ broken_by (ending_from s stream_header_size)
     fault-here z = by-fault (frame_of (drop at s)) refl (sym is ∙ z) ∙ sym w

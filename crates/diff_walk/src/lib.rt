@@ -8,8 +8,8 @@ ghost use Rattle.rules.specs.Difference.{own, fault, broken_by, packet_at, size_
 ghost use Rattle.diff_walk.specs.Walk.{packets_from, ending_from};
 
 use rules::numbers::BAD_PACKET;
-use stream_header::header::{CheckedStream, check_header};
-use stream_packets::framing::{PacketRead, packet_at};
+use stream_header::header::check_header;
+use stream_packets::framing::packet_at;
 use widths::{u32_to_usize, usize_to_word};
 
 const STREAM_HEADER_SIZE: usize = rules::numbers::STREAM_HEADER_SIZE as usize;
@@ -19,8 +19,8 @@ pub fn own_bytes(stream: &[u8]) -> &[u8]
     ensures { result.now ≡ own stream.now }
 {
     match check_header(stream, 0, usize_to_word(stream.len())) {
-        CheckedStream::Bad(_) => &stream[..0],
-        CheckedStream::Good(s) => {
+        Err(_) => &stream[..0],
+        Ok(s) => {
             let size = u32_to_usize(s.size);
             &stream[..size]
         }
@@ -32,8 +32,8 @@ pub fn size_at(stream: &[u8], at: usize) -> usize
     ensures { result ≡ size_at stream.now at }
 {
     match packet_at(stream, at) {
-        PacketRead::Misframed(_) => 0,
-        PacketRead::Whole(size, _) => u32_to_usize(size),
+        Err(_) => 0,
+        Ok((size, _)) => u32_to_usize(size),
     }
 }
 
@@ -74,8 +74,8 @@ pub fn fault_of(stream: &[u8]) -> u32
     ensures { result ≡ fault stream.now }
 {
     match check_header(stream, 0, usize_to_word(stream.len())) {
-        CheckedStream::Bad(r) => r.code,
-        CheckedStream::Good(s) => {
+        Err(r) => r.code,
+        Ok(s) => {
             let size = u32_to_usize(s.size);
             packets_fault(&stream[..size])
         }

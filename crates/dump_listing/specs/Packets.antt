@@ -1,5 +1,5 @@
 -- What the writers of a dump's text ask for: its lines one after the other, behind a good header, and the room that there is. Assumes nothing.
-use Rattle.std.specs.Prelude.{◌≡◌, refl, Bool, false, not, List, [], ◌++◌, ℕ, ◌+◌, ◌≤◌, ◌<◌, take}
+use Rattle.std.specs.Prelude.{◌≡◌, refl, Bool, false, not, List, [], ◌++◌, ℕ, ◌+◌, ◌≤◌, ◌<◌, take, Err, Ok, Result}
 use Rattle.std.proofs.Common.{sym, ◌∙◌, append-nil, arith, rules, ltb-false}
 use Rattle.std.proofs.Math.Path.{ap}
 use Rattle.std.proofs.Math.Bool.{true}
@@ -17,8 +17,6 @@ use Rattle.rules.specs.Dump.Ending.{refused}
 use Rattle.rules.specs.declared.Refusal.{Refusal}
 use Rattle.rules.specs.declared.Stream.{Stream}
 use Rattle.stream_header.specs.Header.{begun}
-use Rattle.stream_header.specs.declared.header.CheckedStream.{CheckedStream}
-use Rattle.stream_header.specs.declared.header.CheckedStream.TheVariants.{Good, Bad}
 use Rattle.stream_listing.specs.Begin.{begins-bad, begins-good, size-inside, size-there}
 use Rattle.text_numbers.specs.Writing.{Puts, Writes, writes_start, writes_end, writes-length, writes-room, writes-next}
 use Rattle.dump_next.specs.Rest.{next_line, rest_from, rest-none, next-within}
@@ -74,9 +72,9 @@ pub ruleset Going-less = (goes-less, rules)
 
 -- ---- put_dump
 
-module _ (strict : Bool) (s : List ℕ) (n : ℕ) (all_of : n ≡ length s) (x : CheckedStream)
+module _ (strict : Bool) (s : List ℕ) (n : ℕ) (all_of : n ≡ length s) (x : Result Stream Refusal)
     (is : x ≡ begun (stream_rules n (stream_header s 0)) (stream_of 0 (stream_header s 0))) (b : List ℕ) where
-  module _ (r : Refusal) (e : x ≡ Bad r) where
+  module _ (r : Refusal) (e : x ≡ Err r) where
     error-is : text_of (dump_of strict s) ≡ ending_text (refused (refusal r.code))
     unfolding text_of lines_of
     error-is = rw (begins-bad strict s n all_of x is r e)
@@ -91,7 +89,7 @@ module _ (strict : Bool) (s : List ℕ) (n : ℕ) (all_of : n ≡ length s) (x :
           small = omega (arith, p.place, error-bound (refusal r.code));
         }
 
-  module _ (st : Stream) (e : x ≡ Good st) (size : ℕ) (z : size ≡ st.size) where
+  module _ (st : Stream) (e : x ≡ Ok st) (size : ℕ) (z : size ≡ st.size) where
     pub part-inside : size ≤ length s
     part-inside = size-inside strict s n all_of x is st e size z
 
@@ -106,7 +104,7 @@ module _ (strict : Bool) (s : List ℕ) (n : ℕ) (all_of : n ≡ length s) (x :
     good-room h = rw good-is at h
 
 pub good-put : (strict : Bool) (s : List ℕ) (size end : ℕ) (b m : List ℕ) → Puts 0 (rest_from strict (take size s) stream_header_size) b end m
-    → (st : Stream) → size ≡ st.size → st.size < 4294967296 → (x : CheckedStream) → x ≡ Good st → (n : ℕ) → x ≡ begun (stream_rules n (stream_header s 0)) (stream_of 0 (stream_header s 0)) → n ≡ length s
+    → (st : Stream) → size ≡ st.size → st.size < 4294967296 → (x : Result Stream Refusal) → x ≡ Ok st → (n : ℕ) → x ≡ begun (stream_rules n (stream_header s 0)) (stream_of 0 (stream_header s 0)) → n ≡ length s
     → PutsDump strict s b end m
 good-put strict s size end b m p st z few x e n is all_of =
     record {

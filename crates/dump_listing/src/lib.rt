@@ -12,7 +12,7 @@ ghost use Rattle.dump_listing.specs.Views.{PutsDump, Dumps, longest_listing, Lis
 use dump_next::{Going, put_error, put_next};
 use dump_room::dump_fits;
 use rules::numbers::{DONE, TOO_SHORT};
-use stream_header::header::{CheckedStream, check_header};
+use stream_header::header::check_header;
 use text_filling::fill;
 use widths::{u32_to_usize, usize_to_word};
 
@@ -53,8 +53,8 @@ fn put_dump(out: &mut [u8], dump: &[u8], strict: bool) -> usize
     ensures { PutsDump strict dump.now out.old result out.new }
 {
     match check_header(dump, 0, usize_to_word(dump.len())) {
-        CheckedStream::Bad(r) => put_error(out, 0, r.code),
-        CheckedStream::Good(s) => {
+        Err(r) => put_error(out, 0, r.code),
+        Ok(s) => {
             let size = u32_to_usize(s.size);
             put_packets(out, &dump[..size], strict)
         }

@@ -1,5 +1,5 @@
 -- How a listing goes on behind its next line, and what the writer of that line asks for. Assumes nothing.
-use Rattle.std.specs.Prelude.{◌≡◌, refl, Bool, true, false, ◌&&◌, List, [], ◌∷◌, ◌++◌, ℕ, ◌+◌, ◌-◌, ◌≤◌, ◌<◌, ◌^◌, length, take, drop}
+use Rattle.std.specs.Prelude.{◌≡◌, refl, Bool, true, false, ◌&&◌, List, [], ◌∷◌, ◌++◌, ℕ, ◌+◌, ◌-◌, ◌≤◌, ◌<◌, ◌^◌, length, take, drop, Ok}
 use Rattle.std.proofs.Common.{sym, arith, rules, Fits, length-drop, length-take-le}
 use Rattle.std.specs.Int.{w64}
 use Rattle.rules.specs.Judging.{refusal}
@@ -8,7 +8,6 @@ use Rattle.rules.specs.PacketRows.{packet_row}
 use Rattle.rules.specs.Text.{ascii}
 use Rattle.rules.specs.Dump.{line, line_in, opcode_text, ending_text, stops}
 use Rattle.rules.specs.Dump.Ending.{refused}
-use Rattle.rules.specs.declared.Frame.TheVariants.{Whole}
 use Rattle.stream_packets.specs.Framing.{frame-sound}
 use Rattle.stream_listing.specs.Seen.{seen, SeenPacket, was-known, was-unknown, was-bad}
 use Rattle.stream_listing.specs.Walk.{further, inside}
@@ -47,7 +46,7 @@ pub ruleset writing_error = (same-room, same-put, error-line, rules)
 
 -- ---- put_packet
 
-module _ (s : List ℕ) (at op size : ℕ) (framed : frame_of (drop at s) ≡ Whole op size) where
+module _ (s : List ℕ) (at op size : ℕ) (framed : frame_of (drop at s) ≡ Ok (op, size)) where
   fits : size ≤ length s - at
   fits = rw length-drop at (frame-sound (drop at s) op size framed).inside
 
@@ -110,7 +109,7 @@ module _ (strict : Bool) (s : List ℕ) (at : ℕ) (here : at < length s) (x : S
           by_test true = refl
           by_test false = refl
 
-      pub known-framed : frame_of (drop at s) ≡ Whole op size
+      pub known-framed : frame_of (drop at s) ≡ Ok (op, size)
       known-framed = known-packet.frame
 
       pub known-room : end + length (next_line strict s at) ≤ length m → end + length (line_in (packet_row op) at op size (take size (drop at s))) ≤ length m
@@ -145,7 +144,7 @@ module _ (strict : Bool) (s : List ℕ) (at : ℕ) (here : at < length s) (x : S
         passes : stops strict (packet_of op (take size (drop at s))) ≡ false
         passes = rw t
 
-        pub unknown-framed : frame_of (drop at s) ≡ Whole op size
+        pub unknown-framed : frame_of (drop at s) ≡ Ok (op, size)
         unknown-framed = unknown-packet.frame
 
         pub unknown-room : end + length (next_line strict s at) ≤ length m → end + length (line_in (packet_row op) at op size (take size (drop at s))) ≤ length m

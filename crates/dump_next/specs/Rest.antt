@@ -1,22 +1,20 @@
 -- The text of a dump from a place of the stream on: nothing at its end, else a line and the text behind it, or the line that ends it.
 -- Assumes nothing.
-use Rattle.std.specs.Prelude.{◌≡◌, refl, Bool, true, false, List, [], ◌++◌, ℕ, ◌+◌, ◌≤◌, ◌<◌, length, take, drop}
+use Rattle.std.specs.Prelude.{◌≡◌, refl, Bool, true, false, List, [], ◌++◌, ℕ, ◌+◌, ◌≤◌, ◌<◌, length, take, drop, Err, Ok}
 use Rattle.std.proofs.Common.{ap, ◌∙◌, append_assoc, arith, length-append}
 use Rattle.machine.specs.Machine.{pick}
-use Rattle.rules.specs.Stream.{frame_of, packet_of}
+use Rattle.rules.specs.Stream.{frame_of, packet_of, Frame}
 use Rattle.rules.specs.PacketRows.{packet_row}
 use Rattle.rules.specs.Dump.{line, line_in, opcode_text, line_of, ending_text, stops, lines_of, text_of}
 use Rattle.rules.specs.Dump.Ending.{refused}
 use Rattle.rules.specs.declared.Refusal.{Refusal}
-use Rattle.rules.specs.declared.Frame.{Frame}
-use Rattle.rules.specs.declared.Frame.TheVariants.{Whole, Misframed}
 use Rattle.stream_listing.specs.Walk.{listed_from, from-none, from-bad, from-stopped, from_on}
 
 -- the line of the packet at an offset, by its frame: its own, or the one that ends the listing there
 abbrev pub line_by : Bool → ℕ → Frame → List ℕ → List ℕ
-line_by strict at (Whole op size) b =
+line_by strict at (Ok (op, size)) b =
     pick (stops strict (packet_of op (take size b))) (line at "STOPPED" size (opcode_text op)) (line_in (packet_row op) at op size (take size b))
-line_by strict at (Misframed r) b = ending_text (refused r)
+line_by strict at (Err r) b = ending_text (refused r)
 
 module _ (strict : Bool) where
   unfoldable pub next_line : List ℕ → ℕ → List ℕ
@@ -31,7 +29,7 @@ module _ (strict : Bool) where
     rest-none h = rw (from-none strict s at h)
 
     module _ (here : at < length s) where
-      module _ (r : Refusal) (e : frame_of (drop at s) ≡ Misframed r) where
+      module _ (r : Refusal) (e : frame_of (drop at s) ≡ Err r) where
         pub line-bad : next_line s at ≡ ending_text (refused r)
         unfolding next_line
         line-bad = rw e
@@ -40,7 +38,7 @@ module _ (strict : Bool) where
         unfolding rest_from text_of lines_of
         rest-bad = rw (from-bad strict s at here r e, line-bad)
 
-      module _ (op size : ℕ) (e : frame_of (drop at s) ≡ Whole op size) where
+      module _ (op size : ℕ) (e : frame_of (drop at s) ≡ Ok (op, size)) where
         module _ (h : stops strict (packet_of op (take size (drop at s))) ≡ true) where
           pub line-stopped : next_line s at ≡ line at "STOPPED" size (opcode_text op)
           unfolding next_line
@@ -65,7 +63,7 @@ module _ (strict : Bool) where
       pub next-within : length (next_line s at) ≤ length (rest_from s at)
       next-within = by_frame (frame_of (drop at s)) refl
         where
-          by-stop : (op size : ℕ) → frame_of (drop at s) ≡ Whole op size → (t : Bool) → stops strict (packet_of op (take size (drop at s))) ≡ t
+          by-stop : (op size : ℕ) → frame_of (drop at s) ≡ Ok (op, size) → (t : Bool) → stops strict (packet_of op (take size (drop at s))) ≡ t
               → length (next_line s at) ≤ length (rest_from s at)
           by-stop op size e true h = rw (rest-stopped op size e h) (omega arith)
           by-stop op size e false h =
@@ -73,5 +71,5 @@ module _ (strict : Bool) where
               omega arith
 
           by_frame : (f : Frame) → frame_of (drop at s) ≡ f → length (next_line s at) ≤ length (rest_from s at)
-          by_frame (Whole op size) e = by-stop op size e (stops strict (packet_of op (take size (drop at s)))) refl
-          by_frame (Misframed r) e = rw (rest-bad r e) (omega arith)
+          by_frame (Ok (op, size)) e = by-stop op size e (stops strict (packet_of op (take size (drop at s)))) refl
+          by_frame (Err r) e = rw (rest-bad r e) (omega arith)

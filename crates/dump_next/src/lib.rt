@@ -1,13 +1,12 @@
 // The next line of a listing: of the packet at a place of the stream, or the one that ends the listing there.
 #![tactic(auto)]
 
-ghost use Rattle.std.specs.Prelude.{◌≡◌, ◌+◌, ◌≤◌, ◌<◌, length, take, drop};
+ghost use Rattle.std.specs.Prelude.{◌≡◌, ◌+◌, ◌≤◌, ◌<◌, length, take, drop, Ok};
 ghost use Rattle.rules.specs.Judging.{refusal};
 ghost use Rattle.rules.specs.Stream.{frame_of};
 ghost use Rattle.rules.specs.PacketRows.{packet_row};
 ghost use Rattle.rules.specs.Dump.{line_in, ending_text};
 ghost use Rattle.rules.specs.Dump.Ending.{refused};
-ghost use Rattle.rules.specs.declared.Frame.TheVariants.{Whole};
 ghost use Rattle.text_numbers.specs.Writing.{Puts};
 ghost use Rattle.dump_next.specs.Rest.{next_line};
 ghost use Rattle.dump_next.specs.Next.{Goes};
@@ -38,7 +37,7 @@ pub fn put_error(out: &mut [u8], end: usize, code: u32) -> usize
 
 // Writes the line of the packet that is framed at a place of the stream.
 fn put_packet(out: &mut [u8], end: usize, dump: &[u8], at: usize, op: u32, size: u32) -> usize
-    requires dump_value { frame_of (drop at dump.now) ≡ Whole op size }
+    requires dump_value { frame_of (drop at dump.now) ≡ Ok (op, size) }
     requires dump_in_bounds { end + length (line_in (packet_row op) at op size (take size (drop at dump.now))) ≤ length out.old }
     ensures { Puts end (line_in (packet_row op) at op size (take size (drop at dump.now))) out.old result out.new }
 {

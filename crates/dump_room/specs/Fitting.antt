@@ -1,5 +1,5 @@
 -- Whether a text has room, and what measuring it line by line asks for. Assumes nothing.
-use Rattle.std.specs.Prelude.{◌≡◌, refl, Bool, true, false, List, ℕ, ◌+◌, ◌-◌, ◌*◌, ◌/◌, ◌≤◌, ◌<◌, ltb, take}
+use Rattle.std.specs.Prelude.{◌≡◌, refl, Bool, true, false, List, ℕ, ◌+◌, ◌-◌, ◌*◌, ◌/◌, ◌≤◌, ◌<◌, ltb, take, Err, Ok, Result}
 use Rattle.std.proofs.Math.Path.{sym, ap}
 use Rattle.std.proofs.Common.{◌∙◌, ⊎_elim, rules, lt-ltb, le-ltb, ltb-false, length-append}
 use Rattle.std.proofs.Math.Bool.{not}
@@ -15,8 +15,6 @@ use Rattle.rules.specs.declared.Refusal.{Refusal}
 use Rattle.rules.specs.declared.Stream.{Stream}
 use Rattle.words.specs.Over.{below_or_not}
 use Rattle.stream_header.specs.Header.{begun}
-use Rattle.stream_header.specs.declared.header.CheckedStream.{CheckedStream}
-use Rattle.stream_header.specs.declared.header.CheckedStream.TheVariants.{Good, Bad}
 use Rattle.stream_listing.specs.Begin.{begins-bad, begins-good, size-inside, size-there}
 use Rattle.text_numbers.specs.Writing.{Puts, puts-length}
 use Rattle.dump_next.specs.Rest.{next_line, rest_from, rest-none}
@@ -149,16 +147,16 @@ line-there r line e = omega (arith, error-bound (refusal r.code))
 pub line-enough : (line : List ℕ) → 326 ≡ length line → longest_line ≤ length line
 line-enough line e = omega arith
 
-module _ (strict : Bool) (s : List ℕ) (n : ℕ) (all_of : n ≡ length s) (x : CheckedStream)
+module _ (strict : Bool) (s : List ℕ) (n : ℕ) (all_of : n ≡ length s) (x : Result Stream Refusal)
     (is : x ≡ begun (stream_rules n (stream_header s 0)) (stream_of 0 (stream_header s 0))) (room : ℕ) where
-  pub fits-bad : (r : Refusal) → x ≡ Bad r → (last : ℕ) (b m : List ℕ) → Puts 0 (ending_text (refused (refusal r.code))) b last m
+  pub fits-bad : (r : Refusal) → x ≡ Err r → (last : ℕ) (b m : List ℕ) → Puts 0 (ending_text (refused (refusal r.code))) b last m
       → (t : Bool) → t ≡ not (ltb room last) → t ≡ fits (text_of (dump_of strict s)) room
   unfolding fits text_of lines_of
   fits-bad r e last b m p t tells =
       let k : last ≡ length (ending_text (refused r)) = p.place ∙ zero-add (length (ending_text (refused r))) in
       tells ∙ rw (k, begins-bad strict s n all_of x is r e)
 
-  module _ (st : Stream) (e : x ≡ Good st) (size : ℕ) (z : size ≡ st.size) where
+  module _ (st : Stream) (e : x ≡ Ok st) (size : ℕ) (z : size ≡ st.size) where
     pub part-inside : size ≤ length s
     part-inside = size-inside strict s n all_of x is st e size z
 

@@ -1,5 +1,5 @@
 -- How long the text of a dump is at most: ten times the bytes of its stream, and 90. Assumes nothing.
-use Rattle.std.specs.Prelude.{◌≡◌, Bool, List, eqb, take, drop}
+use Rattle.std.specs.Prelude.{◌≡◌, Bool, List, eqb, take, drop, Err, Ok}
 use Rattle.std.proofs.Math.Path.{refl}
 use Rattle.std.proofs.Math.Bool.{true, false}
 use Prim.Native.Nat.{ℕ, zero, suc, ◌+◌, ◌-◌, ◌*◌, ◌≤◌, ◌<◌, ◌^◌}
@@ -8,18 +8,15 @@ use Rattle.std.proofs.Math.ListN.{length, length-append, length-drop}
 use Rattle.std.proofs.Common.{length-take}
 use Rattle.machine.specs.Machine.{pick}
 use Rattle.rules.specs.Layouts.{stream_header, stream_header_size}
-use Rattle.rules.specs.Stream.{stream_rules, frame_of, size_of, packet_of}
+use Rattle.rules.specs.Stream.{stream_rules, frame_of, size_of, packet_of, Frame}
 use Rattle.rules.specs.Dump.{line_of, ending_text, Dump, ends, first_then, stops, listed_at, listed_before, listed, dump_in, dump_of, lines_of, text_of}
 use Rattle.rules.specs.Dump.Ending.{complete, stopped, refused}
 use Rattle.rules.specs.declared.Refusal.{Refusal}
-use Rattle.rules.specs.declared.Verdict.{Verdict}
-use Rattle.rules.specs.declared.Verdict.TheVariants.{Fine, Broken}
-use Rattle.rules.specs.declared.Frame.{Frame}
-use Rattle.rules.specs.declared.Frame.TheVariants.{Whole, Misframed}
 use Rattle.stream_packets.specs.Framing.{frame-sound}
 use Rattle.stream_listing.specs.Walk.{listed_from}
 use Rattle.dump_next.specs.Rest.{rest_from}
 use Rattle.dump_room.specs.Widest.{packet-bound, stopped-bound, error-bound}
+use Rattle.rules.specs.Judging.{Verdict}
 
 -- ---- packet by packet
 
@@ -36,7 +33,7 @@ module _ (strict : Bool) where
     unfolding text_of lines_of
     bad-bound r = omega (arith, error-bound r)
 
-    module _ (op size : ℕ) (e : frame_of b ≡ Whole op size) (h : Bounded later (drop size b)) where
+    module _ (op size : ℕ) (e : frame_of b ≡ Ok (op, size)) (h : Bounded later (drop size b)) where
       stop-bound : Bounded (ends (stopped (listed_at at op size b))) b
       unfolding text_of lines_of ending_text
       stop-bound = omega (arith, stopped-bound at op size)
@@ -55,8 +52,8 @@ module _ (strict : Bool) where
       whole-bound false = on_bound
 
     before-bound : (f : Frame) → frame_of b ≡ f → Bounded later (drop (size_of f) b) → Bounded (listed_before strict at f b later) b
-    before-bound (Whole op size) e h = whole-bound op size e h (stops strict (packet_of op (take size b)))
-    before-bound (Misframed r) e h = bad-bound r
+    before-bound (Ok (op, size)) e h = whole-bound op size e h (stops strict (packet_of op (take size b)))
+    before-bound (Err r) e h = bad-bound r
 
   listed-bound : (k at : ℕ) (b : List ℕ) → Bounded (listed strict k at b) b
   unfolding listed
@@ -74,10 +71,10 @@ module _ (strict : Bool) where
 
   in-bound : (b : List ℕ) (size : ℕ) (v : Verdict) → Bounded (dump_in strict b v size) (take size b)
   unfolding text_of lines_of
-  in-bound b size Fine =
+  in-bound b size (Ok tt) =
       let n : length (drop 24 (take size b)) ≤ length (take size b) = rw length-drop (omega arith) in
       omega (arith, listed-bound size 24 (drop 24 (take size b)))
-  in-bound b size (Broken r) = omega (arith, error-bound r)
+  in-bound b size (Err r) = omega (arith, error-bound r)
 
   module _ (b : List ℕ) where
     taken-bound : Bounded (dump_of strict b) (take (stream_header b 0).size b)

@@ -1,5 +1,5 @@
 -- How long a line is at most: 326 bytes, and ten times the bytes of its packet. Assumes nothing.
-use Rattle.std.specs.Prelude.{◌≡◌, Bool, true, false, List, [], ◌∷◌, ℕ, suc, ◌+◌, ◌-◌, ◌*◌, ◌≤◌, eqb, ltb, pos, negsuc, length, take, drop}
+use Rattle.std.specs.Prelude.{◌≡◌, Bool, true, false, List, [], ◌∷◌, ℕ, suc, ◌+◌, ◌-◌, ◌*◌, ◌≤◌, eqb, ltb, pos, negsuc, length, take, drop, Err, Ok}
 use Rattle.std.proofs.Math.Path.{refl}
 use Prim.Native.String.{String}
 use native.Mathlib.Omega.{arith}
@@ -13,14 +13,12 @@ use Rattle.rules.specs.Fields.FieldType.{U32, U64, F32, I32}
 use Rattle.rules.specs.Layouts.{signed}
 use Rattle.rules.specs.Lists.{Found}
 use Rattle.rules.specs.Lists.Found.{none, found}
-use Rattle.rules.specs.Stream.{bytes_in, least_size, frame_of, packet_of}
+use Rattle.rules.specs.Stream.{bytes_in, least_size, frame_of, packet_of, Frame}
 use Rattle.rules.specs.PacketRows.{PacketRow, packet_row, known_of, known-is-packet-row, unknown-has-no-row}
 use Rattle.rules.specs.Text.{ascii, signed_decimal}
 use Rattle.rules.specs.Dump.{number_text, fields_text, opcode_text, line, line_in, ending_text, stops}
 use Rattle.rules.specs.Dump.Ending.{refused}
 use Rattle.rules.specs.declared.Refusal.{Refusal}
-use Rattle.rules.specs.declared.Frame.{Frame}
-use Rattle.rules.specs.declared.Frame.TheVariants.{Whole, Misframed}
 use Rattle.stream_opcodes.specs.Opcodes.{none-known}
 use Rattle.text_numbers.specs.Numbers.{hex-length}
 use Rattle.text_numbers.specs.Digits.{decimal-length}
@@ -124,12 +122,12 @@ error-bound r = simp length-append (omega (arith, decimal-length r.code))
 
 module _ (strict : Bool) where
   by-short : (at : ℕ) (f : Frame) (b : List ℕ) → length (line_by strict at f b) ≤ longest_line
-  by-short at (Whole op size) b = by-stop (stops strict (packet_of op (take size b)))
+  by-short at (Ok (op, size)) b = by-stop (stops strict (packet_of op (take size b)))
     where
       by-stop : (t : Bool) → length (pick t (line at "STOPPED" size (opcode_text op)) (line_in (packet_row op) at op size (take size b))) ≤ longest_line
       by-stop true = omega (arith, stopped-bound at op size)
       by-stop false = omega (arith, line-in-bound (packet_row op) at op size (take size b), (known-fair op).short)
-  by-short at (Misframed r) b = omega (arith, error-bound r)
+  by-short at (Err r) b = omega (arith, error-bound r)
 
   pub next-short : (s : List ℕ) (at : ℕ) → length (next_line strict s at) ≤ longest_line
   unfolding next_line

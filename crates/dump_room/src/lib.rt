@@ -11,7 +11,7 @@ ghost use Rattle.dump_room.specs.Widest.{longest_line};
 ghost use Rattle.dump_room.specs.Fitting.{fits};
 
 use dump_next::{Going, put_error, put_next};
-use stream_header::header::{CheckedStream, check_header};
+use stream_header::header::check_header;
 use widths::{u32_to_usize, usize_to_word};
 
 const STREAM_HEADER_SIZE: usize = rules::numbers::STREAM_HEADER_SIZE as usize;
@@ -78,8 +78,8 @@ pub fn dump_fits(dump: &[u8], strict: bool, room: usize) -> bool
     }
     let mut line = line_room();
     match check_header(dump, 0, usize_to_word(dump.len())) {
-        CheckedStream::Bad(r) => within(put_error(&mut line, 0, r.code), room),
-        CheckedStream::Good(s) => {
+        Err(r) => within(put_error(&mut line, 0, r.code), room),
+        Ok(s) => {
             let size = u32_to_usize(s.size);
             packets_fit(&mut line, &dump[..size], strict, room)
         }

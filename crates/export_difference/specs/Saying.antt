@@ -1,25 +1,12 @@
 -- What the saying of these numbers asks. Assumes nothing.
-use Rattle.std.specs.Prelude.{◌≡◌, refl, List, [], ◌∷◌, ℕ, ◌<◌, length, get_or, set, drop}
+use Rattle.std.specs.Prelude.{◌≡◌, refl, List, [], ◌∷◌, ℕ, ◌<◌, length, get_or, set, drop, None, Option, Some, ⊤, Result, Ok, Err}
 use Rattle.std.proofs.Common.{◌∙◌, arith, rules, drop_of_length-le}
 use Rattle.std.proofs.lemmas.List.Edits.{sets-eq}
-use Rattle.rules.specs.declared.Checked.{Checked}
-use Rattle.rules.specs.declared.Checked.TheVariants.{Valid, Refused}
 use Rattle.rules.specs.declared.Class.{Class}
-use Rattle.rules.specs.declared.Offset.{Offset}
-use Rattle.rules.specs.declared.Offset.TheVariants.{At, Nowhere}
-use Rattle.rules.specs.declared.Parting.{Parting}
-use Rattle.rules.specs.declared.Parting.TheVariants.{At as PartsAt, Never}
-use Rattle.rules.specs.declared.PartsAnswer.{PartsAnswer}
-use Rattle.rules.specs.declared.PartsAnswer.TheVariants.{Is as PartsIs, Refused as PartsRefused}
-use Rattle.rules.specs.declared.ClassAnswer.{ClassAnswer}
-use Rattle.rules.specs.declared.ClassAnswer.TheVariants.{Is as ClassIs, Refused as ClassRefused}
-use Rattle.rules.specs.declared.OffsetAnswer.{OffsetAnswer}
-use Rattle.rules.specs.declared.OffsetAnswer.TheVariants.{Is as OffsetIs, Refused as OffsetRefused}
-use Rattle.rules.specs.declared.StartAnswer.{StartAnswer}
-use Rattle.rules.specs.declared.StartAnswer.TheVariants.{Is as StartIs, Refused as StartRefused}
 use Rattle.rules.specs.declared.Cursor.{Cursor}
 use Rattle.rules.specs.declared.Pair.{Pair}
 use Rattle.export_difference.specs.Numbers.{class_number, said_is, said_none, said_refused, checked_said, parting_said, parts_said, class_said, offset_said, next_said, Says, cursor_in, cursor_words, pair_words, SaysStart}
+use Rattle.rules.specs.declared.RefusedStream.{RefusedStream}
 
 -- ---- say, say_none, say_number, say_refused
 
@@ -53,47 +40,47 @@ pub ruleset saying_none = (zero-said, rules)
 -- ---- the answers
 
 module _ (r : ℕ) (said : List ℕ) where
-  pub checked-valid : (x : Checked) → x ≡ Valid → Says (said_is 0) r said → Says (checked_said x) r said
+  pub checked-valid : (x : Result ⊤ RefusedStream) → x ≡ Ok tt → Says (said_is 0) r said → Says (checked_said x) r said
   checked-valid x e s = rw e s
 
-  pub checked_refused : (x : Checked) (code which : ℕ) → x ≡ Refused code which → Says (said_refused code which) r said → Says (checked_said x) r said
-  checked_refused x code which e s = rw e s
+  pub checked_refused : (x : Result ⊤ RefusedStream) (e : RefusedStream) → x ≡ Err e → Says (said_refused e.code e.which) r said → Says (checked_said x) r said
+  checked_refused x r' e s = rw e s
 
-  pub parting-at : (x : Parting) (i : ℕ) → x ≡ PartsAt i → Says (said_is i) r said → Says (parting_said x) r said
+  pub parting-at : (x : Option ℕ) (i : ℕ) → x ≡ Some i → Says (said_is i) r said → Says (parting_said x) r said
   parting-at x i e s = rw e s
 
-  pub parting-never : (x : Parting) → x ≡ Never → Says said_none r said → Says (parting_said x) r said
+  pub parting-never : (x : Option ℕ) → x ≡ None → Says said_none r said → Says (parting_said x) r said
   parting-never x e s = rw e s
 
-  pub parts_is : (x : PartsAnswer) (p : Parting) → x ≡ PartsIs p → Says (parting_said p) r said → Says (parts_said x) r said
+  pub parts_is : (x : Result (Option ℕ) RefusedStream) (p : Option ℕ) → x ≡ Ok p → Says (parting_said p) r said → Says (parts_said x) r said
   parts_is x p e s = rw e s
 
-  pub parts-refused : (x : PartsAnswer) (code which : ℕ) → x ≡ PartsRefused code which → Says (said_refused code which) r said → Says (parts_said x) r said
-  parts-refused x code which e s = rw e s
+  pub parts-refused : (x : Result (Option ℕ) RefusedStream) (e : RefusedStream) → x ≡ Err e → Says (said_refused e.code e.which) r said → Says (parts_said x) r said
+  parts-refused x r' e s = rw e s
 
-  pub class-is : (x : ClassAnswer) (k : Class) → x ≡ ClassIs k → Says (said_is (class_number k)) r said → Says (class_said x) r said
+  pub class-is : (x : Result Class RefusedStream) (k : Class) → x ≡ Ok k → Says (said_is (class_number k)) r said → Says (class_said x) r said
   class-is x k e s = rw e s
 
-  pub class-refused : (x : ClassAnswer) (code which : ℕ) → x ≡ ClassRefused code which → Says (said_refused code which) r said → Says (class_said x) r said
-  class-refused x code which e s = rw e s
+  pub class-refused : (x : Result Class RefusedStream) (e : RefusedStream) → x ≡ Err e → Says (said_refused e.code e.which) r said → Says (class_said x) r said
+  class-refused x r' e s = rw e s
 
-  pub offset_at : (x : Offset) (i : ℕ) → x ≡ At i → Says (said_is i) r said → Says (offset_said x) r said
+  pub offset_at : (x : Option ℕ) (i : ℕ) → x ≡ Some i → Says (said_is i) r said → Says (offset_said x) r said
   offset_at x i e s = rw e s
 
-  pub offset-nowhere : (x : Offset) → x ≡ Nowhere → Says said_none r said → Says (offset_said x) r said
+  pub offset-nowhere : (x : Option ℕ) → x ≡ None → Says said_none r said → Says (offset_said x) r said
   offset-nowhere x e s = rw e s
 
-  pub next-is : (x : OffsetAnswer) (o : Offset) → x ≡ OffsetIs o → Says (offset_said o) r said → Says (next_said x) r said
+  pub next-is : (x : Result (Option ℕ) RefusedStream) (o : Option ℕ) → x ≡ Ok o → Says (offset_said o) r said → Says (next_said x) r said
   next-is x o e s = rw e s
 
-  pub next-refused : (x : OffsetAnswer) (code which : ℕ) → x ≡ OffsetRefused code which → Says (said_refused code which) r said → Says (next_said x) r said
-  next-refused x code which e s = rw e s
+  pub next-refused : (x : Result (Option ℕ) RefusedStream) (e : RefusedStream) → x ≡ Err e → Says (said_refused e.code e.which) r said → Says (next_said x) r said
+  next-refused x r' e s = rw e s
 
-  pub start_is : (l l' : List ℕ) (x : StartAnswer) (k : Cursor) → x ≡ StartIs k → l' ≡ cursor_words k → Says (said_is 0) r said → SaysStart x l r l' said
+  pub start_is : (l l' : List ℕ) (x : Result Cursor RefusedStream) (k : Cursor) → x ≡ Ok k → l' ≡ cursor_words k → Says (said_is 0) r said → SaysStart x l r l' said
   start_is l l' x k e p s = rw e (record { says = s; cursor = p })
 
-  pub start-refused : (l : List ℕ) (x : StartAnswer) (code which : ℕ) → x ≡ StartRefused code which → Says (said_refused code which) r said → SaysStart x l r l said
-  start-refused l x code which e s = rw e (record { says = s; cursor = refl })
+  pub start-refused : (l : List ℕ) (x : Result Cursor RefusedStream) (e : RefusedStream) → x ≡ Err e → Says (said_refused e.code e.which) r said → SaysStart x l r l said
+  start-refused l x r' e s = rw e (record { says = s; cursor = refl })
 
 pub ruleset saying_checked = (checked-valid, checked_refused, rules)
 

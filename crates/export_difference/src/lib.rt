@@ -4,10 +4,7 @@
 ghost use Rattle.std.specs.Prelude.{◌≡◌, [], ◌∷◌};
 ghost use Rattle.export_difference.specs.Numbers.{class_number, said_is, said_none, said_refused, Says, checked_said, parting_said, parts_said, class_said, offset_said, next_said, cursor_in, cursor_words, pair_words, SaysStart};
 
-use rules::{
-    Checked, Class, ClassAnswer, Cursor, Offset, OffsetAnswer, Pair, Parting, PartsAnswer,
-    StartAnswer,
-};
+use rules::{Class, Cursor, Pair, RefusedStream};
 use widths::{u32_to_word, usize_to_word, word_to_usize};
 
 // The answers: what was asked for is said, or there is none.
@@ -61,31 +58,31 @@ fn say_refused(said: &mut [u64; 1], code: u32, which: u32) -> u32
 }
 
 // Says whether two streams are valid.
-pub fn say_checked(said: &mut [u64; 1], x: Checked) -> u32
+pub fn say_checked(said: &mut [u64; 1], x: Result<(), RefusedStream>) -> u32
     ensures { Says (checked_said x) result said.new }
 {
     match x {
-        Checked::Valid => say_number(said, 0),
-        Checked::Refused(code, which) => say_refused(said, code, which),
+        Ok(()) => say_number(said, 0),
+        Err(e) => say_refused(said, e.code, e.which),
     }
 }
 
-fn say_parting(said: &mut [u64; 1], x: Parting) -> u32
+fn say_parting(said: &mut [u64; 1], x: Option<usize>) -> u32
     ensures { Says (parting_said x) result said.new }
 {
     match x {
-        Parting::At(i) => say_number(said, i),
-        Parting::Never => say_none(said),
+        Some(i) => say_number(said, i),
+        None => say_none(said),
     }
 }
 
 // Says where two streams part.
-pub fn say_parts(said: &mut [u64; 1], x: PartsAnswer) -> u32
+pub fn say_parts(said: &mut [u64; 1], x: Result<Option<usize>, RefusedStream>) -> u32
     ensures { Says (parts_said x) result said.new }
 {
     match x {
-        PartsAnswer::Is(p) => say_parting(said, p),
-        PartsAnswer::Refused(code, which) => say_refused(said, code, which),
+        Ok(p) => say_parting(said, p),
+        Err(e) => say_refused(said, e.code, e.which),
     }
 }
 
@@ -97,32 +94,32 @@ fn say_class_number(said: &mut [u64; 1], x: Class) -> u32
 }
 
 // Says how the packets with an index compare.
-pub fn say_class(said: &mut [u64; 1], x: ClassAnswer) -> u32
+pub fn say_class(said: &mut [u64; 1], x: Result<Class, RefusedStream>) -> u32
     ensures { Says (class_said x) result said.new }
 {
     match x {
-        ClassAnswer::Is(class) => say_class_number(said, class),
-        ClassAnswer::Refused(code, which) => say_refused(said, code, which),
+        Ok(class) => say_class_number(said, class),
+        Err(e) => say_refused(said, e.code, e.which),
     }
 }
 
 // Says an offset, or that there is none.
-pub fn say_offset(said: &mut [u64; 1], x: Offset) -> u32
+pub fn say_offset(said: &mut [u64; 1], x: Option<usize>) -> u32
     ensures { Says (offset_said x) result said.new }
 {
     match x {
-        Offset::At(i) => say_number(said, i),
-        Offset::Nowhere => say_none(said),
+        Some(i) => say_number(said, i),
+        None => say_none(said),
     }
 }
 
 // Says the next differing offset.
-pub fn say_next(said: &mut [u64; 1], x: OffsetAnswer) -> u32
+pub fn say_next(said: &mut [u64; 1], x: Result<Option<usize>, RefusedStream>) -> u32
     ensures { Says (next_said x) result said.new }
 {
     match x {
-        OffsetAnswer::Is(o) => say_offset(said, o),
-        OffsetAnswer::Refused(code, which) => say_refused(said, code, which),
+        Ok(o) => say_offset(said, o),
+        Err(e) => say_refused(said, e.code, e.which),
     }
 }
 
@@ -148,15 +145,15 @@ pub fn put_cursor(words: &mut [u64; 2], cursor: Cursor)
 }
 
 // Says how a walk begins; a refusal leaves the cursor's words.
-pub fn say_start(cursor: &mut [u64; 2], said: &mut [u64; 1], x: StartAnswer) -> u32
+pub fn say_start(cursor: &mut [u64; 2], said: &mut [u64; 1], x: Result<Cursor, RefusedStream>) -> u32
     ensures { SaysStart x cursor.old result cursor.new said.new }
 {
     match x {
-        StartAnswer::Is(k) => {
+        Ok(k) => {
             put_cursor(cursor, k);
             say_number(said, 0)
         }
-        StartAnswer::Refused(code, which) => say_refused(said, code, which),
+        Err(e) => say_refused(said, e.code, e.which),
     }
 }
 

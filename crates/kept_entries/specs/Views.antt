@@ -1,10 +1,9 @@
 -- Kept entries as rows of four words: how a row is read, and what a step's answer and rows come to.
-use Rattle.std.specs.Prelude.{List, ℕ, ◌+◌, ◌-◌, ◌%◌, ◌^◌, ◌<◌, ◌≡◌, get_or}
+use Rattle.std.specs.Prelude.{List, ℕ, ◌+◌, ◌-◌, ◌%◌, ◌^◌, ◌<◌, ◌≡◌, get_or, Err, Ok}
 use Rattle.rules.specs.Table.{Taken}
 use Rattle.rules.specs.declared.Entry.{Entry}
-use Rattle.rules.specs.declared.Verdict.{Verdict}
-use Rattle.rules.specs.declared.Verdict.TheVariants.{Fine, Broken}
 use Rattle.rows.specs.Rows.{table}
+use Rattle.rules.specs.Judging.{Verdict}
 
 -- an id and flags are four bytes wide; the last word is where the entry ends, so that no row's entry ends above 2^64
 abbrev pub entry_of : List ℕ → Entry
@@ -21,8 +20,8 @@ entries_of n l = table entry_of 4 n l
 
 -- how many are kept after a verdict
 abbrev pub grown : Verdict → ℕ → ℕ
-grown Fine n = n + 1
-grown (Broken r) n = n
+grown (Ok tt) n = n + 1
+grown (Err r) n = n
 
 abbrev pub taken_of : Verdict → ℕ → List ℕ → Taken
 taken_of v n l = record { verdict = v; kept = entries_of (grown v n) l }

@@ -1,5 +1,5 @@
 -- One submission is fed: its own totals, and the result of merging them into others. Assumes nothing.
-use Rattle.std.specs.Prelude.{◌≡◌, Bool, not, ◌&&◌, ◌||◌, List, [], ◌∷◌, ◌++◌, ℕ, ◌+◌, ◌-◌, ◌≤◌, ◌<◌, eqb, get_or, take, set, replicate}
+use Rattle.std.specs.Prelude.{◌≡◌, Bool, not, ◌&&◌, ◌||◌, List, [], ◌∷◌, ◌++◌, ℕ, ◌+◌, ◌-◌, ◌≤◌, ◌<◌, eqb, get_or, take, set, replicate, None, Option, Some}
 use Rattle.std.proofs.Math.Path.{refl, sym}
 use Rattle.std.proofs.Common.{ap, ◌∙◌, add-zero, arith, rules, length-take-le}
 use Rattle.std.proofs.Math.Bool.{true, false}
@@ -14,8 +14,6 @@ use Rattle.kept_resources.specs.Views.{record_of, records_of}
 use Rattle.rules.specs.Month.{Finished, totals, sum, greatest, every, small, added, merged, fed, length_in, bytes_in, largest_write, listed_kind, alone, good_feed}
 use Rattle.month_totals.specs.Views.{totals_in, Merges, Feeds}
 use Rattle.month_totals.specs.Summing.{get_or-added, length-added, every-at}
-use Rattle.month_feed.specs.declared.Sum.{Sum}
-use Rattle.month_feed.specs.declared.Sum.TheVariants.{Below, Reached}
 use Rattle.month_feed.specs.Views.{finished, within, good_error, place_of, ended, only}
 use Rattle.month_feed.specs.Judging.{both, counts-one}
 
@@ -37,23 +35,23 @@ single-is s = simp (add-zero, max-zero)
 
 -- ---- a sum of bytes, below 2^64 or not
 
-by-small : (n : ℕ) (t : Bool) → small n ≡ t → pick t (Below n) Reached ≡ within n
+by-small : (n : ℕ) (t : Bool) → small n ≡ t → pick t (Some n) None ≡ within n
 unfolding within
 by-small n t h = rw h
 
-pub told-reached : (n : ℕ) → within n ≡ Reached → 18446744073709551616 ≤ n
+pub told-reached : (n : ℕ) → within n ≡ None → 18446744073709551616 ≤ n
 told-reached n h = by_test (small n) refl
   where
     by_test : (t : Bool) → small n ≡ t → 18446744073709551616 ≤ n
-    by_test true e = absurd (let q : pick true (Below n) Reached ≡ within n = by-small n true e in let z : Below n ≡ Reached = q ∙ h in let y : ◌≡◌ {A = ℕ} 0 1 = cc in omega arith)
+    by_test true e = absurd (let q : pick true (Some n) None ≡ within n = by-small n true e in let z : Some n ≡ None = q ∙ h in let y : ◌≡◌ {A = ℕ} 0 1 = cc in omega arith)
     by_test false e = ltb-false n 18446744073709551616 e
 
-pub told_below : (n m : ℕ) → within n ≡ Below m → m ≡ n
+pub told_below : (n m : ℕ) → within n ≡ Some m → m ≡ n
 told_below n m h = by_test (small n) refl
   where
     by_test : (t : Bool) → small n ≡ t → m ≡ n
-    by_test true e = let q : Below n ≡ within n = by-small n true e in let z : Below n ≡ Below m = q ∙ h in cc
-    by_test false e = absurd (let q : Reached ≡ within n = by-small n false e in let z : Reached ≡ Below m = q ∙ h in let y : ◌≡◌ {A = ℕ} 0 1 = cc in omega arith)
+    by_test true e = let q : Some n ≡ within n = by-small n true e in let z : Some n ≡ Some m = q ∙ h in cc
+    by_test false e = absurd (let q : None ≡ within n = by-small n false e in let z : None ≡ Some m = q ∙ h in let y : ◌≡◌ {A = ℕ} 0 1 = cc in omega arith)
 
 -- ---- totals that would reach 2^64
 
@@ -125,13 +123,13 @@ module _ (l r : List ℕ) (e u n : ℕ) (t : Bool) (judged : t ≡ good_feed (fi
       leaves-over : length l ≡ 26 → fed (totals_in l) (finished e u n r) ≡ record { answer = 9; totals = totals_in l } → Feeds l (finished e u n r) 9 l
       leaves-over w p = record { answer = rw p; words = rw p }
 
-      pub feed-reads-over : length l ≡ 26 → (x : Sum) → x ≡ within (sum (length_in reads) (records_of k r)) → x ≡ Reached → Feeds l (finished e u n r) 9 l
+      pub feed-reads-over : length l ≡ 26 → (x : Option ℕ) → x ≡ within (sum (length_in reads) (records_of k r)) → x ≡ None → Feeds l (finished e u n r) 9 l
       feed-reads-over w x p q = leaves-over w (fed-is ∙ reads_over l w e u _ _ _ (told-reached _ (sym p ∙ q)))
 
-      pub feed-writes-over : length l ≡ 26 → (x : Sum) → x ≡ within (sum (length_in writes) (records_of k r)) → x ≡ Reached → Feeds l (finished e u n r) 9 l
+      pub feed-writes-over : length l ≡ 26 → (x : Option ℕ) → x ≡ within (sum (length_in writes) (records_of k r)) → x ≡ None → Feeds l (finished e u n r) 9 l
       feed-writes-over w x p q = leaves-over w (fed-is ∙ writes-over l w e u _ _ _ (told-reached _ (sym p ∙ q)))
 
-      pub feed-merged : (read written top : ℕ) (x y : Sum) → x ≡ within (sum (length_in reads) (records_of k r)) → x ≡ Below read → y ≡ within (sum (length_in writes) (records_of k r)) → y ≡ Below written
+      pub feed-merged : (read written top : ℕ) (x y : Option ℕ) → x ≡ within (sum (length_in reads) (records_of k r)) → x ≡ Some read → y ≡ within (sum (length_in writes) (records_of k r)) → y ≡ Some written
           → top ≡ greatest (length_in writes) (records_of k r) → (one m : List ℕ) (a : ℕ) → totals_in one ≡ only e u read written top → Merges l (totals_in one) a m → Feeds l (finished e u n r) a m
       feed-merged read written top x y p p' q q' g one m a o d =
           let f : fed (totals_in l) (finished e u n r) ≡ merged (totals_in l) (totals_in one) =

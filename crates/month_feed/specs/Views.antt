@@ -1,18 +1,16 @@
 -- A submission as it is fed, and its own totals.
-use Rattle.std.specs.Prelude.{Bool, ◌||◌, List, [], ◌∷◌, ◌++◌, map, ℕ, ◌-◌, eqb}
+use Rattle.std.specs.Prelude.{Bool, ◌||◌, List, [], ◌∷◌, ◌++◌, map, ℕ, ◌-◌, eqb, None, Option, Some}
 use Rattle.machine.specs.Machine.{pick}
 use Rattle.rules.specs.Numbers.{done}
 use Rattle.kept_resources.specs.Views.{records_of}
 use Rattle.rules.specs.Month.{Finished, Totals, small, refusals, listed_error}
-use Rattle.month_feed.specs.declared.Sum.{Sum}
-use Rattle.month_feed.specs.declared.Sum.TheVariants.{Below, Reached}
 
 -- an error, units, and the first rows of a table of records
 abbrev pub finished : ℕ → ℕ → ℕ → List ℕ → Finished
 finished error units count l = record { error = error; units = units; records = records_of count l }
 
-unfoldable pub within : ℕ → Sum
-within n = pick (small n) (Below n) Reached
+unfoldable pub within : ℕ → Option ℕ
+within n = pick (small n) (Some n) None
 
 abbrev pub good_error : ℕ → Bool
 good_error e = eqb e done || listed_error e

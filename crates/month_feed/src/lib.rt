@@ -23,13 +23,6 @@ const BEFORE_PLACE: u32 = 9;
 
 const MOST_RECORDS: u32 = 64;
 
-// A sum, if it stays below 2^64.
-#[derive(Clone, Copy)]
-pub enum Sum {
-    Below(u64),
-    Reached,
-}
-
 // ---- records
 
 fn is_listed(c: Record) -> bool
@@ -70,7 +63,7 @@ fn length_of(kind: u32, c: Record) -> u64
 }
 
 // The bytes of all records of a kind.
-fn bytes(records: &Records, count: usize, kind: u32) -> Sum
+fn bytes(records: &Records, count: usize, kind: u32) -> Option<u64>
     requires { count ≤ most }
     ensures { result ≡ within (sum (length_in kind) (records_of count records.now)) }
 {
@@ -79,12 +72,12 @@ fn bytes(records: &Records, count: usize, kind: u32) -> Sum
     while i < count {
         let n = length_of(kind, record_row(records, i));
         if reaches(total, n) {
-            return Sum::Reached;
+            return None;
         }
         total += n;
         i += 1;
     }
-    Sum::Below(total)
+    Some(total)
 }
 
 fn larger(a: u64, b: u64) -> u64
@@ -169,11 +162,11 @@ pub fn feed(totals: &mut TotalsWords, error: u32, units: u32, count: u32, record
     }
     let n = u32_to_usize(count);
     let reads = bytes(records, n, READS);
-    let Sum::Below(read) = reads else {
+    let Some(read) = reads else {
         return TOO_MUCH;
     };
     let writes = bytes(records, n, WRITES);
-    let Sum::Below(written) = writes else {
+    let Some(written) = writes else {
         return TOO_MUCH;
     };
     let one = single(error, units, read, written, largest(records, n));

@@ -1,6 +1,6 @@
 -- A packet that needs tokens: what it comes to is what the rules say, of the tables that have the submission's resources and tokens, whatever the
 -- records and entries are. Assumes nothing.
-use Rattle.std.specs.Prelude.{◌≡◌, refl, eqb}
+use Rattle.std.specs.Prelude.{◌≡◌, refl, eqb, Err, Ok}
 use Rattle.std.proofs.Math.Path.{sym, ap}
 use Rattle.std.proofs.Common.{◌∙◌, rules}
 use mathlib.Core.List.{List, [], ◌∷◌}
@@ -19,7 +19,6 @@ use Rattle.rules.specs.declared.Token.{Token}
 use Rattle.rules.specs.declared.Packet.{Packet}
 use Rattle.rules.specs.declared.Packet.TheVariants.{Destroy, Export, Import, Release}
 use Rattle.rules.specs.declared.Refusal.{Refusal}
-use Rattle.rules.specs.declared.Verdict.TheVariants.{Fine, Broken}
 use Rattle.kept_resources.specs.Views.{resources_of, holdings_of}
 use Rattle.kept_tokens.specs.Views.{spent_at}
 use Rattle.packet_ranges.specs.Views.{Applies}
@@ -150,7 +149,7 @@ module _ (r h l dt ot ot' : List ℕ) (k : Held) (u : HeldTokens) (here : l ≡ 
         passes (Release b) k u r h dt ot h ot' (λ c. holdings_of k.live l k.made c) rows-here (λ n. on_release_packet (tokens_held u dt ot) n b) m.applied k.copied l k.target y x (λ es c. refl) (rw came at is) (sym here) (λ c. d.applies c)
         (λ c. refl) (λ c. z.tokens ∙ sym (rw (← v c) (d.spends c ∙ e))) z.room
 
-    pub releases : m.applied.verdict ≡ Fine
+    pub releases : m.applied.verdict ≡ Ok tt
         → Retokened dt (over m.place (spent_at (pick (own_in u.copied) ot dt) m.place ∷ []) (tokens_held u dt ot)) y ot'
         → Shares k u r h dt ot (Release b) x h ot'
     releases q z = released-as _ (rw q) z
@@ -158,13 +157,13 @@ module _ (r h l dt ot ot' : List ℕ) (k : Held) (u : HeldTokens) (here : l ≡ 
 -- one that is refused leaves the tokens where they are
 pub keeps-token : (r h l dt ot : List ℕ) (k : Held) (u : HeldTokens) (b : ReleaseToken) (m : Released) (w : Changed) (x : Shared) (why : Refusal) → ((k.live ≤ most) × (k.made ≤ most)) × (u.used ≤ most_tokens)
     → l ≡ pick (own_in k.copied) h r → Releases b k.live k.made u.used l (pick (own_in u.copied) ot dt) m → w ≡ changed_of m.applied k.copied k.target → x ≡ shared_of w u
-    → m.applied.verdict ≡ Broken why
+    → m.applied.verdict ≡ Err why
     → Shares k u r h dt ot (Release b) x h ot
 keeps-token r h l dt ot k u b m w x why room here d came is q =
     released-as r h l dt ot ot k u here w x u is b m d came (tokens_held u dt ot) (rw q) (record { tokens = refl; room = room.1 })
 
 -- what without_token asks
-pub spends-one : (live made used i : ℕ) (l t : List ℕ) (b : ReleaseToken) (m : Released) → Releases b live made used l t m → m.applied.verdict ≡ Fine → i ≡ m.place → i < used
+pub spends-one : (live made used i : ℕ) (l t : List ℕ) (b : ReleaseToken) (m : Released) → Releases b live made used l t m → m.applied.verdict ≡ Ok tt → i ≡ m.place → i < used
 spends-one live made used i l t b m d q same = rw same (d.place q)
 
 pub ruleset exporting = (exports, rules)

@@ -24,7 +24,7 @@ use packet_held::tokens::{HeldTokens, chosen_tokens, rebound, with_token, withou
 use packet_ranges::applied::Renamed;
 use packet_share::import::on_import;
 use packet_share::release::{Released, on_release};
-use rules::{DestroyResource, ExportSurface, ImportSurface, ReleaseToken, Token, Verdict};
+use rules::{DestroyResource, ExportSurface, ImportSurface, ReleaseToken, Token};
 use widths::u32_to_usize;
 
 // What a packet came to that needs tokens, and the tokens after it.
@@ -173,11 +173,11 @@ fn release<'a>(
     let a = x.applied;
     let verdict = a.verdict;
     match verdict {
-        Verdict::Fine => {
+        Ok(()) => {
             let held = without_token(tokens, owntokens, t, x.place);
             with_tokens(with_own(a, h.copied, h.target), held)
         }
-        Verdict::Broken(_) => with_tokens(with_own(a, h.copied, h.target), t),
+        Err(_) => with_tokens(with_own(a, h.copied, h.target), t),
     }
 }
 

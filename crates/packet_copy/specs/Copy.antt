@@ -1,5 +1,5 @@
 -- What a copy packet comes to, a law for each end. Assumes nothing.
-use Rattle.std.specs.Prelude.{◌≡◌, refl, Bool, true, false, ◌||◌, List, ℕ, ◌+◌, ◌%◌, ◌≤◌, ◌<◌, ltb, eqb}
+use Rattle.std.specs.Prelude.{◌≡◌, refl, Bool, true, false, ◌||◌, List, ℕ, ◌+◌, ◌%◌, ◌≤◌, ◌<◌, ltb, eqb, None, Option, Some}
 use Rattle.std.proofs.Common.{sym, ap, ◌∙◌, arith, rules}
 use borrow.Author.Tests.{eq-eqb, ne_eqb, lt-ltb, le-ltb}
 use Rattle.machine.specs.Machine.{pick}
@@ -24,22 +24,20 @@ use Rattle.packet_ranges.specs.Handout.{HandsOut, accepted_with, judged, resolve
 use Rattle.packet_ranges.specs.declared.applied.Applied.{Applied}
 use Rattle.packet_ranges.specs.declared.handout.Resolved.{Resolved}
 use Rattle.packet_ranges.specs.declared.handout.Resolved.TheVariants.{Missing, Past, Inside}
-use Rattle.packet_copy.specs.declared.copy.Sought.{Sought}
-use Rattle.packet_copy.specs.declared.copy.Sought.TheVariants.{NoBuffer, Live}
 
 -- ---- live_buffer
 
-abbrev kind_sought : Resource → Kind → Sought
-kind_sought r Buffer = Live r
-kind_sought r (Texture s) = NoBuffer
+abbrev kind_sought : Resource → Kind → Option Resource
+kind_sought r Buffer = Some r
+kind_sought r (Texture s) = None
 
 -- what a handle names, by the live resource that has it
-unfoldable pub buffer_of : Found Resource → Sought
-buffer_of none = NoBuffer
+unfoldable pub buffer_of : Found Resource → Option Resource
+buffer_of none = None
 buffer_of (found r) = kind_sought r r.kind
 
 module _ (live i k : ℕ) (l : List ℕ) (place : i ≡ index_of handle_of k (resources_of live l)) where
-  pub seeks-nothing : live ≤ i → NoBuffer ≡ buffer_of (lookup handle_of k (resources_of live l))
+  pub seeks-nothing : live ≤ i → None ≡ buffer_of (lookup handle_of k (resources_of live l))
   unfolding buffer_of
   seeks-nothing p = rw (resource-missing live i k l place p)
 
@@ -47,34 +45,34 @@ module _ (live i k : ℕ) (l : List ℕ) (place : i ≡ index_of handle_of k (re
     here : lookup handle_of k (resources_of live l) ≡ found r
     here = resource-found live i k l place p ∙ ap found (sym row)
 
-    pub seeks-buffer : r.kind ≡ Buffer → Live r ≡ buffer_of (lookup handle_of k (resources_of live l))
+    pub seeks-buffer : r.kind ≡ Buffer → Some r ≡ buffer_of (lookup handle_of k (resources_of live l))
     unfolding buffer_of
     seeks-buffer e = rw (here, e)
 
-    pub seeks-texture : (s : Shape) → r.kind ≡ Texture s → NoBuffer ≡ buffer_of (lookup handle_of k (resources_of live l))
+    pub seeks-texture : (s : Shape) → r.kind ≡ Texture s → None ≡ buffer_of (lookup handle_of k (resources_of live l))
     unfolding buffer_of
     seeks-texture s e = rw (here, e)
 
 pub ruleset seeking = (seeks-nothing, seeks-buffer, seeks-texture, rules)
 
-live-not-none : (r : Resource) → NoBuffer ≡ Live r → ⊥
+live-not-none : (r : Resource) → None ≡ Some r → ⊥
 live-not-none r e = let z : ◌≡◌ {A = ℕ} 0 1 = cc in omega arith
 
 -- "18 .. not a live buffer"
-kind-refused : (r : Resource) (k : Kind) (h : Holdings) (later : Outcome) → kind_sought r k ≡ NoBuffer → on_kind k h later ≡ refused bad_handle h
+kind-refused : (r : Resource) (k : Kind) (h : Holdings) (later : Outcome) → kind_sought r k ≡ None → on_kind k h later ≡ refused bad_handle h
 kind-refused r Buffer h later e = absurd (live-not-none r (sym e))
 kind-refused r (Texture s) h later e = refl
 
-no_buffer : (f : Found Resource) (h : Holdings) (later : Resource → Outcome) → buffer_of f ≡ NoBuffer → on_buffer f h later ≡ refused bad_handle h
+no_buffer : (f : Found Resource) (h : Holdings) (later : Resource → Outcome) → buffer_of f ≡ None → on_buffer f h later ≡ refused bad_handle h
 unfolding buffer_of
 no_buffer none h later e = refl
 no_buffer (found r) h later e = kind-refused r r.kind h (later r) e
 
-kind-then : (r d : Resource) (k : Kind) (h : Holdings) (later : Resource → Outcome) → kind_sought r k ≡ Live d → on_kind k h (later r) ≡ later d
+kind-then : (r d : Resource) (k : Kind) (h : Holdings) (later : Resource → Outcome) → kind_sought r k ≡ Some d → on_kind k h (later r) ≡ later d
 kind-then r d Buffer h later e = let same : r ≡ d = cc in rw same
 kind-then r d (Texture s) h later e = absurd (live-not-none d e)
 
-buffer-then : (f : Found Resource) (d : Resource) (h : Holdings) (later : Resource → Outcome) → buffer_of f ≡ Live d → on_buffer f h later ≡ later d
+buffer-then : (f : Found Resource) (d : Resource) (h : Holdings) (later : Resource → Outcome) → buffer_of f ≡ Some d → on_buffer f h later ≡ later d
 unfolding buffer_of
 buffer-then none d h later e = absurd (live-not-none d e)
 buffer-then (found r) d h later e = kind-then r d r.kind h later e
@@ -172,19 +170,19 @@ Copies n entries live resources made records c a after =
     Applies (on_copy_packet (entries_of n entries) (holdings_of live resources made records) c) a resources after
 
 module _ (n : ℕ) (entries : List ℕ) (live : ℕ) (resources : List ℕ) (made : ℕ) (records : List ℕ) (c : CopyBuffer) (room : RowsExist n live made)
-    (x : Sought) (dst : x ≡ buffer_of (lookup handle_of c.dst (resources_of live resources))) where
-  pub copies-no-dst : (a : Applied) → x ≡ NoBuffer → a ≡ refused_with bad_handle live made → Copies n entries live resources made records c a records
+    (x : Option Resource) (dst : x ≡ buffer_of (lookup handle_of c.dst (resources_of live resources))) where
+  pub copies-no-dst : (a : Applied) → x ≡ None → a ≡ refused_with bad_handle live made → Copies n entries live resources made records c a records
   unfolding on_copy_packet
   copies-no-dst a told e =
       refused-applies bad_handle n live made records a room e _ resources (no_buffer _ _ _ (sym dst ∙ told))
 
-  module _ (d : Resource) (told : x ≡ Live d) (y : Sought) (src : y ≡ buffer_of (lookup handle_of c.src (resources_of live resources))) where
-    pub copies-no-src : (a : Applied) → y ≡ NoBuffer → a ≡ refused_with bad_handle live made → Copies n entries live resources made records c a records
+  module _ (d : Resource) (told : x ≡ Some d) (y : Option Resource) (src : y ≡ buffer_of (lookup handle_of c.src (resources_of live resources))) where
+    pub copies-no-src : (a : Applied) → y ≡ None → a ≡ refused_with bad_handle live made → Copies n entries live resources made records c a records
     unfolding on_copy_packet
     copies-no-src a gone e =
         refused-applies bad_handle n live made records a room e _ resources (buffer-then _ d _ _ (sym dst ∙ told) ∙ no_buffer _ _ _ (sym src ∙ gone))
 
-    module _ (s : Resource) (some : y ≡ Live s) where
+    module _ (s : Resource) (some : y ≡ Some s) where
       both-live : on_copy_packet (entries_of n entries) (holdings_of live resources made records) c
           ≡ between (entries_of n entries) c d s (holdings_of live resources made records)
       unfolding on_copy_packet between

@@ -17,33 +17,26 @@ use packet_ranges::handout::{Resolved, hand_out, resolve};
 use rules::numbers::{
     BAD_COPY, BAD_HANDLE, HOST_BACKED, NOT_IN_TABLE, PAST_ENTRY, PAST_RESOURCE, READ_ONLY, WRITES,
 };
-use rules::{CopyBuffer, Kind, Resource, Verdict};
+use rules::{CopyBuffer, Kind, Resource};
 use widths::beyond;
 
 // The one flag of a copy, which asks for writeback.
 const WRITEBACK: u32 = 1;
 
-// What a handle names: no live buffer, or one.
-#[derive(Clone, Copy)]
-enum Sought {
-    NoBuffer,
-    Live(Resource),
-}
-
 // Looks for the live buffer that has a handle.
-fn live_buffer(resources: &Resources, live: usize, handle: u32) -> Sought
+fn live_buffer(resources: &Resources, live: usize, handle: u32) -> Option<Resource>
     requires { live ≤ most }
     ensures { result ≡ buffer_of (lookup handle_of handle (resources_of live resources.now)) }
 {
     let place = find_resource(resources, live, handle);
     if place >= live {
-        return Sought::NoBuffer;
+        return None;
     }
     let r = resource_row(resources, place);
     let kind = r.kind;
     match kind {
-        Kind::Buffer => Sought::Live(r),
-        Kind::Texture(_) => Sought::NoBuffer,
+        Kind::Buffer => Some(r),
+        Kind::Texture(_) => None,
     }
 }
 
@@ -105,7 +98,7 @@ fn copy_between(
         return write_back(entries, kept, records, made, live, c, dst);
     }
     Applied {
-        verdict: Verdict::Fine,
+        verdict: Ok(()),
         live,
         made,
     }
@@ -127,10 +120,10 @@ pub fn on_copy(
         result resources.now records.new }
 {
     match live_buffer(resources, live, c.dst) {
-        Sought::NoBuffer => refuse(BAD_HANDLE, live, made),
-        Sought::Live(dst) => match live_buffer(resources, live, c.src) {
-            Sought::NoBuffer => refuse(BAD_HANDLE, live, made),
-            Sought::Live(src) => copy_between(entries, kept, records, made, live, c, dst, src),
+        None => refuse(BAD_HANDLE, live, made),
+        Some(dst) => match live_buffer(resources, live, c.src) {
+            None => refuse(BAD_HANDLE, live, made),
+            Some(src) => copy_between(entries, kept, records, made, live, c, dst, src),
         },
     }
 }

@@ -1,5 +1,5 @@
 -- A resource created, judged in the order of the rules and then stored: what the code asks. Assumes nothing.
-use Rattle.std.specs.Prelude.{◌≡◌, Bool, true, false, not, List, ℕ, ◌+◌, ◌^◌, ◌≤◌, ◌<◌, ltb}
+use Rattle.std.specs.Prelude.{◌≡◌, Bool, true, false, not, List, ℕ, ◌+◌, ◌^◌, ◌≤◌, ◌<◌, ltb, Ok}
 use Rattle.std.proofs.Common.{sym, ap, subst, ◌∙◌, add-zero, arith, rules}
 use borrow.Author.Tests.{ltb-false, le-leb, lt-leb, eq-eqb, ne_eqb}
 use Rattle.rules.specs.Numbers.{bad_handle, too_many, bad_shape, not_in_table, past_entry, most, backs}
@@ -10,7 +10,6 @@ use Rattle.rules.specs.Packets.{Holdings, Outcome, accepted, refused, refuse, fu
 use Rattle.rules.specs.declared.Entry.{Entry}
 use Rattle.rules.specs.declared.Resource.{Resource}
 use Rattle.rules.specs.declared.Record.{Record}
-use Rattle.rules.specs.declared.Verdict.TheVariants.{Fine}
 use Rattle.rows.specs.Rows.{row_at, length-table}
 use Rattle.kept_entries.specs.Views.{RowRead, entries_of}
 use Rattle.kept_entries.specs.Rows.{entry_found, entry-missing}
@@ -35,7 +34,7 @@ module _ (live made : ℕ) (resources : List ℕ) (r : Resource) (room : (live �
       stays live made too_many resources l _ a room.0 room.1 e (rw (length-table resource_of_row 12 live resources, le-leb _ _ h))
 
   pub hosted-stored : (m : List ℕ) → live < most → resources_of (live + 1) m ≡ pushed (resources_of live resources) r
-      → (l : List ℕ) → Applies (create_hosted (holdings_of live resources made l) r) (record { verdict = Fine; live = live + 1; made = made }) m l
+      → (l : List ℕ) → Applies (create_hosted (holdings_of live resources made l) r) (record { verdict = Ok tt; live = live + 1; made = made }) m l
   unfolding create_hosted
   hosted-stored m h e l =
       record { outcome = rw (length-table resource_of_row 12 live resources, lt-leb _ _ h, e); live = omega arith; made = room.1 }
@@ -67,7 +66,7 @@ module _ (live made : ℕ) (resources records : List ℕ) (r : Resource) (c : Re
         (rw (length-table resource_of_row 12 live resources, lt-leb _ _ h, length-table record_of 5 made records, le-leb _ _ p))
 
     pub both_stored : (resources' records' : List ℕ) → made < most → resources_of (live + 1) resources' ≡ pushed (resources_of live resources) r → records_of (made + 1) records' ≡ pushed (records_of made records) c
-        → Applies (store_backed (holdings_of live resources made records) r c) (record { verdict = Fine; live = live + 1; made = made + 1 }) resources' records'
+        → Applies (store_backed (holdings_of live resources made records) r c) (record { verdict = Ok tt; live = live + 1; made = made + 1 }) resources' records'
     unfolding store_backed
     both_stored resources' records' p s t =
         record {

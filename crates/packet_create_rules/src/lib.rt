@@ -15,7 +15,7 @@ use kept_resources::resources::{Resources, find_resource};
 use kept_storing::push_resource;
 use packet_ranges::applied::{Applied, refuse};
 use rules::numbers::{BACKS, BAD_HANDLE, BAD_SHAPE, MOST_ROWS, NOT_IN_TABLE, PAST_ENTRY, TOO_MANY};
-use rules::{Record, Resource, Verdict};
+use rules::{Record, Resource};
 use widths::beyond;
 
 // A host-backed resource asks for a row only. It makes no record, so any records stay as they are.
@@ -28,7 +28,7 @@ fn create_hosted(own: &mut Resources, live: usize, made: usize, r: Resource) -> 
     }
     push_resource(own, live, r);
     Applied {
-        verdict: Verdict::Fine,
+        verdict: Ok(()),
         live: live + 1,
         made,
     }
@@ -55,7 +55,7 @@ fn store_backed(
     push_resource(own, live, r);
     push_record(records, made, c);
     Applied {
-        verdict: Verdict::Fine,
+        verdict: Ok(()),
         live: live + 1,
         made: made + 1,
     }

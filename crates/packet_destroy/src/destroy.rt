@@ -10,7 +10,7 @@ use kept_resources::resources::{Resources, find_resource, resource_row};
 use kept_storing::remove_resource;
 use packet_ranges::applied::{Applied, Renamed, refuse, refuse_renaming};
 use rules::numbers::BAD_HANDLE;
-use rules::{DestroyResource, Verdict};
+use rules::DestroyResource;
 
 // Applies a destroy packet, in place.
 pub fn on_destroy(own: &mut Resources, live: usize, made: usize, c: DestroyResource) -> Renamed
@@ -26,7 +26,7 @@ pub fn on_destroy(own: &mut Resources, live: usize, made: usize, c: DestroyResou
     let left = live - 1;
     remove_resource(own, live, place);
     let applied = Applied {
-        verdict: Verdict::Fine,
+        verdict: Ok(()),
         live: left,
         made,
     };
@@ -72,7 +72,7 @@ pub fn destroy_unshared(
     let kind = r.kind;
     if shareable(kind) {
         let applied = Applied {
-            verdict: Verdict::Fine,
+            verdict: Ok(()),
             live,
             made,
         };
@@ -83,7 +83,7 @@ pub fn destroy_unshared(
     }
     remove_resource(own, live, place);
     let applied = Applied {
-        verdict: Verdict::Fine,
+        verdict: Ok(()),
         live: live - 1,
         made,
     };

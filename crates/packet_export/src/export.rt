@@ -9,7 +9,7 @@ use kept_tokens::finding::find_token;
 use kept_tokens::{Tokens, token_row};
 use packet_ranges::applied::{Applied, refuse};
 use rules::numbers::{BAD_HANDLE, BAD_SHAPE, BAD_TOKEN, MOST_TOKENS, TOO_MANY};
-use rules::{ExportSurface, Verdict};
+use rules::ExportSurface;
 
 // What an export packet came to: whether the token is a new one, and the name that it is bound to then.
 #[derive(Clone, Copy)]
@@ -40,7 +40,7 @@ fn bind(tokens: &Tokens, used: usize, live: usize, made: usize, low: u32, token:
         return refuse_export(BAD_TOKEN, live, made);
     }
     let applied = Applied {
-        verdict: Verdict::Fine,
+        verdict: Ok(()),
         live,
         made,
     };

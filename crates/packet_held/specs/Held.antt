@@ -1,5 +1,5 @@
 -- What a submission holds, and how a packet leaves it: what its code asks. Assumes nothing.
-use Rattle.std.specs.Prelude.{◌≡◌, List, ℕ, eqb}
+use Rattle.std.specs.Prelude.{◌≡◌, List, ℕ, eqb, Err, Ok}
 use Rattle.std.proofs.Common.{rules, eq-eqb, ne_eqb}
 use Rattle.machine.specs.Machine.{pick}
 use Rattle.rules.specs.Packets.{Holdings, Progress, if-fine}
@@ -7,8 +7,6 @@ use Rattle.rules.specs.declared.Refusal.{Refusal}
 use Rattle.rules.specs.declared.Packet.{Packet}
 use Rattle.rules.specs.declared.Packet.TheVariants.{Destroy, Export, Import, Release, Unknown}
 use Rattle.rules.specs.declared.Token.{Token}
-use Rattle.rules.specs.declared.Verdict.{Verdict}
-use Rattle.rules.specs.declared.Verdict.TheVariants.{Fine, Broken}
 use Rattle.kept_resources.specs.Views.{resources_of, holdings_of, progress_of}
 use Rattle.packet_ranges.specs.declared.applied.Applied.{Applied}
 use Rattle.packet_held.specs.Tokens.{own_in}
@@ -16,11 +14,12 @@ use Rattle.packet_held.specs.declared.held.Changed.{Changed}
 use Rattle.packet_held.specs.declared.held.Held.{Held}
 use Rattle.packet_held.specs.declared.held.SharedPacket.{SharedPacket}
 use Rattle.packet_held.specs.declared.held.SharedPacket.TheVariants.{Nothing, Destroy as SharedDestroy, Export as SharedExport, Import as SharedImport, Release as SharedRelease}
+use Rattle.rules.specs.Judging.{Verdict}
 
 -- the number of the rule that is broken; a rule's number is never 0
 abbrev pub number_of : Verdict → ℕ
-number_of Fine = 0
-number_of (Broken r) = r.code
+number_of (Ok tt) = 0
+number_of (Err r) = r.code
 
 -- what was applied, with the rest of what is then held
 abbrev pub changed_of : Applied → ℕ → ℕ → Changed
@@ -55,10 +54,10 @@ pub ruleset numbering = (numbered, rules)
 -- ---- if_fine, without
 
 module _ (v : Verdict) (new old : ℕ) where
-  pub fine-new : v ≡ Fine → new ≡ if-fine v new old
+  pub fine-new : v ≡ Ok tt → new ≡ if-fine v new old
   fine-new e = rw e
 
-  pub broken-old : (r : Refusal) → v ≡ Broken r → old ≡ if-fine v new old
+  pub broken-old : (r : Refusal) → v ≡ Err r → old ≡ if-fine v new old
   broken-old r e = rw e
 
 pub ruleset leaving_target = (fine-new, broken-old, rules)

@@ -11,7 +11,7 @@ ghost use Rattle.packet_held.specs.Held.{number_of, changed_of};
 use kept_resources::resources::Resources;
 use kept_storing::copy_resources;
 use packet_ranges::applied::Applied;
-use rules::{DestroyResource, ExportSurface, ImportSurface, ReleaseToken, Verdict};
+use rules::{DestroyResource, ExportSurface, ImportSurface, Refusal, ReleaseToken};
 
 // What a submission holds, beside the rows of its tables and its tokens: how many resources and records there are, whether the resources are in
 // the submission's own table, 0 if not, and the handle of its target, 0 for none.
@@ -42,12 +42,12 @@ pub enum SharedPacket {
 }
 
 // The number of the rule that is broken, 0 if none is.
-pub fn number(verdict: Verdict) -> u32
+pub fn number(verdict: Result<(), Refusal>) -> u32
     ensures { result ≡ number_of verdict }
 {
     match verdict {
-        Verdict::Fine => 0,
-        Verdict::Broken(why) => why.code,
+        Ok(()) => 0,
+        Err(why) => why.code,
     }
 }
 
@@ -67,12 +67,12 @@ pub fn with_own(a: Applied, copied: u32, target: u32) -> Changed
 }
 
 // The target after a packet that would change it: one that is refused does not.
-pub fn if_fine(verdict: Verdict, new: u32, old: u32) -> u32
+pub fn if_fine(verdict: Result<(), Refusal>, new: u32, old: u32) -> u32
     ensures { result ≡ if-fine verdict new old }
 {
     match verdict {
-        Verdict::Fine => new,
-        Verdict::Broken(_) => old,
+        Ok(()) => new,
+        Err(_) => old,
     }
 }
 

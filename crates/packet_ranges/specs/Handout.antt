@@ -1,5 +1,5 @@
 -- A range of a resource: its end, its entry, its record, and what handing it out comes to. Assumes nothing.
-use Rattle.std.specs.Prelude.{◌≡◌, Bool, true, false, List, ℕ, ◌+◌, ◌-◌, ◌^◌, ◌≤◌, ◌<◌, ltb}
+use Rattle.std.specs.Prelude.{◌≡◌, Bool, true, false, List, ℕ, ◌+◌, ◌-◌, ◌^◌, ◌≤◌, ◌<◌, ltb, Ok}
 use Rattle.std.proofs.Math.Path.{refl}
 use Rattle.std.proofs.Common.{sym, ap, ◌∙◌, add_assoc, rules}
 use native.Mathlib.Omega.{arith}
@@ -13,7 +13,6 @@ use Rattle.rules.specs.Packets.{Holdings, Outcome, refused, refuse, on_entry, ra
 use Rattle.rules.specs.declared.Entry.{Entry}
 use Rattle.rules.specs.declared.Resource.{Resource}
 use Rattle.rules.specs.declared.Record.{Record}
-use Rattle.rules.specs.declared.Verdict.TheVariants.{Fine}
 use Rattle.rows.specs.Rows.{row_at, length-table}
 use Rattle.widths.specs.Beyond.{long, short}
 use Rattle.kept_entries.specs.Views.{RowRead, entries_of}
@@ -95,7 +94,7 @@ pub record HandsOut (o : Holdings → Outcome) (live made : ℕ) (before : List 
   pub applies : (resources : List ℕ) → Applies (o (holdings_of live resources made before)) a resources after
 
 abbrev pub accepted_with : ℕ → ℕ → Applied
-accepted_with live made = record { verdict = Fine; live = live; made = made }
+accepted_with live made = record { verdict = Ok tt; live = live; made = made }
 
 -- a refusal with the rule's number keeps what was held
 module _ (code n live made : ℕ) (records : List ℕ) (a : Applied) (room : RowsExist n live made) (e : a ≡ refused_with code live made) where

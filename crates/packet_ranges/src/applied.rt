@@ -2,12 +2,12 @@
 ghost use Rattle.std.specs.Prelude.{◌≡◌, ◌≤◌};
 ghost use Rattle.packet_ranges.specs.Views.{refused_with, renamed_nothing};
 
-use rules::{Refusal, Verdict};
+use rules::Refusal;
 
 // A verdict, and the counts of live resources and of records made.
 #[derive(Clone, Copy)]
 pub struct Applied {
-    pub verdict: Verdict,
+    pub verdict: Result<(), Refusal>,
     pub live: usize,
     pub made: usize,
 }
@@ -27,7 +27,7 @@ pub fn refuse(code: u32, live: usize, made: usize) -> Applied
 {
     let why = Refusal { code };
     Applied {
-        verdict: Verdict::Broken(why),
+        verdict: Err(why),
         live,
         made,
     }

@@ -11,7 +11,7 @@ use crate::applied::{Applied, refuse};
 use kept_entries::{Entries, entry_row, find_entry};
 use kept_records::{Records, push_record};
 use rules::numbers::{MOST_ROWS, TOO_MANY};
-use rules::{Record, Resource, Verdict};
+use rules::{Record, Resource};
 use widths::beyond;
 
 // What a range of a resource comes to in this submission's table.
@@ -73,7 +73,7 @@ pub fn hand_out(records: &mut Records, made: usize, live: usize, c: Record) -> A
 {
     if c.length == 0 {
         return Applied {
-            verdict: Verdict::Fine,
+            verdict: Ok(()),
             live,
             made,
         };
@@ -83,7 +83,7 @@ pub fn hand_out(records: &mut Records, made: usize, live: usize, c: Record) -> A
     }
     push_record(records, made, c);
     Applied {
-        verdict: Verdict::Fine,
+        verdict: Ok(()),
         live,
         made: made + 1,
     }

@@ -1,5 +1,5 @@
 -- What a release packet comes to, whatever records are held. Assumes nothing.
-use Rattle.std.specs.Prelude.{◌≡◌, List, [], ◌∷◌, ℕ, ◌≤◌, ◌<◌}
+use Rattle.std.specs.Prelude.{◌≡◌, List, [], ◌∷◌, ℕ, ◌≤◌, ◌<◌, Err, Ok}
 use Rattle.std.proofs.Common.{ap, arith, rules}
 use Rattle.rules.specs.Numbers.{unbound_token, most, most_tokens}
 use Rattle.rules.specs.Lists.{index_of, over}
@@ -7,8 +7,6 @@ use Rattle.rules.specs.Names.{token_of}
 use Rattle.rules.specs.Packets.{if-fine, on_release_packet, tokens_after}
 use Rattle.rules.specs.declared.Packet.TheVariants.{Release}
 use Rattle.rules.specs.declared.ReleaseToken.{ReleaseToken}
-use Rattle.rules.specs.declared.Verdict.{Verdict}
-use Rattle.rules.specs.declared.Verdict.TheVariants.{Fine, Broken}
 use Rattle.kept_resources.specs.Views.{holdings_of}
 use Rattle.kept_tokens.specs.Views.{tokens_of, spent_at}
 use Rattle.kept_tokens.specs.Tokens.{token-at}
@@ -17,20 +15,21 @@ use Rattle.packet_ranges.specs.Handout.{accepted_with}
 use Rattle.packet_ranges.specs.declared.applied.Applied.{Applied}
 use Rattle.packet_share.specs.Bound.{BoundAt}
 use Rattle.packet_share.specs.declared.release.Released.{Released}
+use Rattle.rules.specs.Judging.{Verdict}
 
 -- the answer is the rules' outcome; where the packet is accepted, the token at the place is the one that is spent
 pub record Releases (c : ReleaseToken) (live made used : ℕ) (l t : List ℕ) (x : Released) : Type 0 where
   pub applies : (records : List ℕ) → Applies (on_release_packet (tokens_of used t) (holdings_of live l made records) c) x.applied l records
-  pub place : x.applied.verdict ≡ Fine → x.place < used
+  pub place : x.applied.verdict ≡ Ok tt → x.place < used
   pub spends : (records : List ℕ)
       → tokens_after (Release c) x.applied.verdict (holdings_of live l made records) (tokens_of used t)
       ≡ if-fine x.applied.verdict (over x.place (spent_at t x.place ∷ []) (tokens_of used t)) (tokens_of used t)
 
 -- the place that an accepted packet names is one of the tokens
-pub released-place : (c : ReleaseToken) (live made used : ℕ) (l t : List ℕ) (x : Released) → Releases c live made used l t x → x.applied.verdict ≡ Fine → x.place < used
+pub released-place : (c : ReleaseToken) (live made used : ℕ) (l t : List ℕ) (x : Released) → Releases c live made used l t x → x.applied.verdict ≡ Ok tt → x.place < used
 released-place c live made used l t x r e = r.place e
 
-broken-not-fine : (x : Verdict) (y : _) → x ≡ Broken y → x ≡ Fine → ⊥
+broken-not-fine : (x : Verdict) (y : _) → x ≡ Err y → x ≡ Ok tt → ⊥
 broken-not-fine x y e f = let z : ◌≡◌ {A = ℕ} 0 1 = cc in omega arith
 
 module _ (c : ReleaseToken) (live made used i r : ℕ) (l t : List ℕ) (room : ((live ≤ most) × (made ≤ most)) × (used ≤ most_tokens)) (place : i ≡ index_of token_of c.token (tokens_of used t)) (at : BoundAt live l used t i r) where

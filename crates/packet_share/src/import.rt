@@ -12,7 +12,7 @@ use kept_tokens::Tokens;
 use kept_tokens::finding::find_token;
 use packet_ranges::applied::{Applied, Renamed, refuse_renaming};
 use rules::numbers::{BAD_HANDLE, MOST_ROWS, TOO_MANY, UNBOUND_TOKEN};
-use rules::{ImportSurface, Resource, Verdict};
+use rules::{ImportSurface, Resource};
 
 // Whether a handle is no new name: it is 0, or live.
 fn is_taken(resources: &Resources, live: usize, handle: u32) -> bool
@@ -42,7 +42,7 @@ fn add_name(own: &mut Resources, live: usize, made: usize, handle: u32, r: Resou
     };
     push_resource(own, live, named);
     let applied = Applied {
-        verdict: Verdict::Fine,
+        verdict: Ok(()),
         live: live + 1,
         made,
     };

@@ -9,7 +9,7 @@ use kept_tokens::Tokens;
 use kept_tokens::finding::find_token;
 use packet_ranges::applied::{Applied, refuse};
 use rules::numbers::UNBOUND_TOKEN;
-use rules::{ReleaseToken, Verdict};
+use rules::ReleaseToken;
 
 // What a release packet came to, and the place of the token that is spent, if it was accepted.
 #[derive(Clone, Copy)]
@@ -37,7 +37,7 @@ pub fn on_release(
         return Released { applied, place: 0 };
     }
     let applied = Applied {
-        verdict: Verdict::Fine,
+        verdict: Ok(()),
         live,
         made,
     };

@@ -9,7 +9,7 @@ ghost use Rattle.packet_state.specs.Values.{Views, Clears};
 use floats::{below, bits_of, not_finite, outside};
 use packet_ranges::applied::{Applied, refuse};
 use rules::numbers::{BAD_STATE, MOST_FLAGS};
-use rules::{ClearValues, SetViewport, Verdict};
+use rules::{ClearValues, SetViewport};
 
 // The bits of 0.
 const FLOAT_ZERO: u32 = 0;
@@ -122,7 +122,7 @@ pub fn on_viewport(live: usize, made: usize, v: SetViewport) -> Applied
         return refuse(BAD_STATE, live, made);
     }
     Applied {
-        verdict: Verdict::Fine,
+        verdict: Ok(()),
         live,
         made,
     }
@@ -167,7 +167,7 @@ pub fn on_clear(live: usize, made: usize, c: ClearValues) -> Applied
         return refuse(BAD_STATE, live, made);
     }
     Applied {
-        verdict: Verdict::Fine,
+        verdict: Ok(()),
         live,
         made,
     }

@@ -1,5 +1,5 @@
 -- What a target and a scissor come to, a law for each end. Assumes nothing.
-use Rattle.std.specs.Prelude.{◌≡◌, refl, Bool, true, false, List, [], ℕ, ◌+◌, ◌^◌, ◌≤◌, ◌<◌, ℤ, nat_abs}
+use Rattle.std.specs.Prelude.{◌≡◌, refl, Bool, true, false, List, [], ℕ, ◌+◌, ◌^◌, ◌≤◌, ◌<◌, ℤ, nat_abs, None, Option, Some}
 use Rattle.std.proofs.Common.{sym, ◌∙◌, rules, to_z, of_z}
 use Rattle.std.proofs.Math.Path.{ap}
 use native.Mathlib.Omega.{arith}
@@ -24,23 +24,21 @@ use Rattle.kept_resources.specs.Resources.{resource-found, resource-missing}
 use Rattle.packet_ranges.specs.Views.{Applies, refused_with}
 use Rattle.packet_ranges.specs.Handout.{HandsOut, accepted_with}
 use Rattle.packet_ranges.specs.declared.applied.Applied.{Applied}
-use Rattle.packet_target.specs.declared.Aimed.{Aimed}
-use Rattle.packet_target.specs.declared.Aimed.TheVariants.{Nothing, At}
 
 -- ---- live_texture
 
 -- what a handle names, by the live texture that has it
-abbrev pub aimed_of : Found Shape → Aimed
-aimed_of none = Nothing
-aimed_of (found s) = At s
+abbrev pub aimed_of : Found Shape → Option Shape
+aimed_of none = None
+aimed_of (found s) = Some s
 
 module _ (live k : ℕ) (l : List ℕ) where
-  pub aims-at-zero : k ≡ 0 → Nothing ≡ aimed_of (live_texture k (holdings_of live l 0 []))
+  pub aims-at-zero : k ≡ 0 → None ≡ aimed_of (live_texture k (holdings_of live l 0 []))
   unfolding live_texture
   aims-at-zero e = rw (eq-eqb _ _ e)
 
   module _ (n : k ≡ 0 → ⊥) (i : ℕ) (place : i ≡ index_of handle_of k (resources_of live l)) where
-    pub aims-at-nothing : live ≤ i → Nothing ≡ aimed_of (live_texture k (holdings_of live l 0 []))
+    pub aims-at-nothing : live ≤ i → None ≡ aimed_of (live_texture k (holdings_of live l 0 []))
     unfolding live_texture
     aims-at-nothing p = rw (ne_eqb _ _ n, resource-missing live i k l place p)
 
@@ -48,31 +46,31 @@ module _ (live k : ℕ) (l : List ℕ) where
       here : lookup handle_of k (resources_of live l) ≡ found r
       here = resource-found live i k l place p ∙ ap found (sym row)
 
-      pub aims-at-buffer : r.kind ≡ Buffer → Nothing ≡ aimed_of (live_texture k (holdings_of live l 0 []))
+      pub aims-at-buffer : r.kind ≡ Buffer → None ≡ aimed_of (live_texture k (holdings_of live l 0 []))
       unfolding live_texture
       aims-at-buffer e = rw (ne_eqb _ _ n, here, e)
 
-      pub aims-at-texture : (s : Shape) → r.kind ≡ Texture s → At s ≡ aimed_of (live_texture k (holdings_of live l 0 []))
+      pub aims-at-texture : (s : Shape) → r.kind ≡ Texture s → Some s ≡ aimed_of (live_texture k (holdings_of live l 0 []))
       unfolding live_texture
       aims-at-texture s e = rw (ne_eqb _ _ n, here, e)
 
 pub ruleset aiming = (aims-at-zero, aims-at-nothing, aims-at-buffer, aims-at-texture, rules)
 
-aimed-none : (f : Found Shape) → aimed_of f ≡ Nothing → f ≡ none
+aimed-none : (f : Found Shape) → aimed_of f ≡ None → f ≡ none
 aimed-none none e = refl
 aimed-none (found s) e = cc
 
-aimed-found : (f : Found Shape) (s : Shape) → aimed_of f ≡ At s → f ≡ found s
+aimed-found : (f : Found Shape) (s : Shape) → aimed_of f ≡ Some s → f ≡ found s
 aimed-found none s e = cc
 aimed-found (found r) s e = cc
 
 -- which texture is live, whatever the records are
-module _ (live k : ℕ) (resources : List ℕ) (x : Aimed) (is : x ≡ aimed_of (live_texture k (holdings_of live resources 0 []))) (made : ℕ) (records : List ℕ) where
-  no-texture : x ≡ Nothing → live_texture k (holdings_of live resources made records) ≡ none
+module _ (live k : ℕ) (resources : List ℕ) (x : Option Shape) (is : x ≡ aimed_of (live_texture k (holdings_of live resources 0 []))) (made : ℕ) (records : List ℕ) where
+  no-texture : x ≡ None → live_texture k (holdings_of live resources made records) ≡ none
   unfolding live_texture
   no-texture told = aimed-none _ (sym is ∙ told)
 
-  this-texture : (s : Shape) → x ≡ At s → live_texture k (holdings_of live resources made records) ≡ found s
+  this-texture : (s : Shape) → x ≡ Some s → live_texture k (holdings_of live resources made records) ≡ found s
   unfolding live_texture
   this-texture s told = aimed-found _ s (sym is ∙ told)
 
@@ -83,14 +81,14 @@ pub record Targets (c : SetTarget) (live made : ℕ) (resources : List ℕ) (a :
   pub applies : (records : List ℕ) → Applies (on_target_packet (holdings_of live resources made records) c) a resources records
 
 module _ (c : SetTarget) (live made : ℕ) (resources : List ℕ) (room : (live ≤ most) × (made ≤ most))
-    (x : Aimed) (is : x ≡ aimed_of (live_texture c.handle (holdings_of live resources 0 []))) where
-  pub targets-nothing : (a : Applied) → x ≡ Nothing → a ≡ refused_with bad_handle live made → Targets c live made resources a
+    (x : Option Shape) (is : x ≡ aimed_of (live_texture c.handle (holdings_of live resources 0 []))) where
+  pub targets-nothing : (a : Applied) → x ≡ None → a ≡ refused_with bad_handle live made → Targets c live made resources a
   unfolding on_target_packet
   targets-nothing a told e =
       rw e
       (record { applies = λ records. record { outcome = rw (no-texture live c.handle resources x is made records told); live = room.0; made = room.1 } })
 
-  pub targets-texture : (s : Shape) → x ≡ At s → Targets c live made resources (accepted_with live made)
+  pub targets-texture : (s : Shape) → x ≡ Some s → Targets c live made resources (accepted_with live made)
   unfolding on_target_packet
   targets-texture s told =
       record { applies = λ records. record { outcome = rw (this-texture live c.handle resources x is made records s told); live = room.0; made = room.1 } }
@@ -173,15 +171,15 @@ pub ruleset clipping = (clips-badly, clips-too-many, clips-one, rules)
 -- ---- on_scissor
 
 module _ (live : ℕ) (resources : List ℕ) (made : ℕ) (records : List ℕ) (target : ℕ) (c : SetScissor) (room : (live ≤ most) × (made ≤ most))
-    (x : Aimed) (is : x ≡ aimed_of (live_texture target (holdings_of live resources 0 []))) where
-  pub cuts_nothing : (a : Applied) → x ≡ Nothing → a ≡ refused_with bad_state live made
+    (x : Option Shape) (is : x ≡ aimed_of (live_texture target (holdings_of live resources 0 []))) where
+  pub cuts_nothing : (a : Applied) → x ≡ None → a ≡ refused_with bad_state live made
       → Applies (on_scissor_packet target (holdings_of live resources made records) c) a resources records
   unfolding on_scissor_packet
   cuts_nothing a told e =
       rw e
       (record { outcome = rw (no-texture live target resources x is made records told); live = room.0; made = room.1 })
 
-  pub cuts-texture : (s : Shape) (a : Applied) (after : List ℕ) → x ≡ At s → HandsOut (clipped s c) live made records a after
+  pub cuts-texture : (s : Shape) (a : Applied) (after : List ℕ) → x ≡ Some s → HandsOut (clipped s c) live made records a after
       → Applies (on_scissor_packet target (holdings_of live resources made records) c) a resources after
   unfolding on_scissor_packet clipped
   cuts-texture s a after told hands =

@@ -14,34 +14,27 @@ use kept_records::{Records, push_record};
 use kept_resources::resources::{Resources, find_resource, resource_row};
 use packet_ranges::applied::{Applied, refuse};
 use rules::numbers::{BAD_HANDLE, BAD_STATE, CLIPS, MOST_ROWS, TOO_MANY};
-use rules::{Kind, Record, SetScissor, SetTarget, Shape, Verdict};
+use rules::{Kind, Record, SetScissor, SetTarget, Shape};
 use signed::{begins, common, is_negative};
 use widths::u32_to_word;
 
-// What a handle names: no live texture, or one of a shape.
-#[derive(Clone, Copy)]
-enum Aimed {
-    Nothing,
-    At(Shape),
-}
-
 // Looks for the live texture that has a handle. Handle 0 is not live.
-fn live_texture(resources: &Resources, live: usize, handle: u32) -> Aimed
+fn live_texture(resources: &Resources, live: usize, handle: u32) -> Option<Shape>
     requires { live ≤ most }
     ensures { result ≡ aimed_of (live_texture handle (holdings_of live resources.now 0 [])) }
 {
     if handle == 0 {
-        return Aimed::Nothing;
+        return None;
     }
     let place = find_resource(resources, live, handle);
     if place >= live {
-        return Aimed::Nothing;
+        return None;
     }
     let r = resource_row(resources, place);
     let kind = r.kind;
     match kind {
-        Kind::Buffer => Aimed::Nothing,
-        Kind::Texture(shape) => Aimed::At(shape),
+        Kind::Buffer => None,
+        Kind::Texture(shape) => Some(shape),
     }
 }
 
@@ -51,9 +44,9 @@ pub fn on_target(resources: &Resources, live: usize, made: usize, c: SetTarget) 
     ensures { Targets c live made resources.now result }
 {
     match live_texture(resources, live, c.handle) {
-        Aimed::Nothing => refuse(BAD_HANDLE, live, made),
-        Aimed::At(_) => Applied {
-            verdict: Verdict::Fine,
+        None => refuse(BAD_HANDLE, live, made),
+        Some(_) => Applied {
+            verdict: Ok(()),
             live,
             made,
         },
@@ -112,7 +105,7 @@ fn clip_to(records: &mut Records, made: usize, live: usize, shape: Shape, c: Set
     let clip = clip_of(shape, c);
     push_record(records, made, clip);
     Applied {
-        verdict: Verdict::Fine,
+        verdict: Ok(()),
         live,
         made: made + 1,
     }
@@ -132,7 +125,7 @@ pub fn on_scissor(
         result resources.now records.new }
 {
     match live_texture(resources, live, target) {
-        Aimed::Nothing => refuse(BAD_STATE, live, made),
-        Aimed::At(shape) => clip_to(records, made, live, shape, c),
+        None => refuse(BAD_STATE, live, made),
+        Some(shape) => clip_to(records, made, live, shape, c),
     }
 }

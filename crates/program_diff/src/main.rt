@@ -6,7 +6,7 @@ ghost use Rattle.std.specs.Prelude.{◌≡◌, length};
 
 use diff_calls::{next_at, onward, pair_at, parts};
 use program_lines::{say, say_named, say_number};
-use rules::{Class, Cursor, Offset, Parting, PartsAnswer, StartAnswer};
+use rules::{Class, Cursor};
 
 // The most bytes of a stream, and so of offsets in a packet and of packets.
 const LONGEST: usize = 65536;
@@ -38,8 +38,8 @@ fn say_offsets(first: &[u8], second: &[u8], cursor: Cursor) {
     let mut from: usize = 0;
     for k in 0..LONGEST {
         match next_at(first, second, cursor, from) {
-            Offset::Nowhere => return,
-            Offset::At(j) => {
+            None => return,
+            Some(j) => {
                 say_offset(k, j);
                 from = behind(j);
             }
@@ -93,10 +93,10 @@ fn say_pairs(first: &[u8], second: &[u8], start: Cursor) {
 }
 
 // The line of the first packet index that is not equal.
-fn say_parting(x: Parting) {
+fn say_parting(x: Option<usize>) {
     match x {
-        Parting::Never => say(b"first=none\n"),
-        Parting::At(i) => {
+        None => say(b"first=none\n"),
+        Some(i) => {
             say_named(b"first=", i as u64);
             say(b"\n");
         }
@@ -111,12 +111,12 @@ fn say_refused(code: u32, which: u32) {
 
 fn report(first: &[u8], second: &[u8]) {
     match parts(first, second) {
-        PartsAnswer::Refused(code, which) => say_refused(code, which),
-        PartsAnswer::Is(parting) => {
+        Err(e) => say_refused(e.code, e.which),
+        Ok(parting) => {
             say_parting(parting);
             match diff_calls::start(first, second) {
-                StartAnswer::Refused(code, which) => say_refused(code, which),
-                StartAnswer::Is(cursor) => say_pairs(first, second, cursor),
+                Err(e) => say_refused(e.code, e.which),
+                Ok(cursor) => say_pairs(first, second, cursor),
             }
         }
     }

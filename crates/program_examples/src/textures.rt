@@ -2,7 +2,7 @@
 use crate::lines::{say_example, say_judged};
 use program_lines::{say, say_count, say_named, say_number};
 use rules::numbers::{BAD_SHAPE, LONGEST_SIDE};
-use rules::{Shape, Start};
+use rules::Shape;
 
 // ---- a line for each thing that can be asked of a shape
 
@@ -61,8 +61,8 @@ fn start_line(example: u32, s: Shape, pitch: u32, index: u32) {
     say_named(b", index ", index as u64);
     say(b" starts at: ");
     match texture_sizes::subresource_start(s, pitch, index) {
-        Start::At(place) => say_number(place),
-        Start::Nowhere => say(b"nowhere"),
+        Some(place) => say_number(place),
+        None => say(b"nowhere"),
     }
     say(b"\n");
 }

@@ -1,5 +1,5 @@
 -- The theorems of specs/Main.antt, and what they rest on. Assumes nothing.
-use Rattle.std.specs.Prelude.{◌≡◌, refl, Bool, true, false, List, [], ◌++◌, ◌⊎◌, ℕ, ◌+◌, ◌≤◌, ◌<◌, length, take}
+use Rattle.std.specs.Prelude.{◌≡◌, refl, Bool, true, false, List, [], ◌++◌, ◌⊎◌, ℕ, ◌+◌, ◌≤◌, ◌<◌, length, take, Ok}
 use Rattle.std.proofs.Common.{ap, ◌∙◌, sym, subst, inl, inr, ⊎_elim, arith}
 use Rattle.machine.specs.Machine.{run_none, run-stop}
 use Rattle.rules.specs.Numbers.{done, host_failed, clips, most, in_work}
@@ -23,7 +23,6 @@ use Rattle.rules.specs.declared.Stream.{Stream}
 use Rattle.rules.specs.declared.SetScissor.{SetScissor}
 use Rattle.rules.specs.declared.DestroyResource.{DestroyResource}
 use Rattle.rules.specs.declared.ImportSurface.{ImportSurface}
-use Rattle.rules.specs.declared.Verdict.TheVariants.{Fine}
 use Rattle.rules.specs.declared.Packet.{Packet}
 use Rattle.rules.specs.declared.Packet.TheVariants.{Destroy, Scissor, Import}
 use Rattle.rules.specs.declared.Opened.{Opened}
@@ -363,7 +362,7 @@ pub targets-stay-live-textures : (s : State) → Called s → (j : Job) (t : Str
 targets-stay-live-textures s k j t at es h e = (first-packet-finds-no-target s k j t at es h e, called-target-lives s k j t at es h e)
 
 -- "A scissor is clipped to the target over plain integers, negative corners included, and given to the host as a record of kind 4"
-pub a-scissor-is-clipped-to-its-target : (es : List Entry) (h : Progress) (c : SetScissor) → (pass es h (Scissor c)).verdict ≡ Fine → Scissored h c (pass es h (Scissor c))
+pub a-scissor-is-clipped-to-its-target : (es : List Entry) (h : Progress) (c : SetScissor) → (pass es h (Scissor c)).verdict ≡ Ok tt → Scissored h c (pass es h (Scissor c))
 a-scissor-is-clipped-to-its-target = accepted-scissor-is-clipped
 
 -- a record is of kind 1, 2, 3 or 4: of any device made and called
@@ -381,12 +380,12 @@ any-submission-is-sound = what-is-held-is-sound
 
 -- "destroying one name leaves the others, and destroying the last frees the room"
 pub destroying_one_name_leaves_the_others : (es : List Entry) (h : Progress) → SoundProgress es h
-    → (c : DestroyResource) → (pass es h (Destroy c)).verdict ≡ Fine → Destroyed c.handle h (pass es h (Destroy c)).held
+    → (c : DestroyResource) → (pass es h (Destroy c)).verdict ≡ Ok tt → Destroyed c.handle h (pass es h (Destroy c)).held
 destroying_one_name_leaves_the_others = destroying_a_name_leaves_the_others
 
 -- "Import makes the handle a second name for the exported resource"
 pub an-import-makes-a-second-name : (es : List Entry) (h : Progress) → SoundProgress es h
-    → (c : ImportSurface) → (pass es h (Import c)).verdict ≡ Fine → SecondName c.token c.handle h (pass es h (Import c)).held
+    → (c : ImportSurface) → (pass es h (Import c)).verdict ≡ Ok tt → SecondName c.token c.handle h (pass es h (Import c)).held
 an-import-makes-a-second-name = an-import-is-a-second-name
 
 -- "A record made under a second name carries the packet's handle" (DECISIONS.md, 104): the records of kinds 1 to 3 that a packet adds have the handle that it

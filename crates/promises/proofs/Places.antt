@@ -1,8 +1,8 @@
 -- The theorems of specs/Places.antt, and what they rest on. Assumes nothing.
-use Rattle.std.specs.Prelude.{◌≡◌, refl, false, List, [], ℕ, ◌+◌, ◌≤◌, length}
+use Rattle.std.specs.Prelude.{◌≡◌, refl, false, List, [], ℕ, ◌+◌, ◌≤◌, length, Err, Ok}
 use Rattle.std.proofs.Common.{sym, ap, subst, ◌∙◌, arith}
 use Rattle.rules.specs.Numbers.{most, host_failed, no_place}
-use Rattle.rules.specs.Judging.{fault_at, at_place}
+use Rattle.rules.specs.Judging.{fault_at, at_place, Verdict}
 use Rattle.rules.specs.Judging.Finding.{broken}
 use Rattle.rules.specs.Layouts.{stream_header_size}
 use Rattle.rules.specs.Table.{take_entry}
@@ -16,8 +16,6 @@ use Rattle.rules.specs.declared.Entry.{Entry}
 use Rattle.rules.specs.declared.Fault.{Fault}
 use Rattle.rules.specs.declared.Job.{Job}
 use Rattle.rules.specs.declared.Opened.{Opened}
-use Rattle.rules.specs.declared.Verdict.{Verdict}
-use Rattle.rules.specs.declared.Verdict.TheVariants.{Fine, Broken}
 use Rattle.promises_of_submissions.specs.LentBytes.{OfBytes, marked-bytes}
 use Rattle.promises_of_submissions.specs.Submission.{Lies, LiesOn}
 use Rattle.promises_of_submissions.proofs.Submission.{opening-lies}
@@ -37,8 +35,8 @@ use Rattle.promises.specs.Places.{BrokenAt, EntryRule, Placed, SizeFits, TellsWh
 -- ---- a broken rule and its place
 
 pub broken-at : (place : ℕ) (v : Verdict) (f : Fault) → at_place place v ≡ broken f → BrokenAt place v f
-broken-at place Fine f e = absurd (let z : ◌≡◌ {A = ℕ} 0 1 = cc in omega arith)
-broken-at place (Broken r) f e =
+broken-at place (Ok tt) f e = absurd (let z : ◌≡◌ {A = ℕ} 0 1 = cc in omega arith)
+broken-at place (Err r) f e =
     let is : fault_at place r ≡ f = cc in
     record {
       why = r;

@@ -1,5 +1,5 @@
 -- The theorems of specs/UnslicedPlaces.antt, and what they rest on. Assumes nothing.
-use Rattle.std.specs.Prelude.{◌≡◌, ◌⊎◌, take, drop}
+use Rattle.std.specs.Prelude.{◌≡◌, ◌⊎◌, take, drop, Err, Ok}
 use Rattle.std.proofs.Math.Path.{refl}
 use Rattle.std.proofs.Common.{sym, subst, ◌∙◌, inl, inr, length-drop}
 use mathlib.Core.List.{List, [], ◌∷◌}
@@ -8,23 +8,19 @@ use Prim.Native.Nat.{ℕ, zero, suc, ◌+◌, ◌-◌, ◌^◌, ◌≤◌, ◌<�
 use native.Mathlib.Omega.{arith}
 use Rattle.std.proofs.Math.ListN.{length, length-append}
 use Rattle.rules.specs.Lists.{pushed}
-use Rattle.rules.specs.Judging.{Finding, fault_at}
+use Rattle.rules.specs.Judging.{Finding, fault_at, Verdict}
 use Rattle.rules.specs.Judging.Finding.{fine, broken}
 use Rattle.rules.specs.Layouts.{entry, stream_header_size}
 use Rattle.rules.specs.Table.{Judged, entry_place, entry_rules, entries_from, entries_of, stop_or_go, judge_entries}
-use Rattle.rules.specs.Stream.{left, frame_of, size_of, packet_of, before, cut, stream_bytes, packets_of}
+use Rattle.rules.specs.Stream.{left, frame_of, size_of, packet_of, before, cut, stream_bytes, packets_of, Frame}
 use Rattle.rules.specs.Ring.{opening_of}
 use Rattle.rules.specs.Packets.{Progress, pass}
 use Rattle.rules.specs.Unsliced.{Reckoned, one_further, judge_packets, after_entries, submission}
 use Rattle.rules.specs.declared.Entry.{Entry}
 use Rattle.rules.specs.declared.Fault.{Fault}
-use Rattle.rules.specs.declared.Frame.{Frame}
-use Rattle.rules.specs.declared.Frame.TheVariants.{Whole, Misframed}
 use Rattle.rules.specs.declared.Opened.{Opened}
 use Rattle.rules.specs.declared.Refusal.{Refusal}
 use Rattle.rules.specs.declared.Table.{Table}
-use Rattle.rules.specs.declared.Verdict.{Verdict}
-use Rattle.rules.specs.declared.Verdict.TheVariants.{Fine, Broken}
 use Rattle.rules.specs.declared.Opening.TheVariants.{Started}
 use Rattle.words.specs.Over.{below_or_not}
 use Rattle.stream_packets.specs.Framing.{frame-sound}
@@ -54,11 +50,11 @@ module _ (f : Fault) where
       by-verdict : (v : Verdict) → entry_rules memory earlier next ≡ v
           → (later.finding ≡ broken f → EntryRule f.code × (f.place < length (pushed earlier next) + n))
           → (stop_or_go (length earlier) v later).finding ≡ broken f → EntryRule f.code × (f.place < length earlier + suc n)
-      by-verdict Fine e ih k =
+      by-verdict (Ok tt) e ih k =
           let found : EntryRule f.code × (f.place < length (pushed earlier next) + n) = ih k in
           (found.0, omega (arith, found.1, length-append earlier (next ∷ [])))
-      by-verdict (Broken r) e ih k =
-          let b : BrokenAt (length earlier) (Broken r) f = broken-at (length earlier) (Broken r) f k in
+      by-verdict (Err r) e ih k =
+          let b : BrokenAt (length earlier) (Err r) f = broken-at (length earlier) (Err r) f k in
           let is : f.place ≡ length earlier = b.told (omega arith) in
           (subst EntryRule (sym b.number) (entry-number memory earlier next b.why (e ∙ b.broke)), omega arith)
 
@@ -72,24 +68,24 @@ module _ (f : Fault) where
       (below_or_not 0 (length b))
     where
       here : (r : Refusal) → 0 < length b → broken (fault_at at r) ≡ broken f → (Among f) at b
-      here r some q = let is : f.place ≡ at = (broken-at at (Broken r) f q).told (omega arith) in (omega arith, omega arith)
+      here r some q = let is : f.place ≡ at = (broken-at at (Err r) f q).told (omega arith) in (omega arith, omega arith)
 
       by-verdict : (size : ℕ) → size ≤ length b → 0 < length b → (v : Verdict) (q : Reckoned)
           → (q.finding ≡ broken f → (Among f) (at + size) (drop size b))
           → (one_further at v h q).finding ≡ broken f → (Among f) at b
-      by-verdict size fits some Fine q ih g =
+      by-verdict size fits some (Ok tt) q ih g =
           let found : (Among f) (at + size) (drop size b) = ih g in
           (omega (arith, found.0), omega (arith, found.1, length-drop size b))
-      by-verdict size fits some (Broken r) q ih g = here r some g
+      by-verdict size fits some (Err r) q ih g = here r some g
 
       by_frame : 0 < length b → (x : Frame) → frame_of b ≡ x
           → ((at' : ℕ) (b' : List ℕ) (h' : Progress) → at' + length b' < 2 ^ 32 → (judge_packets es h' (cut k at' b')).finding ≡ broken f → (Among f) at' b')
           → (judge_packets es h (before at x b (cut k (at + size_of x) (drop (size_of x) b)))).finding ≡ broken f → (Among f) at b
-      by_frame some (Whole op size) e ih g =
+      by_frame some (Ok (op, size)) e ih g =
           let fits : size ≤ length b = (frame-sound b op size e).inside in
           by-verdict size fits some (pass es h (packet_of op (take size b))).verdict _
           (ih (at + size) (drop size b) (pass es h (packet_of op (take size b))).held (omega (arith, length-drop size b))) g
-      by_frame some (Misframed r) e ih g = here r some g
+      by_frame some (Err r) e ih g = here r some g
 
 -- what an opening started over bytes, judged by the unsliced rules over the same bytes: the first broken rule is an entry's or a packet's
 module _ (m : List ℕ) (ring size : ℕ) (o : Opened) (opened : opening_of m ring size ≡ Started o) (bytes : OfBytes m) where

@@ -1,7 +1,7 @@
 -- What is promised, in the user's words and order: the three demands, 01's night log, then each wish that has landed. `Call`, `after` and what a call
 -- reports are in Called.antt of promises_of_units; saves, loads and moves are in Asked.antt beside it. The calls' own definitions in rules/specs are what the
 -- code's contracts cite. All else in this crate serves these statements. Those of wish 3 are in promises_of_dump: they speak of no device. Assumes nothing.
-use Rattle.std.specs.Prelude.{◌≡◌, refl, Bool, true, false, List, [], ◌⊎◌, ℕ, ◌+◌, ◌^◌, ◌≤◌, ◌<◌, length}
+use Rattle.std.specs.Prelude.{◌≡◌, refl, Bool, true, false, List, [], ◌⊎◌, ℕ, ◌+◌, ◌^◌, ◌≤◌, ◌<◌, length, Err, Ok}
 use Rattle.std.proofs.Common.{arith}
 use Rattle.machine.specs.Machine.{pick}
 use Rattle.std.specs.Float.Ieee.{lt}
@@ -36,8 +36,6 @@ use Rattle.rules.specs.declared.ExportSurface.{ExportSurface}
 use Rattle.rules.specs.declared.ImportSurface.{ImportSurface}
 use Rattle.rules.specs.declared.ReleaseToken.{ReleaseToken}
 use Rattle.rules.specs.declared.Resource.{Resource}
-use Rattle.rules.specs.declared.Verdict.TheVariants.{Fine, Broken}
-use Rattle.rules.specs.declared.Frame.TheVariants.{Whole}
 use Rattle.rules.specs.declared.Packet.{Packet}
 use Rattle.rules.specs.declared.Packet.TheVariants.{Destroy, Target, Viewport, Scissor, Clear, NotANumber, Export, Import, Release}
 use Rattle.rules.specs.declared.Opening.{Opening}
@@ -284,7 +282,7 @@ an-allowance-of-0-is-the-old-call = allowance-0-is-the-old-call
 -- "Read each packet as one of viewport, clear, scissor or target": what is framed is read from its first bytes; a viewport or clear with a NaN
 -- among its floats is a case of its own
 pub record ReadAs (b : List ℕ) : Type 0 where
-  pub framed : (es : List Entry) (h : Progress) (op size : ℕ) → frame_of b ≡ Whole op size → take_packet es h b ≡ pass es h (packet_of op b)
+  pub framed : (es : List Entry) (h : Progress) (op size : ℕ) → frame_of b ≡ Ok (op, size) → take_packet es h b ≡ pass es h (packet_of op b)
   pub target : packet_of set_target b ≡ Target (target_fields b)
   pub scissor : packet_of set_scissor b ≡ Scissor (scissor_fields b)
   pub viewport : packet_of set_viewport b ≡ pick (nan_among (viewport_floats b)) NotANumber (Viewport (viewport_fields b))
@@ -316,8 +314,8 @@ the_rules_bounds_are_0_and_1 = the_bounds
 
 -- "The target is a live texture, else 18": a target packet that names one is accepted, and that is the target from then on; else nothing changes
 pub record TargetPacket (es : List Entry) (h : Progress) (c : SetTarget) : Type 0 where
-  pub set : LiveTexture c.handle h.holdings → pass es h (Target c) ≡ record { verdict = Fine; held = record { holdings = h.holdings; target = c.handle; tokens = h.tokens } }
-  pub refused : live_texture c.handle h.holdings ≡ none → pass es h (Target c) ≡ record { verdict = Broken (refusal bad_handle); held = h }
+  pub set : LiveTexture c.handle h.holdings → pass es h (Target c) ≡ record { verdict = Ok tt; held = record { holdings = h.holdings; target = c.handle; tokens = h.tokens } }
+  pub refused : live_texture c.handle h.holdings ≡ none → pass es h (Target c) ≡ record { verdict = Err (refusal bad_handle); held = h }
 
 pub a-target-is-a-live-texture : (es : List Entry) (h : Progress) (c : SetTarget) → TargetPacket es h c
 a-target-is-a-live-texture es h c = record { set = λ l. target-is-set es h c l.0 l.1; refused = target-is-refused es h c }
@@ -325,20 +323,20 @@ a-target-is-a-live-texture es h c = record { set = λ l. target-is-set es h c l.
 -- "it lasts until the submission ends or that handle is destroyed": a device at rest has none, since what is held goes with the submission
 pub record Lasts (es : List Entry) (h : Progress) : Type 0 where
   -- through every packet that is refused, with all else that is held
-  pub refused : (p : Packet) (r : Refusal) → (pass es h p).verdict ≡ Broken r → (pass es h p).held ≡ h
+  pub refused : (p : Packet) (r : Refusal) → (pass es h p).verdict ≡ Err r → (pass es h p).held ≡ h
   -- and through every other packet but a target and a destroy
   pub others : (p : Packet) → ((c : SetTarget) → p ≡ Target c → ⊥) → ((c : DestroyResource) → p ≡ Destroy c → ⊥) → (pass es h p).held.target ≡ h.target
   pub another-destroyed : (c : DestroyResource) → (c.handle ≡ h.target → ⊥) → (pass es h (Destroy c)).held.target ≡ h.target
-  pub destroyed : (c : DestroyResource) → c.handle ≡ h.target → (pass es h (Destroy c)).verdict ≡ Fine → (pass es h (Destroy c)).held.target ≡ 0
+  pub destroyed : (c : DestroyResource) → c.handle ≡ h.target → (pass es h (Destroy c)).verdict ≡ Ok tt → (pass es h (Destroy c)).held.target ≡ 0
   -- made again, the handle does not bring it back
   pub not-again : (ps : List Packet) → Every (λ (p : Packet). (c : SetTarget) → p ≡ Target c → ⊥) ps → h.target ≡ 0 → (held_after es h ps).target ≡ 0
 
 -- "Error 30 .. scissor sides negative; scissor without a target", then 19, else it is accepted
 pub record ScissorPacket (es : List Entry) (h : Progress) (c : SetScissor) : Type 0 where
-  pub no_target : h.target ≡ 0 → pass es h (Scissor c) ≡ record { verdict = Broken (refusal bad_state); held = h }
-  pub negative : LiveTexture h.target h.holdings → bad_sides c ≡ true → pass es h (Scissor c) ≡ record { verdict = Broken (refusal bad_state); held = h }
-  pub no_room : LiveTexture h.target h.holdings → bad_sides c ≡ false → most-records ≤ length h.holdings.records → pass es h (Scissor c) ≡ record { verdict = Broken (refusal too_many); held = h }
-  pub accepted : LiveTexture h.target h.holdings → bad_sides c ≡ false → length h.holdings.records < most-records → (pass es h (Scissor c)).verdict ≡ Fine
+  pub no_target : h.target ≡ 0 → pass es h (Scissor c) ≡ record { verdict = Err (refusal bad_state); held = h }
+  pub negative : LiveTexture h.target h.holdings → bad_sides c ≡ true → pass es h (Scissor c) ≡ record { verdict = Err (refusal bad_state); held = h }
+  pub no_room : LiveTexture h.target h.holdings → bad_sides c ≡ false → most-records ≤ length h.holdings.records → pass es h (Scissor c) ≡ record { verdict = Err (refusal too_many); held = h }
+  pub accepted : LiveTexture h.target h.holdings → bad_sides c ≡ false → length h.holdings.records < most-records → (pass es h (Scissor c)).verdict ≡ Ok tt
 
 pub when-a-scissor-is-accepted : (es : List Entry) (h : Progress) (c : SetScissor) → ScissorPacket es h c
 when-a-scissor-is-accepted es h c =

@@ -1,5 +1,5 @@
 -- The night log's examples marked [P], as one table: what the rules give, and what the log says. One statement holds of it all.
-use Rattle.std.specs.Prelude.{Bool, true, false, ◌&&◌, List, [], ◌∷◌, ◌++◌, ℕ, zero, suc, eqb}
+use Rattle.std.specs.Prelude.{Bool, true, false, ◌&&◌, List, [], ◌∷◌, ◌++◌, ℕ, zero, suc, eqb, None, Option, Some}
 use Rattle.rules.specs.Numbers.{ring_magic, version, no_place}
 use Rattle.rules.specs.Bytes.{bytes_of}
 use Rattle.rules.specs.Judging.{number, at_place}
@@ -17,8 +17,6 @@ use Rattle.rules.specs.declared.Entry.{Entry}
 use Rattle.rules.specs.declared.Shape.{Shape}
 use Rattle.rules.specs.declared.RingHeader.{RingHeader}
 use Rattle.rules.specs.declared.Registers.{Registers}
-use Rattle.rules.specs.declared.Start.{Start}
-use Rattle.rules.specs.declared.Start.TheVariants.{At, Nowhere}
 
 -- what the rules give, and what the log says
 pub record Case : Type 0 where
@@ -43,9 +41,9 @@ unfoldable pub creating : Shape → ℕ → ℕ
 creating s pitch =
     number (at_place no_place (on_texture_packet (roomy ∷ []) (at_first nothing_owned).holdings (record { handle = 1; shape = s; pitch = pitch; backing = 5; offset = 0 })).verdict)
 
-unfoldable pub start : Start → ℕ
-start (At n) = n
-start Nowhere = 0
+unfoldable pub start : Option ℕ → ℕ
+start (Some n) = n
+start None = 0
 
 -- ---- fences
 

@@ -1,13 +1,13 @@
 -- Wish 9, "tell me where it broke": beside a broken rule's number stands the entry's index, the packet's offset in its stream, or 0. At each
 -- settling of any device that was made and called, whatever bytes its memories hold. Assumes nothing.
-use Rattle.std.specs.Prelude.{◌≡◌, refl, Bool, true, false, List, ◌⊎◌, ℕ, ◌+◌, ◌^◌, ◌≤◌, ◌<◌, ltb, eqb, length}
+use Rattle.std.specs.Prelude.{◌≡◌, refl, Bool, true, false, List, ◌⊎◌, ℕ, ◌+◌, ◌^◌, ◌≤◌, ◌<◌, ltb, eqb, length, Err, Ok}
 use Rattle.std.proofs.Common.{sym, ap, ◌∙◌, inl, inr, arith}
 use Rattle.machine.specs.Machine.{pick}
 use Rattle.rules.specs.Lists.{lookup}
 use Rattle.rules.specs.Registers.{register, write_of}
 use Rattle.rules.specs.Calls.{call_read, call_write}
 use Rattle.rules.specs.Numbers.{done, no_register, bad_ring, bad_entry, twice_in_table, no_place}
-use Rattle.rules.specs.Judging.{refusal, rule, ◌▹◌}
+use Rattle.rules.specs.Judging.{refusal, rule, ◌▹◌, Verdict}
 use Rattle.rules.specs.Judging.Finding.{broken}
 use Rattle.rules.specs.Layouts.{entry, stream_header_size}
 use Rattle.rules.specs.Table.{matching, is_found, entry_place, entry_rules, keep, in_reach, take_entry}
@@ -23,8 +23,6 @@ use Rattle.rules.specs.declared.Opened.{Opened}
 use Rattle.rules.specs.declared.Refusal.{Refusal}
 use Rattle.rules.specs.declared.Stream.{Stream}
 use Rattle.rules.specs.declared.Table.{Table}
-use Rattle.rules.specs.declared.Verdict.{Verdict}
-use Rattle.rules.specs.declared.Verdict.TheVariants.{Fine, Broken}
 use Rattle.promises_of_units.specs.Called.{Called}
 use Rattle.promises_of_units.specs.Units.Unit.{settles}
 use Rattle.promises_of_units.specs.Changes.{told}
@@ -60,37 +58,37 @@ SizeFits (waiting j es h) = 0 ≤ 0
 -- what is broken at a place is a rule with the fault's number, and the fault tells the place where it has 32 bits
 pub record BrokenAt (place : ℕ) (v : Verdict) (f : Fault) : Type 0 where
   pub why : Refusal
-  pub broke : v ≡ Broken why
+  pub broke : v ≡ Err why
   pub number : f.code ≡ why.code
   pub told : place < 2 ^ 32 → f.place ≡ place
 
 -- an entry breaks one of them
-pub entry-number : (memory : ℕ) (earlier : List Entry) (e : Entry) (r : Refusal) → entry_rules memory earlier e ≡ Broken r → EntryRule r.code
+pub entry-number : (memory : ℕ) (earlier : List Entry) (e : Entry) (r : Refusal) → entry_rules memory earlier e ≡ Err r → EntryRule r.code
 unfolding entry_rules
 entry-number memory earlier e r h = by_tests (eqb e.id 0) (eqb e.size 0) (ltb memory (e.gpa + e.size)) (is_found (matching e.id earlier)) h
   where
-    same : (n : ℕ) → Broken (refusal n) ≡ Broken r → r.code ≡ n
+    same : (n : ℕ) → Err (refusal n) ≡ Err r → r.code ≡ n
     same n k = let is : refusal n ≡ r = cc in ap (λ (x : Refusal). x.code) (sym is)
 
-    by_tests : (a b c d : Bool) → rule bad_entry a ▹ rule bad_entry b ▹ rule bad_entry c ▹ rule twice_in_table d ≡ Broken r → EntryRule r.code
+    by_tests : (a b c d : Bool) → rule bad_entry a ▹ rule bad_entry b ▹ rule bad_entry c ▹ rule twice_in_table d ≡ Err r → EntryRule r.code
     by_tests true b c d k = inl (same bad_entry k)
     by_tests false true c d k = inl (same bad_entry k)
     by_tests false false true d k = inl (same bad_entry k)
     by_tests false false false true k = inr (same twice_in_table k)
     by_tests false false false false k = absurd (let z : ◌≡◌ {A = ℕ} 0 1 = cc in omega arith)
 
-pub taken-number : (m : List ℕ) (t : Table) (kept : List Entry) (r : Refusal) → (take_entry m t kept).verdict ≡ Broken r → EntryRule r.code
+pub taken-number : (m : List ℕ) (t : Table) (kept : List Entry) (r : Refusal) → (take_entry m t kept).verdict ≡ Err r → EntryRule r.code
 unfolding take_entry
 taken-number m t kept r = by_test (in_reach m t (length kept))
   where
     next : Entry
     next = entry m (entry_place t (length kept))
 
-    by-verdict : (v : Verdict) → entry_rules (length m) kept next ≡ v → (keep v kept next).verdict ≡ Broken r → EntryRule r.code
-    by-verdict Fine e k = absurd (let z : ◌≡◌ {A = ℕ} 0 1 = cc in omega arith)
-    by-verdict (Broken x) e k = entry-number (length m) kept next r (e ∙ k)
+    by-verdict : (v : Verdict) → entry_rules (length m) kept next ≡ v → (keep v kept next).verdict ≡ Err r → EntryRule r.code
+    by-verdict (Ok tt) e k = absurd (let z : ◌≡◌ {A = ℕ} 0 1 = cc in omega arith)
+    by-verdict (Err x) e k = entry-number (length m) kept next r (e ∙ k)
 
-    by_test : (b : Bool) → (pick b (keep (entry_rules (length m) kept next) kept next) (record { verdict = Broken (refusal bad_entry); kept = kept })).verdict ≡ Broken r
+    by_test : (b : Bool) → (pick b (keep (entry_rules (length m) kept next) kept next) (record { verdict = Err (refusal bad_entry); kept = kept })).verdict ≡ Err r
         → EntryRule r.code
     by_test true k = by-verdict (entry_rules (length m) kept next) refl k
     by_test false k = inl (let is : refusal bad_entry ≡ r = cc in ap (λ (x : Refusal). x.code) (sym is))

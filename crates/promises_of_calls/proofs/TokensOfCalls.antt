@@ -1,6 +1,6 @@
 -- The theorems of specs/TokensOfCalls.antt, and what they rest on. Assumes nothing.
 use Rattle.std.proofs.Math.Path.{◌≡◌}
-use Rattle.std.specs.Prelude.{true, false, List, ◌++◌, ◌⊎◌, ℕ, ◌<◌, length, take}
+use Rattle.std.specs.Prelude.{true, false, List, ◌++◌, ◌⊎◌, ℕ, ◌<◌, length, take, Ok}
 use Rattle.std.proofs.Common.{ap, ◌∙◌, inl, inr, ⊎_elim, arith}
 use Rattle.machine.specs.Machine.{run_none, run-go}
 use Rattle.rules.specs.Numbers.{most}
@@ -14,7 +14,6 @@ use Rattle.rules.specs.Calls.{lent_another, Ran}
 use Rattle.rules.specs.declared.Entry.{Entry}
 use Rattle.rules.specs.declared.Job.{Job}
 use Rattle.rules.specs.declared.Stream.{Stream}
-use Rattle.rules.specs.declared.Frame.TheVariants.{Whole}
 use Rattle.rules.specs.declared.ImportSurface.{ImportSurface}
 use Rattle.rules.specs.declared.Packet.TheVariants.{Import}
 use Rattle.promises_of_packets.specs.Held.{Every}
@@ -84,7 +83,7 @@ module _ {L : Layer} {d e : L.Device} (k : MadeAndCalled L d) (q : GoesOn L d e)
     pub work : (L.state e).work ≡ packets job stream at table held
     pub op : ℕ
     pub size : ℕ
-    pub framed : frame_of (left r.over stream at) ≡ Whole op size
+    pub framed : frame_of (left r.over stream at) ≡ Ok (op, size)
     pub says : packet_of op (take size (left r.over stream at)) ≡ Import c
     pub known : IsBound c.token (L.state d).belongings.tokens ⊎ Some (Exports c.token) packets_of_calls.by_good
     pub some : c.handle ≡ 0 → ⊥

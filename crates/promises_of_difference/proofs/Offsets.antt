@@ -5,7 +5,6 @@ use Rattle.std.proofs.Common.{sym, ◌∙◌, arith}
 use mathlib.Core.List.{List, [], ◌∷◌}
 use Prim.Native.Nat.{ℕ, zero, suc, ◌+◌, ◌≤◌, max}
 use Rattle.rules.specs.Difference.{differing}
-use Rattle.rules.specs.declared.Offset.TheVariants.{At}
 use Rattle.diff_bytes.specs.Differing.{first_of, from_offset, next_start}
 use Rattle.promises_of_difference.specs.Offsets.{ask, asked_on, split_off, then_on}
 

@@ -1,6 +1,6 @@
 -- Bytes that never count: those after the stream size, and the headers' own. An answer depends on the bytes from 24 to the stream size alone. Assumes
 -- nothing.
-use Rattle.std.specs.Prelude.{◌≡◌, false, List, ◌++◌, ℕ, ◌+◌, ◌-◌, ◌≤◌, length, take, drop}
+use Rattle.std.specs.Prelude.{◌≡◌, false, List, ◌++◌, ℕ, ◌+◌, ◌-◌, ◌≤◌, length, take, drop, Ok}
 use Rattle.std.proofs.Common.{sym, ap, ◌∙◌, arith, le-ltb, eq-eqb, length-drop, length-append, length-take-le}
 use Rattle.std.proofs.lemmas.List.{take-append-le, drop-append-le}
 use Rattle.rules.specs.Bytes.{le}
@@ -10,14 +10,13 @@ use Rattle.rules.specs.Lists.{nth}
 use Rattle.rules.specs.Stream.{stream_rules}
 use Rattle.rules.specs.Dump.{Dump, listed, dump_of}
 use Rattle.rules.specs.declared.StreamHeader.{StreamHeader}
-use Rattle.rules.specs.declared.Verdict.TheVariants.{Fine}
 use Rattle.stream_header.specs.Header.{stream-sound}
 use Rattle.stream_listing.specs.Walk.{listed-fuel}
-use Rattle.rules.specs.Difference.{broken_by, checked, check, class_of, offsets_of, next_from, class_in, offset_in, parts_in, parted, parts, class_asked, next_asked, start, start_in}
+use Rattle.rules.specs.Difference.{broken_by, checked, check, class_of, offsets_of, next_from, asked, parted, parts, class_asked, next_asked, start}
 
 -- the header keeps rule 16
 abbrev pub KeepsHeader : List ℕ → Type 0
-KeepsHeader b = stream_rules (length b) (stream_header b 0) ≡ Fine
+KeepsHeader b = stream_rules (length b) (stream_header b 0) ≡ Ok tt
 
 -- the bytes that count: from 24 to the stream size
 abbrev pub counted : List ℕ → List ℕ
@@ -55,7 +54,7 @@ module _ (b rest : List ℕ) (long_as : 24 ≤ length b) where
       let z : word (b ++ rest) 8 ≡ word b 8 = same_word 8 (omega arith) in
       rw (m, v, z)
 
-keeps-longer : (n more : ℕ) (h : StreamHeader) → n ≤ more → stream_rules n h ≡ Fine → stream_rules more h ≡ Fine
+keeps-longer : (n more : ℕ) (h : StreamHeader) → n ≤ more → stream_rules n h ≡ Ok tt → stream_rules more h ≡ Ok tt
 unfolding stream_rules wrong_header
 keeps-longer n more h l e =
     let g = stream-sound n h e in
@@ -90,10 +89,10 @@ pub same-answers : (b c b' c' : List ℕ) → dump_of false b ≡ dump_of false 
 same-answers b c b' c' e d =
     record {
       checks = of-dumps (λ u v. checked (broken_by u.ending) (broken_by v.ending));
-      parting = of-dumps (λ u v. parts_in (checked (broken_by u.ending) (broken_by v.ending)) (parted 0 u.packets v.packets));
-      classes = λ i. of-dumps (λ u v. class_in (checked (broken_by u.ending) (broken_by v.ending)) (class_of (nth u.packets i) (nth v.packets i)));
-      offsets = λ i from. of-dumps (λ u v. offset_in (checked (broken_by u.ending) (broken_by v.ending)) (next_from from (offsets_of (nth u.packets i) (nth v.packets i))));
-      starts = of-dumps (λ u v. start_in (checked (broken_by u.ending) (broken_by v.ending)));
+      parting = of-dumps (λ u v. asked (checked (broken_by u.ending) (broken_by v.ending)) (parted 0 u.packets v.packets));
+      classes = λ i. of-dumps (λ u v. asked (checked (broken_by u.ending) (broken_by v.ending)) (class_of (nth u.packets i) (nth v.packets i)));
+      offsets = λ i from. of-dumps (λ u v. asked (checked (broken_by u.ending) (broken_by v.ending)) (next_from from (offsets_of (nth u.packets i) (nth v.packets i))));
+      starts = of-dumps (λ u v. asked (checked (broken_by u.ending) (broken_by v.ending)));
     }
   where
     of-dumps : {A : Type 0} (f : Dump → Dump → A) → f (dump_of false b) (dump_of false c) ≡ f (dump_of false b') (dump_of false c')

@@ -1,19 +1,13 @@
 -- No theorem is vacuous: two small streams, and what is answered about them.
-use Rattle.std.specs.Prelude.{◌≡◌, refl, List, [], ◌∷◌, ◌++◌, ℕ}
+use Rattle.std.specs.Prelude.{◌≡◌, refl, List, [], ◌∷◌, ◌++◌, ℕ, None, Some, Result, Ok, Err}
 use Rattle.rules.specs.Bytes.{le}
 use Rattle.rules.specs.Headers.{wrong_header}
 use Rattle.rules.specs.Layouts.{stream_header}
 use Rattle.rules.specs.Lists.{nth}
 use Rattle.rules.specs.Stream.{stream_rules, frame_of, frame_rules, least_size, known, packet_of}
 use Rattle.rules.specs.Dump.{listed, dump_of}
-use Rattle.rules.specs.Difference.{differing_from, class_both, offsets_both, offsets_at, next_from, check, parted, parts, class_asked, next_asked}
-use Rattle.rules.specs.declared.Checked.TheVariants.{Valid}
+use Rattle.rules.specs.Difference.{refused_stream, differing_from, class_both, offsets_both, offsets_at, next_from, check, parted, parts, class_asked, next_asked}
 use Rattle.rules.specs.declared.Class.TheVariants.{Equal, SameOpcode, OtherOpcode, OnlyFirst, OnlySecond, Neither}
-use Rattle.rules.specs.declared.Offset.TheVariants.{At, Nowhere}
-use Rattle.rules.specs.declared.Parting.TheVariants.{At as PartsAt}
-use Rattle.rules.specs.declared.PartsAnswer.TheVariants.{Is as PartsIs, Refused as PartsRefused}
-use Rattle.rules.specs.declared.ClassAnswer.TheVariants.{Is as ClassIs}
-use Rattle.rules.specs.declared.OffsetAnswer.TheVariants.{Is as OffsetIs}
 
 -- a header with this stream size, and the packets behind it
 abbrev stream : ℕ → List ℕ → List ℕ
@@ -33,19 +27,19 @@ first = stream 72 (short 5 ++ (long 1 ++ (short 7 ++ (short 6 ++ (long 4 ++ (170
 abbrev second : List ℕ
 second = stream 64 (short 5 ++ (long 2 ++ (long 3 ++ short 9)))
 
-pub valid : check first second ≡ Valid
+pub valid : check first second ≡ Ok tt
 unfolding differing_from class_both offsets_both next_from parted nth dump_of listed stream_rules frame_of frame_rules least_size known packet_of stream_header le wrong_header
 valid = refl
 
-pub part-at-one : parts first second ≡ PartsIs (PartsAt 1)
+pub part-at-one : parts first second ≡ Ok (Some 1)
 unfolding differing_from class_both offsets_both next_from parted nth dump_of listed stream_rules frame_of frame_rules least_size known packet_of stream_header le wrong_header
 part-at-one = refl
 
-pub equal-at-zero : class_asked first second 0 ≡ ClassIs Equal
+pub equal-at-zero : class_asked first second 0 ≡ Ok Equal
 unfolding differing_from class_both offsets_both next_from parted nth dump_of listed stream_rules frame_of frame_rules least_size known packet_of stream_header le wrong_header
 equal-at-zero = refl
 
-pub same-opcode-at-one : class_asked first second 1 ≡ ClassIs SameOpcode
+pub same-opcode-at-one : class_asked first second 1 ≡ Ok SameOpcode
 unfolding differing_from class_both offsets_both next_from parted nth dump_of listed stream_rules frame_of frame_rules least_size known packet_of stream_header le wrong_header
 same-opcode-at-one = refl
 
@@ -57,34 +51,34 @@ pub past-the-shorter : offsets_at first second 2 ≡ 4 ∷ 8 ∷ 9 ∷ 10 ∷ 11
 unfolding differing_from class_both offsets_both next_from parted nth dump_of listed stream_rules frame_of frame_rules least_size known packet_of stream_header le wrong_header
 past-the-shorter = refl
 
-pub next-past-nine : next_asked first second 2 9 ≡ OffsetIs (At 9)
+pub next-past-nine : next_asked first second 2 9 ≡ Ok (Some 9)
 unfolding differing_from class_both offsets_both next_from parted nth dump_of listed stream_rules frame_of frame_rules least_size known packet_of stream_header le wrong_header
 next-past-nine = refl
 
-pub none-past-eleven : next_asked first second 2 12 ≡ OffsetIs Nowhere
+pub none-past-eleven : next_asked first second 2 12 ≡ Ok None
 unfolding differing_from class_both offsets_both next_from parted nth dump_of listed stream_rules frame_of frame_rules least_size known packet_of stream_header le wrong_header
 none-past-eleven = refl
 
-pub other-opcode-at-three : class_asked first second 3 ≡ ClassIs OtherOpcode
+pub other-opcode-at-three : class_asked first second 3 ≡ Ok OtherOpcode
 unfolding differing_from class_both offsets_both next_from parted nth dump_of listed stream_rules frame_of frame_rules least_size known packet_of stream_header le wrong_header
 other-opcode-at-three = refl
 
-pub only-in-the-first : class_asked first second 4 ≡ ClassIs OnlyFirst
+pub only-in-the-first : class_asked first second 4 ≡ Ok OnlyFirst
 unfolding differing_from class_both offsets_both next_from parted nth dump_of listed stream_rules frame_of frame_rules least_size known packet_of stream_header le wrong_header
 only-in-the-first = refl
 
-pub only-in-the-second : class_asked second first 4 ≡ ClassIs OnlySecond
+pub only-in-the-second : class_asked second first 4 ≡ Ok OnlySecond
 unfolding differing_from class_both offsets_both next_from parted nth dump_of listed stream_rules frame_of frame_rules least_size known packet_of stream_header le wrong_header
 only-in-the-second = refl
 
-pub in-neither : class_asked first second 5 ≡ ClassIs Neither
+pub in-neither : class_asked first second 5 ≡ Ok Neither
 unfolding differing_from class_both offsets_both next_from parted nth dump_of listed stream_rules frame_of frame_rules least_size known packet_of stream_header le wrong_header
 in-neither = refl
 
-pub second-refused : parts first (stream 65 (short 5)) ≡ PartsRefused 16 2
+pub second-refused : parts first (stream 65 (short 5)) ≡ Err (refused_stream 16 2)
 unfolding differing_from class_both offsets_both next_from parted nth dump_of listed stream_rules frame_of frame_rules least_size known packet_of stream_header le wrong_header
 second-refused = refl
 
-pub first-if-both : parts (stream 32 (long 1)) (stream 65 (short 5)) ≡ PartsRefused 17 1
+pub first-if-both : parts (stream 32 (long 1)) (stream 65 (short 5)) ≡ Err (refused_stream 17 1)
 unfolding differing_from class_both offsets_both next_from parted nth dump_of listed stream_rules frame_of frame_rules least_size known packet_of stream_header le wrong_header
 first-if-both = refl

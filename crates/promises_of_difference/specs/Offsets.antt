@@ -1,6 +1,6 @@
 -- "No difference is left out and none is reported of equal bytes." The list of differing offsets has exactly the offsets past the shorter packet's end
 -- and those where the bytes differ; it rises; and asking for the next offset again and again gives all of it. Assumes nothing.
-use Rattle.std.specs.Prelude.{◌≡◌, Bool, not, ◌||◌, ◌&&◌, ltb, eqb, length}
+use Rattle.std.specs.Prelude.{◌≡◌, Bool, not, ◌||◌, ◌&&◌, ltb, eqb, length, None, Option, Some}
 use Rattle.std.proofs.Math.Path.{refl, ap}
 use Rattle.std.proofs.Common.{sym, ◌∙◌, ⊎_elim, arith, le-ltb, eq-eqb, ne_eqb, eqb-true}
 use Rattle.std.proofs.Math.Bool.{true, false}
@@ -9,8 +9,6 @@ use Prim.Native.Nat.{ℕ, zero, suc, ◌+◌, ◌-◌, ◌≤◌, ◌<◌, max}
 use Rattle.machine.specs.Machine.{pick}
 use Rattle.words.specs.Over.{below_or_not}
 use Rattle.rules.specs.Difference.{differing_from, differing, next_from}
-use Rattle.rules.specs.declared.Offset.{Offset}
-use Rattle.rules.specs.declared.Offset.TheVariants.{At, Nowhere}
 use Rattle.diff_bytes.specs.Differing.{differs_at, differs-second, from_offset, none-there, there-or-not}
 
 -- ---- the list has exactly the differing offsets
@@ -94,16 +92,16 @@ offsets-rise x y = rising 0 0 x y (omega arith)
 -- ---- the next offset, asked again and again
 
 -- what a question gives from an offset on, each time asked from the offset after the one that was found; at most k times
-abbrev pub then_on : Offset → (ℕ → List ℕ) → List ℕ
-then_on Nowhere ask-on = []
-then_on (At i) ask-on = i ∷ ask-on (i + 1)
+abbrev pub then_on : Option ℕ → (ℕ → List ℕ) → List ℕ
+then_on None ask-on = []
+then_on (Some i) ask-on = i ∷ ask-on (i + 1)
 
-unfoldable pub asked_on : (ℕ → Offset) → ℕ → ℕ → List ℕ
+unfoldable pub asked_on : (ℕ → Option ℕ) → ℕ → ℕ → List ℕ
 asked_on ask zero from = []
 asked_on ask (suc k) from = then_on (ask from) (asked_on ask k)
 
 module _ (x y : List ℕ) where
-  abbrev pub ask : ℕ → Offset
+  abbrev pub ask : ℕ → Option ℕ
   ask from = next_from from (differing x y)
 
   split-here : (from i : ℕ) (rest : List ℕ) (t : Bool) → (from_offset x y (from + 1) ≡ i ∷ rest → rest ≡ from_offset x y (i + 1))

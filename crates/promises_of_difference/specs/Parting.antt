@@ -1,5 +1,5 @@
 -- The streams part nowhere exactly if their packets are equal, else at the least index whose class is not equal. Assumes nothing.
-use Rattle.std.specs.Prelude.{◌≡◌, refl, List, [], ◌∷◌, map, ℕ, zero, suc, ◌+◌, ◌<◌}
+use Rattle.std.specs.Prelude.{◌≡◌, refl, List, [], ◌∷◌, map, ℕ, zero, suc, ◌+◌, ◌<◌, None, Option, Some}
 use Rattle.std.proofs.Common.{sym, ap, ◌∙◌, arith}
 use Rattle.rules.specs.Lists.{Found, nth}
 use Rattle.rules.specs.Lists.Found.{none, found}
@@ -7,8 +7,6 @@ use Rattle.rules.specs.Dump.{Listed}
 use Rattle.rules.specs.Difference.{class_both, class_of, parted_by, parted}
 use Rattle.rules.specs.declared.Class.{Class}
 use Rattle.rules.specs.declared.Class.TheVariants.{Equal, SameOpcode, OtherOpcode, OnlyFirst, OnlySecond, Neither}
-use Rattle.rules.specs.declared.Parting.{Parting}
-use Rattle.rules.specs.declared.Parting.TheVariants.{At, Never}
 use Rattle.promises_of_difference.specs.Classes.{Means, class-means, means-class}
 
 -- the packets as bytes
@@ -33,7 +31,7 @@ equal-bytes p q e = by-class (class_both p.bytes q.bytes) e (class-means (found 
 bytes-equal : (p q : Listed) → p.bytes ≡ q.bytes → class_both p.bytes q.bytes ≡ Equal
 bytes-equal p q e = means-class Equal (found p) (found q) (record { p = p; q = q; first = refl; second = refl; bytes = e })
 
-never_on : (c : Class) (i : ℕ) (later : Parting) → (c ≡ Neither → ⊥) → parted_by c i later ≡ Never → (c ≡ Equal) × (later ≡ Never)
+never_on : (c : Class) (i : ℕ) (later : Option ℕ) → (c ≡ Neither → ⊥) → parted_by c i later ≡ None → (c ≡ Equal) × (later ≡ None)
 never_on Equal i later n e = (refl, e)
 never_on SameOpcode i later n e = absurd (let z : ◌≡◌ {A = ℕ} 0 1 = cc in omega arith)
 never_on OtherOpcode i later n e = absurd (let z : ◌≡◌ {A = ℕ} 0 1 = cc in omega arith)
@@ -48,7 +46,7 @@ two-there p q e =
     let z : ◌≡◌ {A = ℕ} 0 1 = cc in
     omega arith
 
-pub never-equal : (i : ℕ) (ps qs : List Listed) → parted i ps qs ≡ Never → all_bytes ps ≡ all_bytes qs
+pub never-equal : (i : ℕ) (ps qs : List Listed) → parted i ps qs ≡ None → all_bytes ps ≡ all_bytes qs
 unfolding parted
 never-equal i [] [] e = refl
 never-equal i [] (q ∷ qs) e = absurd (let z : ◌≡◌ {A = ℕ} 0 1 = cc in omega arith)
@@ -57,7 +55,7 @@ never-equal i (p ∷ ps) (q ∷ qs) e =
     let n = never_on (class_both p.bytes q.bytes) i (parted (i + 1) ps qs) (two-there p q) e in
     rw (equal-bytes p q n.0, never-equal (i + 1) ps qs n.1)
 
-pub equal-never : (i : ℕ) (ps qs : List Listed) → all_bytes ps ≡ all_bytes qs → parted i ps qs ≡ Never
+pub equal-never : (i : ℕ) (ps qs : List Listed) → all_bytes ps ≡ all_bytes qs → parted i ps qs ≡ None
 unfolding parted
 equal-never i [] [] e = refl
 equal-never i [] (q ∷ qs) e = absurd (let z : ◌≡◌ {A = ℕ} 0 1 = cc in omega arith)
@@ -81,11 +79,11 @@ pub record PartsAfter (i : ℕ) (ps qs : List Listed) (j : ℕ) : Type 0 where
   pub parts : PartsHere ps qs further
 
 -- the first pair is not equal, or what is behind it parts
-pub data Splits (c : Class) (i j : ℕ) (later : Parting) : Type 0 where
+pub data Splits (c : Class) (i j : ℕ) (later : Option ℕ) : Type 0 where
   at_once : (c ≡ Equal → ⊥) → i ≡ j → Splits c i j later
-  behind : c ≡ Equal → later ≡ At j → Splits c i j later
+  behind : c ≡ Equal → later ≡ Some j → Splits c i j later
 
-splits : (c : Class) (i j : ℕ) (later : Parting) → parted_by c i later ≡ At j → Splits c i j later
+splits : (c : Class) (i j : ℕ) (later : Option ℕ) → parted_by c i later ≡ Some j → Splits c i j later
 splits Equal i j later e = behind refl e
 splits SameOpcode i j later e = at_once (λ h. let z : ◌≡◌ {A = ℕ} 0 1 = cc in omega arith) cc
 splits OtherOpcode i j later e = at_once (λ h. let z : ◌≡◌ {A = ℕ} 0 1 = cc in omega arith) cc
@@ -112,7 +110,7 @@ at-later i j p q ps qs e a =
     by_index zero h = e
     by_index (suc k) h = a.parts.before k (omega arith)
 
-parts-after : (i j : ℕ) (ps qs : List Listed) → parted i ps qs ≡ At j → PartsAfter i ps qs j
+parts-after : (i j : ℕ) (ps qs : List Listed) → parted i ps qs ≡ Some j → PartsAfter i ps qs j
 unfolding parted nth
 parts-after i j [] [] e = absurd (let z : ◌≡◌ {A = ℕ} 0 1 = cc in omega arith)
 parts-after i j [] (q ∷ qs) e =
@@ -124,11 +122,11 @@ parts-after i j (p ∷ ps) [] e =
 parts-after i j (p ∷ ps) (q ∷ qs) e =
     by-split (splits (class_both p.bytes q.bytes) i j (parted (i + 1) ps qs) e) (λ d. parts-after (i + 1) j ps qs d)
   where
-    by-split : Splits (class_both p.bytes q.bytes) i j (parted (i + 1) ps qs) → (parted (i + 1) ps qs ≡ At j → PartsAfter (i + 1) ps qs j) → PartsAfter i (p ∷ ps) (q ∷ qs) j
+    by-split : Splits (class_both p.bytes q.bytes) i j (parted (i + 1) ps qs) → (parted (i + 1) ps qs ≡ Some j → PartsAfter (i + 1) ps qs j) → PartsAfter i (p ∷ ps) (q ∷ qs) j
     by-split (at_once n s) on = at_first i j (p ∷ ps) (q ∷ qs) s n (two-there p q)
     by-split (behind c d) on = at-later i j p q ps qs c (on d)
 
-pub parts-at-least : (j : ℕ) (ps qs : List Listed) → parted 0 ps qs ≡ At j → PartsHere ps qs j
+pub parts-at-least : (j : ℕ) (ps qs : List Listed) → parted 0 ps qs ≡ Some j → PartsHere ps qs j
 parts-at-least j ps qs e =
     let a = parts-after 0 j ps qs e in
     let s : a.further ≡ j = omega (arith, a.is) in

@@ -1,16 +1,15 @@
 -- Swapping the streams swaps first and second, and changes nothing else. Assumes nothing.
-use Rattle.std.specs.Prelude.{◌≡◌, refl, Bool, true, false, List, [], ◌∷◌, ◌⊎◌, ℕ, ◌+◌, ◌-◌, eqb}
+use Rattle.std.specs.Prelude.{◌≡◌, refl, Bool, true, false, List, [], ◌∷◌, ◌⊎◌, ℕ, ◌+◌, ◌-◌, eqb, ⊤, Result, Ok, Err}
 use Rattle.std.proofs.Common.{sym, ap, ◌∙◌, ⊎_elim, arith, eq-eqb, eqb-true}
 use Rattle.machine.specs.Machine.{pick}
 use Rattle.rules.specs.Layouts.{word}
 use Rattle.rules.specs.Lists.{Found, nth}
 use Rattle.rules.specs.Lists.Found.{none, found}
 use Rattle.rules.specs.Dump.{Listed}
-use Rattle.rules.specs.Difference.{packets, fault, checked, check, differing_from, differing, same_opcode, class_both, offsets_both, class_of, offsets_of, class_at, offsets_at, parted_by, parted}
-use Rattle.rules.specs.declared.Checked.{Checked}
-use Rattle.rules.specs.declared.Checked.TheVariants.{Valid, Refused}
+use Rattle.rules.specs.Difference.{refused_stream, packets, fault, checked, check, differing_from, differing, same_opcode, class_both, offsets_both, class_of, offsets_of, class_at, offsets_at, parted_by, parted}
 use Rattle.rules.specs.declared.Class.{Class}
 use Rattle.rules.specs.declared.Class.TheVariants.{Equal, SameOpcode, OtherOpcode, OnlyFirst, OnlySecond, Neither}
+use Rattle.rules.specs.declared.RefusedStream.{RefusedStream}
 
 -- first and second exchanged
 abbrev pub swapped : Class → Class
@@ -86,21 +85,21 @@ parted-swaps i (p ∷ ps) (q ∷ qs) =
     ∙ ap (λ l. parted_by (class_both p.bytes q.bytes) i l) (parted-swaps (i + 1) ps qs)
 
 -- the same refusal, of the other stream
-abbrev pub other_stream : Checked → Checked
-other_stream Valid = Valid
-other_stream (Refused code which) = Refused code (3 - which)
+abbrev pub other_stream : Result ⊤ RefusedStream → Result ⊤ RefusedStream
+other_stream (Ok tt) = Ok tt
+other_stream (Err r) = Err (refused_stream r.code (3 - r.which))
 
 checked-first : (m n : ℕ) → m ≡ 0 → checked n m ≡ other_stream (checked m n)
 checked-first m n e = rw (eq-eqb m 0 e) (by_test (eqb n 0))
   where
-    by_test : (t : Bool) → pick t Valid (Refused n 1) ≡ other_stream (pick t Valid (Refused n 2))
+    by_test : (t : Bool) → pick t (Ok tt) (Err (refused_stream n 1)) ≡ other_stream (pick t (Ok tt) (Err (refused_stream n 2)))
     by_test true = refl
     by_test false = refl
 
 checked-second : (m n : ℕ) → n ≡ 0 → checked n m ≡ other_stream (checked m n)
 checked-second m n e = rw (eq-eqb n 0 e) (by_test (eqb m 0))
   where
-    by_test : (t : Bool) → pick t Valid (Refused m 2) ≡ other_stream (pick t Valid (Refused m 1))
+    by_test : (t : Bool) → pick t (Ok tt) (Err (refused_stream m 2)) ≡ other_stream (pick t (Ok tt) (Err (refused_stream m 1)))
     by_test true = refl
     by_test false = refl
 

@@ -1,15 +1,12 @@
 -- The theorems of specs/Dump.antt, and what they rest on. Assumes nothing.
-use Rattle.std.specs.Prelude.{◌≡◌, Bool, List, [], ◌∷◌, eqb, length, take, drop}
+use Rattle.std.specs.Prelude.{◌≡◌, Bool, List, [], ◌∷◌, eqb, length, take, drop, Err, Ok}
 use Rattle.std.proofs.Math.Path.{refl, ap}
 use Rattle.std.proofs.Math.Bool.{true, false}
 use Prim.Native.Nat.{ℕ, zero, suc, ◌+◌}
 use Rattle.machine.specs.Machine.{pick}
 use Rattle.rules.specs.Layouts.{stream_header, stream_header_size}
-use Rattle.rules.specs.Stream.{stream_rules, stream_of, frame_of, packet_of, size_of, Piece, before, cut, packets_of}
+use Rattle.rules.specs.Stream.{stream_rules, stream_of, frame_of, packet_of, size_of, Piece, before, cut, packets_of, Frame}
 use Rattle.rules.specs.Stream.Piece.{packet}
-use Rattle.rules.specs.declared.Verdict.TheVariants.{Fine}
-use Rattle.rules.specs.declared.Frame.{Frame}
-use Rattle.rules.specs.declared.Frame.TheVariants.{Whole, Misframed}
 use Rattle.rules.specs.Dump.{Dump, ends, first_then, stops, listed_at, listed_before, listed, dump_of}
 use Rattle.rules.specs.Dump.Ending.{complete, stopped}
 use Rattle.promises_of_dump.specs.Dump.{accepted, pieces}
@@ -27,8 +24,8 @@ module _ (strict : Bool) where
   before-pieces : (at : ℕ) (f : Frame) (b : List ℕ) (d : Dump) (ps : List Piece) → pieces d.packets ≡ accepted strict ps
       → pieces (listed_before strict at f b d).packets ≡ accepted strict (before at f b ps)
   unfolding accepted pieces
-  before-pieces at (Whole op size) b d ps h = whole-pieces at op size b d ps h (stops strict (packet_of op (take size b)))
-  before-pieces at (Misframed r) b d ps h = refl
+  before-pieces at (Ok (op, size)) b d ps h = whole-pieces at op size b d ps h (stops strict (packet_of op (take size b)))
+  before-pieces at (Err r) b d ps h = refl
 
   test-pieces : (t : Bool) (d : Dump) (ps : List Piece) → pieces d.packets ≡ accepted strict ps → pieces (pick t (ends complete) d).packets ≡ accepted strict (pick t [] ps)
   unfolding accepted pieces
@@ -43,7 +40,7 @@ module _ (strict : Bool) where
       (before-pieces at (frame_of b) b _ _ (listed-pieces k (at + size_of (frame_of b)) (drop (size_of (frame_of b)) b)))
 
   -- "every accepted packet appears once, in order": the lines are of the accepted packets of the stream, one each, and of no other
-  pub lists-each-once : (b : List ℕ) → stream_rules (length b) (stream_header b 0) ≡ Fine
+  pub lists-each-once : (b : List ℕ) → stream_rules (length b) (stream_header b 0) ≡ Ok tt
       → pieces (dump_of strict b).packets ≡ accepted strict (packets_of b (stream_of 0 (stream_header b 0)))
   unfolding dump_of
   lists-each-once b fine = rw fine (listed-pieces (stream_header b 0).size stream_header_size (drop stream_header_size (take (stream_header b 0).size b)))

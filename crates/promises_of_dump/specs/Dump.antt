@@ -1,5 +1,5 @@
 -- "The text for a packet is exact, and every accepted packet appears once, in order." Assumes nothing.
-use Rattle.std.specs.Prelude.{◌≡◌, Bool, List, [], ◌∷◌, ◌++◌, eqb, length, take, drop}
+use Rattle.std.specs.Prelude.{◌≡◌, Bool, List, [], ◌∷◌, ◌++◌, eqb, length, take, drop, Err, Ok}
 use Rattle.std.proofs.Math.Path.{refl}
 use Rattle.std.proofs.Math.Bool.{true, false}
 use Prim.Native.Nat.{ℕ, zero, suc, ◌+◌, ◌≤◌, ◌<◌}
@@ -9,12 +9,9 @@ use Rattle.machine.specs.Machine.{pick}
 use Rattle.rules.specs.Layouts.{stream_header, stream_header_size}
 use Rattle.rules.specs.Lists.{Found}
 use Rattle.rules.specs.Lists.Found.{none, found}
-use Rattle.rules.specs.Stream.{stream_rules, stream_of, frame_of, packet_of, size_of, Piece, before, cut, packets_of}
+use Rattle.rules.specs.Stream.{stream_rules, stream_of, frame_of, packet_of, size_of, Piece, before, cut, packets_of, Frame}
 use Rattle.rules.specs.Stream.Piece.{packet, misframed}
 use Rattle.rules.specs.declared.Refusal.{Refusal}
-use Rattle.rules.specs.declared.Verdict.TheVariants.{Fine, Broken}
-use Rattle.rules.specs.declared.Frame.{Frame}
-use Rattle.rules.specs.declared.Frame.TheVariants.{Whole, Misframed}
 use Rattle.stream_packets.specs.Framing.{frame-sound}
 use Rattle.rules.specs.Dump.{Listed, Ending, ending_text, Dump, ends, first_then, stops, listed_at, listed_before, listed, dump_of, lines_of, text_of, longest_dump, bad_input, listing}
 use Rattle.rules.specs.Dump.Ending.{complete, stopped, refused}
@@ -58,8 +55,8 @@ module _ (strict : Bool) where
 
   before-rises : (at : ℕ) (f : Frame) (b : List ℕ) (d : Dump) → frame_of b ≡ f → RisingFrom (at + size_of f) d.packets → RisingFrom at (listed_before strict at f b d).packets
   unfolding RisingFrom
-  before-rises at (Whole op size) b d e r = whole-rises at op size b d (frame-sound b op size e).header r (stops strict (packet_of op (take size b)))
-  before-rises at (Misframed q) b d e r = tt
+  before-rises at (Ok (op, size)) b d e r = whole-rises at op size b d (frame-sound b op size e).header r (stops strict (packet_of op (take size b)))
+  before-rises at (Err q) b d e r = tt
 
   test-rises : (t : Bool) (at : ℕ) (d : Dump) → RisingFrom at d.packets → RisingFrom at (pick t (ends complete) d).packets
   unfolding RisingFrom
@@ -93,8 +90,8 @@ module _ (strict : Bool) where
   before-error : (at : ℕ) (f : Frame) (b : List ℕ) (d : Dump) (ps : List Piece) → error_in d.ending ≡ error_of strict ps
       → error_in (listed_before strict at f b d).ending ≡ error_of strict (before at f b ps)
   unfolding error_of
-  before-error at (Whole op size) b d ps h = whole-error at op size b d ps h (stops strict (packet_of op (take size b)))
-  before-error at (Misframed r) b d ps h = refl
+  before-error at (Ok (op, size)) b d ps h = whole-error at op size b d ps h (stops strict (packet_of op (take size b)))
+  before-error at (Err r) b d ps h = refl
 
   test-error : (t : Bool) (d : Dump) (ps : List Piece) → error_in d.ending ≡ error_of strict ps → error_in (pick t (ends complete) d).ending ≡ error_of strict (pick t [] ps)
   unfolding error_of
@@ -109,12 +106,12 @@ module _ (strict : Bool) where
       (before-error at (frame_of b) b _ _ (listed_error k (at + size_of (frame_of b)) (drop (size_of (frame_of b)) b)))
 
   module _ (b : List ℕ) where
-    pub bad-packet-ends-it : stream_rules (length b) (stream_header b 0) ≡ Fine
+    pub bad-packet-ends-it : stream_rules (length b) (stream_header b 0) ≡ Ok tt
         → error_in (dump_of strict b).ending ≡ error_of strict (packets_of b (stream_of 0 (stream_header b 0)))
     unfolding dump_of
     bad-packet-ends-it fine = rw fine (listed_error (stream_header b 0).size stream_header_size (drop stream_header_size (take (stream_header b 0).size b)))
 
-    pub bad-header-ends-it : (r : Refusal) → stream_rules (length b) (stream_header b 0) ≡ Broken r → text_of (dump_of strict b) ≡ ending_text (refused r)
+    pub bad-header-ends-it : (r : Refusal) → stream_rules (length b) (stream_header b 0) ≡ Err r → text_of (dump_of strict b) ≡ ending_text (refused r)
     unfolding dump_of text_of lines_of
     bad-header-ends-it r bad = rw bad
 

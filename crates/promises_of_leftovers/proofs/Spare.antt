@@ -1,5 +1,5 @@
 -- The theorems of specs/Spare.antt, and what they rest on. Assumes nothing.
-use Rattle.std.specs.Prelude.{◌≡◌, refl, Bool, length}
+use Rattle.std.specs.Prelude.{◌≡◌, refl, Bool, length, Err, Ok}
 use Rattle.std.proofs.Math.Bool.{true, false}
 use mathlib.Core.List.{List}
 use Rattle.std.proofs.Common.{leb-true}
@@ -7,11 +7,9 @@ use Prim.Native.Nat.{ℕ, zero, suc, ◌+◌, ◌≤◌}
 use native.Mathlib.Omega.{arith}
 use Rattle.std.proofs.Math.Dec.{leb}
 use Rattle.rules.specs.Layouts.{packet_header_size, stream_header_size, descriptor_layout, packet_header_layout}
-use Rattle.rules.specs.Stream.{known, least_size, frame_of, size_of, left}
+use Rattle.rules.specs.Stream.{known, least_size, frame_of, size_of, left, Frame}
 use Rattle.rules.specs.Listed.{placed, where_true, frame_listed, packet_listed, behind, packets_listed, stream_listed, packet_layout}
 use Rattle.rules.specs.declared.Stream.{Stream}
-use Rattle.rules.specs.declared.Frame.{Frame}
-use Rattle.rules.specs.declared.Frame.TheVariants.{Whole, Misframed}
 use Rattle.stream_packets.specs.Framing.{FrameFits, frame-sound}
 use Rattle.promises_of_packets.specs.Held.{Every, every-none, every-both}
 use Rattle.promises_of_submissions.specs.Reads.{Ends, named-inside}
@@ -39,11 +37,11 @@ module _ (m : List ℕ) (s : Stream) where
       by_test false t = every-none ((Within m s) at)
 
       by_frame : (f : Frame) → frame_of (left m s at) ≡ f → Every ((Within m s) at) (frame_listed f (s.gpa + at))
-      by_frame (Whole op size) e =
+      by_frame (Ok (op, size)) e =
           let fits : FrameFits (left m s at) op size = frame-sound (left m s at) op size e in
           let ends : at + size ≤ s.size = left-inside s at m size (omega (arith, fits.header)) fits.inside in
           placed-between (least_size op) (s.gpa + at) (s.gpa + at) (s.gpa + s.size) (packet_layout op) (named-inside op) (omega arith) (omega (arith, fits.known))
-      by_frame (Misframed r) e = every-none ((Within m s) at)
+      by_frame (Err r) e = every-none ((Within m s) at)
 
   packets-within : (k at : ℕ) → Every ((Within m s) at) (packets_listed k m s at)
   unfolding packets_listed
@@ -53,8 +51,8 @@ module _ (m : List ℕ) (s : Stream) where
       (by_frame (frame_of (left m s at)) (λ n. (within-less m s) at (at + n) (omega arith) (packets_listed k m s (at + n)) (packets-within k (at + n))))
     where
       by_frame : (f : Frame) → ((n : ℕ) → Every ((Within m s) at) (packets_listed k m s (at + n))) → Every ((Within m s) at) (behind f (packets_listed k m s (at + size_of f)))
-      by_frame (Whole op size) later = later size
-      by_frame (Misframed r) later = every-none ((Within m s) at)
+      by_frame (Ok (op, size)) later = later size
+      by_frame (Err r) later = every-none ((Within m s) at)
 
   pub bytes-past-the-stream-size-are-not-named : Every (Between (s.gpa + stream_header_size) (s.gpa + s.size)) (stream_listed m s stream_header_size)
   bytes-past-the-stream-size-are-not-named = packets-within (suc s.size) stream_header_size

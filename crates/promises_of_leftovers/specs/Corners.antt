@@ -1,5 +1,5 @@
 -- How far the list goes where an opening ends early: each part only where it is read. Assumes nothing.
-use Rattle.std.specs.Prelude.{◌≡◌, false, ◌&&◌, ℕ, ◌+◌, ◌<◌, ltb, leb, length}
+use Rattle.std.specs.Prelude.{◌≡◌, false, ◌&&◌, ℕ, ◌+◌, ◌<◌, ltb, leb, length, Err}
 use Rattle.std.proofs.Common.{◌∙◌}
 use Rattle.std.proofs.Math.Bool.{true}
 use mathlib.Core.List.{List, [], append-nil}
@@ -14,8 +14,6 @@ use Rattle.rules.specs.Listed.{placed, slot_listed, opening_listed, packet_liste
 use Rattle.rules.specs.declared.Job.{Job}
 use Rattle.rules.specs.declared.Refusal.{Refusal}
 use Rattle.rules.specs.declared.Stream.{Stream}
-use Rattle.rules.specs.declared.Frame.TheVariants.{Misframed}
-use Rattle.rules.specs.declared.Verdict.TheVariants.{Broken}
 use Rattle.rules.specs.declared.Opening.TheVariants.{Refused}
 
 module _ (m : List ℕ) (ring size : ℕ) where
@@ -38,7 +36,7 @@ module _ (m : List ℕ) (ring size : ℕ) where
       rw (e, g, t) (append-nil _ ∙ append-nil _)
 
 -- a slot that 11 or 12 refuses: its descriptor alone
-pub refused-slot-lists-its-descriptor : (m : List ℕ) (at stride : ℕ) (r : Refusal) → descriptor_rules stride (descriptor m at) ▹ range_rules (length m) (descriptor m at) ≡ Broken r
+pub refused-slot-lists-its-descriptor : (m : List ℕ) (at stride : ℕ) (r : Refusal) → descriptor_rules stride (descriptor m at) ▹ range_rules (length m) (descriptor m at) ≡ Err r
     → slot_listed m at stride ≡ placed at descriptor_layout
 unfolding slot_listed
 refused-slot-lists-its-descriptor m at stride r e = rw e (append-nil _)
@@ -48,7 +46,7 @@ pub refused-lists-no-entry : (m : List ℕ) (ring size : ℕ) (j : Job) (r : Ref
 unfolding submission_listed
 refused-lists-no-entry m ring size j r e = rw e (append-nil _)
 
-short-is-misframed : (b : List ℕ) → length b < packet_header_size → frame_of b ≡ Misframed (refusal bad_packet)
+short-is-misframed : (b : List ℕ) → length b < packet_header_size → frame_of b ≡ Err (refusal bad_packet)
 unfolding frame_of frame_rules
 short-is-misframed b h = let short : ltb (length b) packet_header_size ≡ true = lt-ltb _ _ h in rw short
 

@@ -1,6 +1,6 @@
 -- What a submission lists, from its opening on, covers what its units list, one after the other, up to the settling: of any property of fields. Assumes
 -- nothing.
-use Rattle.std.specs.Prelude.{◌≡◌, Bool, true, false, ltb, drop}
+use Rattle.std.specs.Prelude.{◌≡◌, Bool, true, false, ltb, drop, Err, Ok}
 use Rattle.std.proofs.Math.Path.{refl, subst}
 use Rattle.std.proofs.Common.{ap, ◌∙◌, ltb-true, length-append}
 use mathlib.Core.List.{List, [], ◌++◌, append_assoc}
@@ -10,10 +10,10 @@ use native.Mathlib.Omega.{arith}
 use Rattle.std.proofs.Math.ListN.{length, length-take, length-drop}
 use Rattle.machine.specs.Machine.{pick}
 use Rattle.rules.specs.Numbers.{bad_entry}
-use Rattle.rules.specs.Judging.{refusal}
+use Rattle.rules.specs.Judging.{refusal, Verdict}
 use Rattle.rules.specs.Layouts.{entry, stream_header_size, entry_layout}
 use Rattle.rules.specs.Table.{entry_place, entry_rules, keep, in_reach, take_entry}
-use Rattle.rules.specs.Stream.{frame_of, size_of, left, stream_bytes}
+use Rattle.rules.specs.Stream.{frame_of, size_of, left, stream_bytes, Frame}
 use Rattle.rules.specs.Packets.{Progress, Belongings, at_first, pass_frame, take_packet}
 use Rattle.rules.specs.State.{Work, World}
 use Rattle.rules.specs.State.Work.{resting, entries, packets, waiting}
@@ -25,10 +25,6 @@ use Rattle.rules.specs.declared.Registers.{Registers}
 use Rattle.rules.specs.declared.Table.{Table}
 use Rattle.rules.specs.declared.Stream.{Stream}
 use Rattle.rules.specs.declared.Opened.{Opened}
-use Rattle.rules.specs.declared.Frame.{Frame}
-use Rattle.rules.specs.declared.Frame.TheVariants.{Whole, Misframed}
-use Rattle.rules.specs.declared.Verdict.{Verdict}
-use Rattle.rules.specs.declared.Verdict.TheVariants.{Fine, Broken}
 use Rattle.stream_packets.specs.Framing.{FrameFits, frame-sound}
 use Rattle.rule_laws.specs.Fine.{broken-not-fine}
 use Rattle.promises_of_packets.specs.Held.{Every, every-none, every_front, every_back}
@@ -43,17 +39,17 @@ entries_next t i n h = let e : n - i ≡ suc (n - suc i) = omega arith in rw e
 
 -- what is behind a packet counts only where the packet is whole
 behind-same : (k k' : ℕ) (m : List ℕ) (s : Stream) (at : ℕ)
-    → ((op size : ℕ) → frame_of (left m s at) ≡ Whole op size → packets_listed k m s (at + size) ≡ packets_listed k' m s (at + size))
+    → ((op size : ℕ) → frame_of (left m s at) ≡ Ok (op, size) → packets_listed k m s (at + size) ≡ packets_listed k' m s (at + size))
     → packets_listed (suc k) m s at ≡ packets_listed (suc k') m s at
 unfolding packets_listed
 behind-same k k' m s at later = ap (λ (l : List Named). packet_listed m s at ++ l) (by_frame (frame_of (left m s at)) refl)
   where
     by_frame : (f : Frame) → frame_of (left m s at) ≡ f → behind f (packets_listed k m s (at + size_of f)) ≡ behind f (packets_listed k' m s (at + size_of f))
-    by_frame (Whole op size) e = later op size e
-    by_frame (Misframed r) e = refl
+    by_frame (Ok (op, size)) e = later op size e
+    by_frame (Err r) e = refl
 
 -- fewer bytes are left behind a packet
-left-fewer : (m : List ℕ) (s : Stream) (at op size : ℕ) → frame_of (left m s at) ≡ Whole op size → length (left m s (at + size)) < length (left m s at)
+left-fewer : (m : List ℕ) (s : Stream) (at op size : ℕ) → frame_of (left m s at) ≡ Ok (op, size) → length (left m s (at + size)) < length (left m s at)
 left-fewer m s at op size e =
     let fits : FrameFits (left m s at) op size = frame-sound (left m s at) op size e in
     let here : length (left m s at) ≡ length (stream_bytes m s) - at = length-drop at (stream_bytes m s) in
@@ -70,17 +66,17 @@ packets-fuel (suc k) (suc k') m s at h h' =
     (λ op size e. packets-fuel k k' m s (at + size) (omega (arith, left-fewer m s at op size e)) (omega (arith, left-fewer m s at op size e)))
 
 -- an entry that is kept is one more
-kept-one-more : (m : List ℕ) (t : Table) (kept : List Entry) → (take_entry m t kept).verdict ≡ Fine → length (take_entry m t kept).kept ≡ suc (length kept)
+kept-one-more : (m : List ℕ) (t : Table) (kept : List Entry) → (take_entry m t kept).verdict ≡ Ok tt → length (take_entry m t kept).kept ≡ suc (length kept)
 unfolding take_entry
 kept-one-more m t kept = by_tests (in_reach m t (length kept)) (entry_rules (length m) kept next)
   where
     next : Entry
     next = entry m (entry_place t (length kept))
 
-    by_tests : (b : Bool) (v : Verdict) → (pick b (keep v kept next) (record { verdict = Broken (refusal bad_entry); kept = kept })).verdict ≡ Fine
-        → length (pick b (keep v kept next) (record { verdict = Broken (refusal bad_entry); kept = kept })).kept ≡ suc (length kept)
-    by_tests true Fine e = rw length-append (omega arith)
-    by_tests true (Broken r) e = absurd (broken-not-fine r e)
+    by_tests : (b : Bool) (v : Verdict) → (pick b (keep v kept next) (record { verdict = Err (refusal bad_entry); kept = kept })).verdict ≡ Ok tt
+        → length (pick b (keep v kept next) (record { verdict = Err (refusal bad_entry); kept = kept })).kept ≡ suc (length kept)
+    by_tests true (Ok tt) e = rw length-append (omega arith)
+    by_tests true (Err r) e = absurd (broken-not-fine r e)
     by_tests false v e = absurd (broken-not-fine (refusal bad_entry) e)
 
 -- ---- one unit
@@ -111,14 +107,14 @@ module _ (P : Named → Type 0) where
         by_test false t = packets-ahead o.job o.stream stream_header_size kept (at_first owned) (every_back P (entries_listed o.table i (o.table.count - i)) _ s)
 
     -- behind a packet that is fine
-    packet-ahead : (t : Stream) (at : ℕ) (es : List Entry) (h : Progress) → (take_packet es h (left m t at)).verdict ≡ Fine
+    packet-ahead : (t : Stream) (at : ℕ) (es : List Entry) (h : Progress) → (take_packet es h (left m t at)).verdict ≡ Ok tt
         → Every P (stream_listed m t at) → Every P (stream_listed m t (next_place at (left m t at)))
     unfolding take_packet packets_listed
     packet-ahead t at es h good s = by_frame (frame_of (left m t at)) refl good (every_back P (packet_listed m t at) _ s)
       where
-        by_frame : (f : Frame) → frame_of (left m t at) ≡ f → (pass_frame es h (left m t at) f).verdict ≡ Fine
+        by_frame : (f : Frame) → frame_of (left m t at) ≡ f → (pass_frame es h (left m t at) f).verdict ≡ Ok tt
             → Every P (behind f (packets_listed t.size m t (at + size_of f))) → Every P (stream_listed m t (at + size_of f))
-        by_frame (Whole op size) e fine s =
+        by_frame (Ok (op, size)) e fine s =
             let fewer : length (left m t (at + size)) < length (left m t at) = left-fewer m t at op size e in
             let here : length (left m t at) ≡ length (stream_bytes m t) - at = length-drop at (stream_bytes m t) in
             let few : length (stream_bytes m t) ≤ t.size = rw length-take (min-le_left t.size (length (drop t.gpa m))) in
@@ -126,7 +122,7 @@ module _ (P : Named → Type 0) where
             let same : packets_listed (suc (t.size - 1)) m t (at + size) ≡ stream_listed m t (at + size) =
             packets-fuel (t.size - 1) t.size m t (at + size) (omega arith) (omega arith) in
             subst (Every P) (ap (λ (k : ℕ). packets_listed k m t (at + size)) some ∙ same) s
-        by_frame (Misframed r) e fine s = absurd (broken-not-fine r fine)
+        by_frame (Err r) e fine s = absurd (broken-not-fine r fine)
 
   -- what is listed from the next unit on was listed before
   pub next-listed : (w : World) (k next : Work) → Next w k next → Every P (listed_at w.state.regs k w.mem) → Every P (listed_at w.state.regs next w.mem)

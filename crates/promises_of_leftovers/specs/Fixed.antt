@@ -1,25 +1,21 @@
 -- What is listed is fixed by the bytes that are listed: two memories that agree on what one of them lists list the same. So it does not matter in which of the two it is
 -- read. Assumes nothing.
-use Rattle.std.specs.Prelude.{◌≡◌, Bool, true, false, not, ◌&&◌, eqb, length}
+use Rattle.std.specs.Prelude.{◌≡◌, Bool, true, false, not, ◌&&◌, eqb, length, Err, Ok}
 use Rattle.std.proofs.Math.Path.{refl}
 use Rattle.std.proofs.Common.{ap, ◌∙◌}
 use mathlib.Core.List.{List, ◌++◌}
 use Prim.Native.Nat.{ℕ, zero, suc, ◌+◌, ◌-◌}
 use Rattle.std.proofs.lemmas.Bool.{eqb-false}
 use Rattle.std.proofs.Math.Dec.{leb}
-use Rattle.rules.specs.Judging.{◌▹◌}
+use Rattle.rules.specs.Judging.{◌▹◌, Verdict}
 use Rattle.rules.specs.Layouts.{ring_header, ring_header_size, descriptor, stream_header_size, ring_header_layout, descriptor_layout}
-use Rattle.rules.specs.Stream.{frame_of, size_of, left}
+use Rattle.rules.specs.Stream.{frame_of, size_of, left, Frame}
 use Rattle.rules.specs.Ring.{descriptor_rules, range_rules, good_ring, slot_place}
 use Rattle.rules.specs.Listed.{placed, Named, where_true, where_fine, ranges_listed, slot_listed, opening_listed, entries_listed, packet_listed, behind, packets_listed, opened_listed}
 use Rattle.rules.specs.declared.Descriptor.{Descriptor}
 use Rattle.rules.specs.declared.RingHeader.{RingHeader}
 use Rattle.rules.specs.declared.Stream.{Stream}
 use Rattle.rules.specs.declared.Opened.{Opened}
-use Rattle.rules.specs.declared.Frame.{Frame}
-use Rattle.rules.specs.declared.Frame.TheVariants.{Whole, Misframed}
-use Rattle.rules.specs.declared.Verdict.{Verdict}
-use Rattle.rules.specs.declared.Verdict.TheVariants.{Fine, Broken}
 use Rattle.promises_of_submissions.specs.Reads.{AgreeOn}
 use Rattle.promises_of_submissions.specs.OpeningRead.{RangesRead, SlotRead, OpeningRead, same-table-rules, same_good, same-header}
 use Rattle.promises_of_submissions.specs.LocalPackets.{left-length}
@@ -39,9 +35,9 @@ module _ (m m' : List ℕ) (len : length m ≡ length m') where
     where
       by-verdicts : (u v : Verdict) → descriptor_rules stride (descriptor m at) ≡ u → range_rules (length m) (descriptor m at) ≡ v
           → placed at descriptor_layout ++ where_fine (u ▹ v) (ranges_listed m (descriptor m at)) ≡ placed at descriptor_layout ++ where_fine (u ▹ v) (ranges_listed m' (descriptor m at))
-      by-verdicts Fine Fine p q = rw (same-ranges (descriptor m at) (same.ranges p q))
-      by-verdicts Fine (Broken r) p q = refl
-      by-verdicts (Broken r) v p q = refl
+      by-verdicts (Ok tt) (Ok tt) p q = rw (same-ranges (descriptor m at) (same.ranges p q))
+      by-verdicts (Ok tt) (Err r) p q = refl
+      by-verdicts (Err r) v p q = refl
 
   pub same-opening-listed : (ring size : ℕ) → OpeningRead m m' ring size → opening_listed m ring size ≡ opening_listed m' ring size
   unfolding opening_listed
@@ -81,8 +77,8 @@ module _ (m m' : List ℕ) (len : length m ≡ length m') where
     where
       by_frame : (f : Frame) → ((n : ℕ) → AgreeOn m m' (packets_listed k m s (at + n)) → packets_listed k m s (at + n) ≡ packets_listed k m' s (at + n))
           → AgreeOn m m' (behind f (packets_listed k m s (at + size_of f))) → behind f (packets_listed k m s (at + size_of f)) ≡ behind f (packets_listed k m' s (at + size_of f))
-      by_frame (Whole op size) later same = later size same
-      by_frame (Misframed r) later same = refl
+      by_frame (Ok (op, size)) later same = later size same
+      by_frame (Err r) later same = refl
 
   -- ---- a submission
 

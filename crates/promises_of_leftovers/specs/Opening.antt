@@ -1,14 +1,12 @@
 -- Two memories that agree on what an opening lists open alike. Assumes nothing.
-use Rattle.std.specs.Prelude.{◌≡◌, Bool, true, List, ◌++◌, ℕ, length}
+use Rattle.std.specs.Prelude.{◌≡◌, Bool, true, List, ◌++◌, ℕ, length, Ok}
 use borrow.Author.Tests.{le-leb}
 use Rattle.std.proofs.Math.Dec.{leb}
-use Rattle.rules.specs.Judging.{◌▹◌}
+use Rattle.rules.specs.Judging.{◌▹◌, Verdict}
 use Rattle.rules.specs.Layouts.{descriptor, table_header_size, stream_header_size, descriptor_layout}
 use Rattle.rules.specs.Ring.{descriptor_rules, range_rules}
 use Rattle.rules.specs.Listed.{placed, Named, where_true, where_fine, ranges_listed, slot_listed, table_fine}
 use Rattle.rules.specs.declared.Descriptor.{Descriptor}
-use Rattle.rules.specs.declared.Verdict.{Verdict}
-use Rattle.rules.specs.declared.Verdict.TheVariants.{Fine}
 use Rattle.promises_of_packets.specs.Held.{every_front, every_back}
 use Rattle.promises_of_submissions.specs.Reads.{AgreeOn, SameIn, named-descriptor, named-table-header, named-stream-header}
 use Rattle.promises_of_submissions.specs.OpeningRead.{RangesRead, SlotRead}
@@ -18,7 +16,7 @@ module _ (m m' : List ℕ) where
   pub on-true : (t : Bool) (l : List Named) → t ≡ true → AgreeOn m m' (where_true t l) → AgreeOn m m' l
   on-true t l e s = rw e at s
 
-  on_fine : (v : Verdict) (l : List Named) → v ≡ Fine → AgreeOn m m' (where_fine v l) → AgreeOn m m' l
+  on_fine : (v : Verdict) (l : List Named) → v ≡ Ok tt → AgreeOn m m' (where_fine v l) → AgreeOn m m' l
   on_fine v l e s = rw e at s
 
   pub front_of : (xs ys : List Named) → AgreeOn m m' (xs ++ ys) → AgreeOn m m' xs

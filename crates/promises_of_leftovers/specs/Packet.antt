@@ -1,5 +1,5 @@
 -- Two memories that agree on what the packet at a place of a stream lists frame it alike, with the same result. Assumes nothing.
-use Rattle.std.specs.Prelude.{◌≡◌, Bool, leb, take, drop}
+use Rattle.std.specs.Prelude.{◌≡◌, Bool, leb, take, drop, Ok}
 use Rattle.std.proofs.Math.Path.{refl, sym}
 use Rattle.std.proofs.Common.{ap, ◌∙◌, zero-add, add_assoc, le-leb, ltb-false, drop-drop}
 use Rattle.std.proofs.Math.Bool.{true, false}
@@ -13,7 +13,6 @@ use Rattle.rules.specs.Layouts.{packet_header_size, packet_header_layout}
 use Rattle.rules.specs.Stream.{least_size, frame_rules, frame_of, left}
 use Rattle.rules.specs.Listed.{placed, where_true, frame_listed, packet_listed, packet_layout}
 use Rattle.rules.specs.declared.Stream.{Stream}
-use Rattle.rules.specs.declared.Frame.TheVariants.{Whole}
 use Rattle.stream_packets.specs.Framing.{FrameFits, frame-sound}
 use Rattle.promises_of_packets.specs.Held.{Every}
 use Rattle.promises_of_submissions.specs.LocalBytes.{Agree, front_read}
@@ -70,7 +69,7 @@ module _ (s : Stream) (at : ℕ) (m m' : List ℕ) (len : length m ≡ length m'
       left-same s at m m' len packet_header_layout (omega arith, (omega arith, omega arith))
       (rw (le-leb packet_header_size (length (left m s at)) h) at (front_of m m' (where_true (leb packet_header_size (length (left m s at))) (placed (s.gpa + at) packet_header_layout)) _ same))
 
-  pub fields-same : (op size : ℕ) → frame_of (left m s at) ≡ Whole op size → AgreeOn (left m s at) (left m' s at) (placed 0 (packet_layout op))
+  pub fields-same : (op size : ℕ) → frame_of (left m s at) ≡ Ok (op, size) → AgreeOn (left m s at) (left m' s at) (placed 0 (packet_layout op))
   unfolding packet_listed
   fields-same op size e =
       let fits : FrameFits (left m s at) op size = frame-sound (left m s at) op size e in

@@ -1,6 +1,6 @@
 -- Wish 12, "beyond": where ring and fence page stay where they are, the head and fence writes are those of that ring and that page. It is then enough that no listed byte but the
 -- head's own lies in the ring's head or in the page. Assumes nothing.
-use Rattle.std.specs.Prelude.{◌≡◌, Bool, ◌⊎◌, ℕ, ◌+◌, ◌≤◌, ltb, eqb, length}
+use Rattle.std.specs.Prelude.{◌≡◌, Bool, ◌⊎◌, ℕ, ◌+◌, ◌≤◌, ltb, eqb, length, Err, Ok}
 use Rattle.std.proofs.Math.Path.{refl, sym}
 use Rattle.std.proofs.Common.{subst, ◌∙◌, inl, inr, arith, eq-eqb}
 use Rattle.std.proofs.Math.Bool.{true, false}
@@ -8,7 +8,7 @@ use mathlib.Core.List.{List, []}
 use Rattle.std.proofs.Math.ListN.{get_or}
 use Rattle.machine.specs.Machine.{pick}
 use Rattle.rules.specs.Bytes.{bytes_of}
-use Rattle.rules.specs.Judging.{Finding}
+use Rattle.rules.specs.Judging.{Finding, Verdict}
 use Rattle.rules.specs.Layouts.{ring_header, head_offset, descriptor, stream_header_size}
 use Rattle.rules.specs.Ring.{job_of, opened_of, concluded, slot_place, submission_rules, submission_opening, good_ring, ring_opening, opening_of}
 use Rattle.rules.specs.Registers.{bit_of, with_enabled, reset_registers, reset, controlled, Write}
@@ -27,8 +27,6 @@ use Rattle.rules.specs.declared.Opened.{Opened}
 use Rattle.rules.specs.declared.Stream.{Stream}
 use Rattle.rules.specs.declared.Descriptor.{Descriptor}
 use Rattle.rules.specs.declared.RingHeader.{RingHeader}
-use Rattle.rules.specs.declared.Verdict.{Verdict}
-use Rattle.rules.specs.declared.Verdict.TheVariants.{Fine, Broken}
 use Rattle.rules.specs.declared.Opening.{Opening}
 use Rattle.rules.specs.declared.Opening.TheVariants.{BadRing, NoWork, Refused, Started}
 use Rattle.settle.specs.Only.{Apart, head_at, written_byte, only-head-and-page, settling-keeps-ring, settling-keeps-page}
@@ -78,8 +76,8 @@ opening_ring m ring size = by_tests (good_ring m ring size) (eqb h.head h.tail) 
 
     by_tests : (g t : Bool) (v : Verdict) → RingIs ring (pick g (pick t NoWork (concluded v (job_of ring h d) (opened_of m (job_of ring h d) d))) BadRing)
     by_tests true true v = omega arith
-    by_tests true false Fine = refl
-    by_tests true false (Broken r) = refl
+    by_tests true false (Ok tt) = refl
+    by_tests true false (Err r) = refl
     by_tests false t v = omega arith
 
 -- ---- a write of another register

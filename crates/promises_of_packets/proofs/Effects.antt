@@ -1,5 +1,5 @@
 -- The theorems of specs/Effects.antt, and what they rest on. Assumes nothing.
-use Rattle.std.specs.Prelude.{◌≡◌, true, List, ℕ}
+use Rattle.std.specs.Prelude.{◌≡◌, true, List, ℕ, Err, Ok}
 use Rattle.std.proofs.Math.Path.{refl}
 use Rattle.machine.specs.Machine.{pick}
 use Rattle.rules.specs.Numbers.{bad_state, backs}
@@ -14,7 +14,6 @@ use Rattle.rules.specs.declared.Resource.{Resource}
 use Rattle.rules.specs.declared.Shape.{Shape}
 use Rattle.rules.specs.declared.SetScissor.{SetScissor}
 use Rattle.rules.specs.declared.Refusal.{Refusal}
-use Rattle.rules.specs.declared.Verdict.TheVariants.{Fine, Broken}
 use Rattle.rules.specs.declared.Packet.{Packet}
 use Rattle.rules.specs.declared.Packet.TheVariants.{Buffer, Texture, Destroy, Dirty, Copy, Target, Viewport, Scissor, Clear, Export, Import, Release, NotANumber, Unknown}
 use Rattle.promises_of_packets.specs.Effects.{Clipped, Exported, Fresh, Imported, InRange, Of, buffer-created, copy-or, create-or, destroy-or, destroyed, dirty-or, export-or, going_on, import-or, imported, refuse-or, release-or, scissor-or, target-or, texture-created, tokens_now}
@@ -22,13 +21,13 @@ use Rattle.promises_of_packets.specs.Effects.{Clipped, Exported, Fresh, Imported
 -- ---- one packet, whatever it is
 
 module _ (P : Passed → Type 0) (es : List Entry) (h : Progress)
-    (refuses : (r : Refusal) → P (record { verdict = Broken r; held = h }))
-    (keeps : P (record { verdict = Fine; held = h }))
+    (refuses : (r : Refusal) → P (record { verdict = Err r; held = h }))
+    (keeps : P (record { verdict = Ok tt; held = h }))
     (stores : (r : Resource) → Fresh h.holdings r → P (going_on h (stored r h.holdings)))
     (backs-up : (r : Resource) (e : Entry) → Fresh h.holdings r → InRange es h.holdings backs r e 0 r.bytes → P (going_on h (recorded (range_of backs r e 0 r.bytes) (stored r h.holdings))))
     (removes : (k : ℕ) (r : Resource) → live k h.holdings ≡ found r → P (destroyed h k r))
     (hands : (kind : ℕ) (r : Resource) (e : Entry) (from size : ℕ) → InRange es h.holdings kind r e from size → P (going_on h (recorded (range_of kind r e from size) h.holdings)))
-    (targets : (k : ℕ) (s : Shape) → live_texture k h.holdings ≡ found s → P (record { verdict = Fine; held = record { holdings = h.holdings; target = k; tokens = h.tokens } }))
+    (targets : (k : ℕ) (s : Shape) → live_texture k h.holdings ≡ found s → P (record { verdict = Ok tt; held = record { holdings = h.holdings; target = k; tokens = h.tokens } }))
     (cuts : (s : Shape) (c : SetScissor) → Clipped h.target h.holdings s c → P (going_on h (recorded (clip_of s c) h.holdings)))
     (exports : (k token : ℕ) (r : Resource) → Exported h k token r → P (tokens_now h (with_token token r.lowest h.tokens)))
     (imports : (k token : ℕ) (r : Resource) → Imported h k token r → P (imported h k r))

@@ -1,5 +1,5 @@
 -- The theorems of specs/Held.antt, and what they rest on. Assumes nothing.
-use Rattle.std.specs.Prelude.{◌≡◌, Bool, take}
+use Rattle.std.specs.Prelude.{◌≡◌, Bool, take, Err, Ok}
 use Rattle.std.proofs.Math.Path.{refl, ap, subst}
 use Rattle.std.proofs.Common.{sym, ◌∙◌, length-append}
 use Rattle.std.proofs.Math.Bool.{true, false}
@@ -13,7 +13,7 @@ use Rattle.machine.specs.Machine.{pick}
 use Rattle.rules.specs.Numbers.{most}
 use Rattle.rules.specs.Lists.{lookup, index_of, pushed}
 use Rattle.rules.specs.Lists.Found.{none, found}
-use Rattle.rules.specs.Stream.{frame_of, packet_of}
+use Rattle.rules.specs.Stream.{frame_of, packet_of, Frame}
 use Rattle.rules.specs.StatePackets.{clip_of}
 use Rattle.rules.specs.Names.{shareable, under, rename, lower, lowest_left, names_left, tokens_left, names_with, tokens_with}
 use Rattle.rules.specs.Packets.{Holdings, at_first, left_by, handle_of, live, range_of, without, Progress, Belongings, pass, pass_frame, take_packet}
@@ -24,10 +24,7 @@ use Rattle.rules.specs.declared.Token.{Token}
 use Rattle.rules.specs.declared.Shape.{Shape}
 use Rattle.rules.specs.declared.SetScissor.{SetScissor}
 use Rattle.rules.specs.declared.Refusal.{Refusal}
-use Rattle.rules.specs.declared.Frame.{Frame}
-use Rattle.rules.specs.declared.Frame.TheVariants.{Whole, Misframed}
 use Rattle.rules.specs.declared.Packet.{Packet}
-use Rattle.rules.specs.declared.Verdict.TheVariants.{Broken}
 use Rattle.rows.specs.Keys.{Once, once-nil, once-pushed, once-removed, lookup-nil, lookup-pushed-other, lookup-removed-other, length_removed}
 use Rattle.rule_laws.specs.Created.{AsCreated}
 use Rattle.promises_of_packets.specs.Effects.{created-by-any-name, Fresh, InRange, Imported}
@@ -238,8 +235,8 @@ module _ (es : List Entry) (h : Progress) (s : SoundProgress es h) where
   take-sound b = by_frame (frame_of b)
     where
       by_frame : (f : Frame) → SoundProgress es (pass_frame es h b f).held
-      by_frame (Whole op size) = pass-sound (packet_of op (take size b))
-      by_frame (Misframed r) = s
+      by_frame (Ok (op, size)) = pass-sound (packet_of op (take size b))
+      by_frame (Err r) = s
 
 -- ---- a packet that is refused changes neither resources nor records, and leaves the target and the tokens
 
@@ -255,5 +252,5 @@ unfolding take_packet
 refused-keeps-progress es h b = by_frame (frame_of b)
   where
     by_frame : (f : Frame) → KeepsIfBroken h (pass_frame es h b f)
-    by_frame (Whole op size) = refused-packet-keeps-progress es h (packet_of op (take size b))
-    by_frame (Misframed r) = λ n e. refl
+    by_frame (Ok (op, size)) = refused-packet-keeps-progress es h (packet_of op (take size b))
+    by_frame (Err r) = λ n e. refl

@@ -1,6 +1,6 @@
 -- What a packet can come to, whatever it is: refused with what was held, or one of ten effects, each with what the rules then
 -- know. A fact about what a submission carries from packet to packet is shown once for these. Assumes nothing.
-use Rattle.std.specs.Prelude.{◌≡◌, Bool, true, false, not, ◌&&◌, ◌||◌, List, ℕ, ◌+◌, ◌%◌, ◌≤◌, ◌<◌, eqb, length}
+use Rattle.std.specs.Prelude.{◌≡◌, Bool, true, false, not, ◌&&◌, ◌||◌, List, ℕ, ◌+◌, ◌%◌, ◌≤◌, ◌<◌, eqb, length, Err, Ok}
 use Rattle.std.proofs.Math.Path.{refl}
 use native.Mathlib.Omega.{arith}
 use borrow.Author.Tests.{eqb-false, leb-false, ltb-false, not-true, not-false}
@@ -28,7 +28,6 @@ use Rattle.rules.specs.declared.ImportSurface.{ImportSurface}
 use Rattle.rules.specs.declared.ReleaseToken.{ReleaseToken}
 use Rattle.rules.specs.declared.Token.{Token}
 use Rattle.rules.specs.declared.Refusal.{Refusal}
-use Rattle.rules.specs.declared.Verdict.TheVariants.{Fine, Broken}
 use Rattle.rules.specs.declared.Kind.{Kind}
 use Rattle.rules.specs.declared.Kind.TheVariants.{Buffer as BufferKind, Texture as TextureKind}
 use Rattle.rules.specs.declared.Packet.{Packet}
@@ -129,7 +128,7 @@ pub record Imported (h : Progress) (k token : ℕ) (r : Resource) : Type 0 where
 
 -- ---- a packet's rules, one by one
 
-module _ (P : Outcome → Type 0) (h : Holdings) (refuses : (r : Refusal) → P (record { verdict = Broken r; held = h })) where
+module _ (P : Outcome → Type 0) (h : Holdings) (refuses : (r : Refusal) → P (record { verdict = Err r; held = h })) where
   pub refuse-or : (n : ℕ) (t : Bool) (later : Outcome) → (t ≡ false → P later) → P (refuse n t h later)
   refuse-or n true later k = refuses (refusal n)
   refuse-or n false later k = k refl
@@ -263,7 +262,7 @@ module _ (P : Outcome → Type 0) (h : Holdings) (refuses : (r : Refusal) → P 
   unfolding on_release_packet
   release-or ts c releases = bound-or (bound c.token ts h.resources) _ releases
 
-module _ (P : Outcome → Type 0) (h : Progress) (refuses : (r : Refusal) → P (record { verdict = Broken r; held = h.holdings })) where
+module _ (P : Outcome → Type 0) (h : Progress) (refuses : (r : Refusal) → P (record { verdict = Err r; held = h.holdings })) where
   pub export-or : (c : ExportSurface) → ((r : Resource) → Exported h c.handle c.token r → P (accepted h.holdings)) → P (on_export_packet h.tokens h.holdings c)
   unfolding on_export_packet
   export-or c exports =
@@ -278,17 +277,17 @@ module _ (P : Outcome → Type 0) (h : Progress) (refuses : (r : Refusal) → P 
 
 -- what is held after it, with the same target and the same tokens
 abbrev pub going_on : Progress → Holdings → Passed
-going_on h held = record { verdict = Fine; held = record { holdings = held; target = h.target; tokens = h.tokens } }
+going_on h held = record { verdict = Ok tt; held = record { holdings = held; target = h.target; tokens = h.tokens } }
 
 -- what is held, with other tokens
 abbrev pub tokens_now : Progress → List Token → Passed
-tokens_now h ts = record { verdict = Fine; held = record { holdings = h.holdings; target = h.target; tokens = ts } }
+tokens_now h ts = record { verdict = Ok tt; held = record { holdings = h.holdings; target = h.target; tokens = ts } }
 
 -- without one name of a resource
 abbrev pub destroyed : Progress → ℕ → Resource → Passed
 destroyed h k r =
     record {
-      verdict = Fine;
+      verdict = Ok tt;
       held = record {
         holdings = record { resources = names_left r (without k h.holdings); records = h.holdings.records };
         target = pick (eqb k h.target) 0 h.target;
@@ -300,7 +299,7 @@ destroyed h k r =
 abbrev pub imported : Progress → ℕ → Resource → Passed
 imported h k r =
     record {
-      verdict = Fine;
+      verdict = Ok tt;
       held = record {
         holdings = record { resources = names_with k r h.holdings.resources; records = h.holdings.records };
         target = h.target;
@@ -309,13 +308,13 @@ imported h k r =
     }
 
 module _ (P : Passed → Type 0) (es : List Entry) (h : Progress)
-    (refuses : (r : Refusal) → P (record { verdict = Broken r; held = h }))
-    (keeps : P (record { verdict = Fine; held = h }))
+    (refuses : (r : Refusal) → P (record { verdict = Err r; held = h }))
+    (keeps : P (record { verdict = Ok tt; held = h }))
     (stores : (r : Resource) → Fresh h.holdings r → P (going_on h (stored r h.holdings)))
     (backs-up : (r : Resource) (e : Entry) → Fresh h.holdings r → InRange es h.holdings backs r e 0 r.bytes → P (going_on h (recorded (range_of backs r e 0 r.bytes) (stored r h.holdings))))
     (removes : (k : ℕ) (r : Resource) → live k h.holdings ≡ found r → P (destroyed h k r))
     (hands : (kind : ℕ) (r : Resource) (e : Entry) (from size : ℕ) → InRange es h.holdings kind r e from size → P (going_on h (recorded (range_of kind r e from size) h.holdings)))
-    (targets : (k : ℕ) (s : Shape) → live_texture k h.holdings ≡ found s → P (record { verdict = Fine; held = record { holdings = h.holdings; target = k; tokens = h.tokens } }))
+    (targets : (k : ℕ) (s : Shape) → live_texture k h.holdings ≡ found s → P (record { verdict = Ok tt; held = record { holdings = h.holdings; target = k; tokens = h.tokens } }))
     (cuts : (s : Shape) (c : SetScissor) → Clipped h.target h.holdings s c → P (going_on h (recorded (clip_of s c) h.holdings)))
     (exports : (k token : ℕ) (r : Resource) → Exported h k token r → P (tokens_now h (with_token token r.lowest h.tokens)))
     (imports : (k token : ℕ) (r : Resource) → Imported h k token r → P (imported h k r))

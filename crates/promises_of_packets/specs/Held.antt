@@ -1,7 +1,7 @@
 -- What is true of a submission's resources, records, target and tokens, whatever packets came: names are non-zero and each once, at most 64 of
 -- them and of records, every resource is as create leaves it, every record of a range lies inside the one entry with its id, the target is a
 -- live texture, and names and tokens are sound (SoundNames.antt). Assumes nothing.
-use Rattle.std.specs.Prelude.{◌≡◌, Bool, ◌||◌, nat_abs, take, drop}
+use Rattle.std.specs.Prelude.{◌≡◌, Bool, ◌||◌, nat_abs, take, drop, Err, Ok}
 use Rattle.std.proofs.Math.Path.{refl, ap, subst}
 use Rattle.std.proofs.Common.{sym, ◌∙◌}
 use Rattle.std.proofs.Math.Bool.{true, false}
@@ -25,7 +25,6 @@ use Rattle.rules.specs.declared.Record.{Record}
 use Rattle.rules.specs.declared.Shape.{Shape}
 use Rattle.rules.specs.declared.SetScissor.{SetScissor}
 use Rattle.rules.specs.declared.Refusal.{Refusal}
-use Rattle.rules.specs.declared.Verdict.TheVariants.{Fine, Broken}
 use Rattle.rows.specs.Keys.{same_or_not, lookup-here, lookup-later, Once, lookup-nil}
 use Rattle.rule_laws.specs.Created.{AsCreated}
 use Rattle.promises_of_packets.specs.Effects.{created-by-any-name}
@@ -213,7 +212,7 @@ module _ (es : List Entry) (h : Progress) (s : SoundProgress es h) where
 -- ---- a packet that is refused changes neither resources nor records, and leaves the target and the tokens
 
 abbrev pub KeepsIfBroken : Progress → Passed → Type 0
-KeepsIfBroken h o = (r : Refusal) → o.verdict ≡ Broken r → o.held ≡ h
+KeepsIfBroken h o = (r : Refusal) → o.verdict ≡ Err r → o.held ≡ h
 
-pub fine-not-broken : (r : Refusal) → Fine ≡ Broken r → ⊥
+pub fine-not-broken : (r : Refusal) → Ok tt ≡ Err r → ⊥
 fine-not-broken r e = let z : ◌≡◌ {A = ℕ} 0 1 = cc in omega arith

@@ -1,5 +1,5 @@
 -- The theorems of specs/Packets.antt, and what they rest on. Assumes nothing.
-use Rattle.std.specs.Prelude.{◌≡◌, Bool, true, false, List, ℕ, length}
+use Rattle.std.specs.Prelude.{◌≡◌, Bool, true, false, List, ℕ, length, Err, Ok}
 use Rattle.std.proofs.Math.Path.{refl, ap}
 use Rattle.std.proofs.Common.{sym, ◌∙◌}
 use Rattle.machine.specs.Machine.{pick}
@@ -11,7 +11,6 @@ use Rattle.rules.specs.declared.Entry.{Entry}
 use Rattle.rules.specs.declared.Resource.{Resource}
 use Rattle.rules.specs.declared.Record.{Record}
 use Rattle.rules.specs.declared.Refusal.{Refusal}
-use Rattle.rules.specs.declared.Verdict.TheVariants.{Fine, Broken}
 use Rattle.rows.specs.Keys.{Once, once-removed, lookup-removed-other}
 use Rattle.promises_of_packets.specs.Names.{none-not-found, found-place}
 use Rattle.promises_of_packets.specs.Held.{SoundProgress}
@@ -27,10 +26,10 @@ module _ (es : List Entry) (g h : Progress) (s : SoundProgress es g) (t : SoundP
   pub few-tokens : length g.tokens ≡ length h.tokens
   few-tokens = same_length token_of g.tokens h.tokens s.tokens.once t.tokens.once d.tokens
 
-  pub refuses : (r : Refusal) → SamePassed (record { verdict = Broken r; held = g }) (record { verdict = Broken r; held = h })
+  pub refuses : (r : Refusal) → SamePassed (record { verdict = Err r; held = g }) (record { verdict = Err r; held = h })
   refuses r = record { verdict = refl; held = d }
 
-  pub keeps : SamePassed (record { verdict = Fine; held = g }) (record { verdict = Fine; held = h })
+  pub keeps : SamePassed (record { verdict = Ok tt; held = g }) (record { verdict = Ok tt; held = h })
   keeps = record { verdict = refl; held = d }
 
   -- ---- a destroy

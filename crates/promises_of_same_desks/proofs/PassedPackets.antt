@@ -1,5 +1,5 @@
 -- Two submissions that hold the same are still the same after a packet. Assumes nothing.
-use Rattle.std.specs.Prelude.{◌≡◌, List, ℕ, take}
+use Rattle.std.specs.Prelude.{◌≡◌, List, ℕ, take, Err, Ok}
 use Rattle.std.proofs.Math.Path.{refl, ap}
 use Rattle.std.proofs.Common.{◌∙◌}
 use Rattle.std.proofs.Math.Dec.{eqb}
@@ -9,12 +9,10 @@ use Rattle.rules.specs.Lists.Found.{found}
 use Rattle.rules.specs.Judging.{refusal}
 use Rattle.rules.specs.Names.{lower}
 use Rattle.rules.specs.StatePackets.{bad_viewport, bad_clear}
-use Rattle.rules.specs.Stream.{frame_of, packet_of}
+use Rattle.rules.specs.Stream.{frame_of, packet_of, Frame}
 use Rattle.rules.specs.Packets.{live, recorded, on_buffer_packet, on_texture_packet, on_viewport_packet, on_clear_packet, bound, apply, Progress, target_after, tokens_after, pass, pass_frame, take_packet}
 use Rattle.rules.specs.declared.Entry.{Entry}
 use Rattle.rules.specs.declared.Record.{Record}
-use Rattle.rules.specs.declared.Frame.{Frame}
-use Rattle.rules.specs.declared.Frame.TheVariants.{Whole, Misframed}
 use Rattle.rules.specs.declared.Packet.{Packet}
 use Rattle.rules.specs.declared.Packet.TheVariants.{Buffer, Texture, Destroy, Dirty, Copy, Target, Viewport, Scissor, Clear, Export, Import, Release, NotANumber, Unknown}
 use Rattle.promises_of_packets.specs.SoundNames.{bound-is}
@@ -106,5 +104,5 @@ module _ (es : List Entry) (g h : Progress) (s : SoundProgress es g) (t : SoundP
   take_same b = by_frame (frame_of b)
     where
       by_frame : (f : Frame) → SamePassed (pass_frame es g b f) (pass_frame es h b f)
-      by_frame (Whole op size) = pass_same (packet_of op (take size b))
-      by_frame (Misframed r) = (refuses es g h s t d) r
+      by_frame (Ok (op, size)) = pass_same (packet_of op (take size b))
+      by_frame (Err r) = (refuses es g h s t d) r

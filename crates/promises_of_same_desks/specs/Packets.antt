@@ -1,5 +1,5 @@
 -- One packet, put to two submissions that hold the same: it comes to the same, and they hold the same after it. Assumes nothing.
-use Rattle.std.specs.Prelude.{◌≡◌, Bool, true, false, not, ◌&&◌, ◌||◌, List, ℕ, ◌+◌, ◌%◌, length}
+use Rattle.std.specs.Prelude.{◌≡◌, Bool, true, false, not, ◌&&◌, ◌||◌, List, ℕ, ◌+◌, ◌%◌, length, Err}
 use Rattle.std.proofs.Math.Path.{refl, ap}
 use Rattle.std.proofs.Common.{◌∙◌}
 use Rattle.std.proofs.Math.Dec.{ltb, leb, eqb}
@@ -26,7 +26,6 @@ use Rattle.rules.specs.declared.ExportSurface.{ExportSurface}
 use Rattle.rules.specs.declared.ImportSurface.{ImportSurface}
 use Rattle.rules.specs.declared.ReleaseToken.{ReleaseToken}
 use Rattle.rules.specs.declared.Refusal.{Refusal}
-use Rattle.rules.specs.declared.Verdict.TheVariants.{Broken}
 use Rattle.rules.specs.declared.Kind.{Kind}
 use Rattle.rules.specs.declared.Kind.TheVariants.{Buffer as BufferKind, Texture as TextureKind}
 use Rattle.rules.specs.declared.Packet.{Packet}
@@ -49,7 +48,7 @@ pub record SamePassed (o q : Passed) : Type 0 where
 -- ---- the rules of a packet, one by one, over two holdings
 
 module _ (P : Outcome → Outcome → Type 0) (g h : Holdings)
-    (refuses : (r : Refusal) → P (record { verdict = Broken r; held = g }) (record { verdict = Broken r; held = h })) where
+    (refuses : (r : Refusal) → P (record { verdict = Err r; held = g }) (record { verdict = Err r; held = h })) where
   pub refuse-both : (n : ℕ) (s t : Bool) (x y : Outcome) → s ≡ t → P x y → P (refuse n s g x) (refuse n t h y)
   refuse-both n s true x y e k = rw e (refuses (refusal n))
   refuse-both n s false x y e k = rw e k

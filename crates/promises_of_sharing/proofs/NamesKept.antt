@@ -1,5 +1,5 @@
 -- The theorems of specs/NamesKept.antt, and what they rest on. Assumes nothing.
-use Rattle.std.specs.Prelude.{◌≡◌, ℕ, take}
+use Rattle.std.specs.Prelude.{◌≡◌, ℕ, take, Err, Ok}
 use Rattle.std.proofs.Math.Path.{refl}
 use Rattle.std.proofs.Common.{sym, ap, ◌∙◌, ⊎_elim, arith}
 use mathlib.Core.List.{List, [], ◌++◌}
@@ -7,13 +7,11 @@ use Rattle.rules.specs.Numbers.{bad_state}
 use Rattle.rules.specs.Lists.{Found, lookup, pushed}
 use Rattle.rules.specs.Lists.Found.{none, found}
 use Rattle.rules.specs.Names.{names_left, names_with}
-use Rattle.rules.specs.Stream.{frame_of, packet_of}
+use Rattle.rules.specs.Stream.{frame_of, packet_of, Frame}
 use Rattle.rules.specs.StatePackets.{bad_viewport, bad_clear}
 use Rattle.rules.specs.Packets.{accepted, handle_of, live, is_live, without, on_buffer_packet, on_texture_packet, on_viewport_packet, on_clear_packet, bound, apply, Progress, Belongings, left_by, tokens_after, pass, pass_frame, take_packet}
 use Rattle.rules.specs.declared.Entry.{Entry}
 use Rattle.rules.specs.declared.Resource.{Resource}
-use Rattle.rules.specs.declared.Frame.{Frame}
-use Rattle.rules.specs.declared.Frame.TheVariants.{Whole, Misframed}
 use Rattle.rules.specs.declared.Packet.{Packet}
 use Rattle.rules.specs.declared.Packet.TheVariants.{Buffer, Texture, Destroy, Dirty, Copy, Target, Viewport, Scissor, Clear, Export, Import, Release, NotANumber, Unknown}
 use Rattle.rows.specs.Keys.{same_or_not, lookup-pushed-same, lookup-pushed-other}
@@ -135,5 +133,5 @@ module _ (es : List Entry) (h : Progress) (s : SoundProgress es h) where
   names-kept-in-a-stream b = by_frame (frame_of b)
     where
       by_frame : (f : Frame) → KeepsNamesBut (in_frame b f) (left_by h) (left_by (pass_frame es h b f).held)
-      by_frame (Whole op size) = a-packet-keeps-names (packet_of op (take size b))
-      by_frame (Misframed r) = keeps_same [] (left_by h)
+      by_frame (Ok (op, size)) = a-packet-keeps-names (packet_of op (take size b))
+      by_frame (Err r) = keeps_same [] (left_by h)

@@ -1,14 +1,14 @@
 -- The theorems of specs/PacketsTaken.antt, and what they rest on. Assumes nothing.
 use Rattle.std.proofs.Math.Path.{◌≡◌, refl, sym, subst}
 use Rattle.std.proofs.Common.{one-add}
-use Rattle.std.specs.Prelude.{Bool, ltb, length, take}
+use Rattle.std.specs.Prelude.{Bool, ltb, length, take, Err, Ok}
 use Rattle.std.proofs.Math.Bool.{true, false}
 use mathlib.Core.List.{List, [], ◌++◌}
 use Prim.Native.Nat.{ℕ, zero, suc}
 use native.Mathlib.Omega.{arith}
 use Rattle.machine.specs.Machine.{pick, run_none, run-stop, run-go}
 use Rattle.rules.specs.Layouts.{stream_header_size}
-use Rattle.rules.specs.Stream.{left, frame_of, packet_of}
+use Rattle.rules.specs.Stream.{left, frame_of, packet_of, Frame}
 use Rattle.rules.specs.Table.{take_entry}
 use Rattle.rules.specs.Packets.{Progress, Belongings, at_first, left_by, pass_frame, take_packet}
 use Rattle.rules.specs.State.{Work, State, World}
@@ -18,12 +18,9 @@ use Rattle.rules.specs.Steps.{packets_at, entries_at, go, step, run_for, waits_o
 use Rattle.rules.specs.Calls.{Ran, call_write}
 use Rattle.rules.specs.Loaded.{loaded_sections, loaded}
 use Rattle.rules.specs.declared.Entry.{Entry}
-use Rattle.rules.specs.declared.Frame.{Frame}
-use Rattle.rules.specs.declared.Frame.TheVariants.{Whole, Misframed}
 use Rattle.rules.specs.declared.Job.{Job}
 use Rattle.rules.specs.declared.Opened.{Opened}
 use Rattle.rules.specs.declared.Stream.{Stream}
-use Rattle.rules.specs.declared.Verdict.TheVariants.{Fine}
 use Rattle.promises_of_packets.specs.Held.{SoundProgress}
 use Rattle.promises_of_units.specs.Called.{Call, after, Called, is_reset}
 use Rattle.promises_of_units.specs.Called.Call.{writes, reads, runs, records, answers}
@@ -46,14 +43,14 @@ use Rattle.promises_of_sharing.specs.PacketsTaken.{Carries, Follows, InWork, Non
 
 module _ (R : List Taken → Belongings → Belongings → Type 0) (c : Carries R) where
   -- of what the bytes left of a stream begin with
-  in-a-stream : (es : List Entry) (h : Progress) → SoundProgress es h → (b : List ℕ) → (take_packet es h b).verdict ≡ Fine
+  in-a-stream : (es : List Entry) (h : Progress) → SoundProgress es h → (b : List ℕ) → (take_packet es h b).verdict ≡ Ok tt
       → R (taken_in h b (frame_of b)) (left_by h) (left_by (take_packet es h b).held)
   unfolding take_packet
   in-a-stream es h s b = by_frame (frame_of b)
     where
-      by_frame : (f : Frame) → (pass_frame es h b f).verdict ≡ Fine → R (taken_in h b f) (left_by h) (left_by (pass_frame es h b f).held)
-      by_frame (Whole op size) e = c.packet es h s (packet_of op (take size b)) e
-      by_frame (Misframed r) e = absurd (let z : ◌≡◌ {A = ℕ} 0 1 = cc in omega arith)
+      by_frame : (f : Frame) → (pass_frame es h b f).verdict ≡ Ok tt → R (taken_in h b f) (left_by h) (left_by (pass_frame es h b f).held)
+      by_frame (Ok (op, size)) e = c.packet es h s (packet_of op (take size b)) e
+      by_frame (Err r) e = absurd (let z : ◌≡◌ {A = ℕ} 0 1 = cc in omega arith)
 
   packets-carry : (xs : List Taken) (own : Belongings) (j : Job) (t : Stream) (at : ℕ) (es : List Entry) (h : Progress)
       → R xs own (left_by h) → (InWork R c) xs own (packets_at j t at es h)

@@ -1,5 +1,5 @@
 -- The theorems of specs/Shared.antt, and what they rest on. Assumes nothing.
-use Rattle.std.specs.Prelude.{◌≡◌, refl, Bool, true, false, List, ℕ, suc, ◌<◌, length}
+use Rattle.std.specs.Prelude.{◌≡◌, refl, Bool, true, false, List, ℕ, suc, ◌<◌, length, Ok}
 use Rattle.std.proofs.Common.{sym, ap, subst, ◌∙◌, ⊎_elim, arith, length-append}
 use Rattle.machine.specs.Machine.{pick}
 use Rattle.rules.specs.Numbers.{no_name}
@@ -12,7 +12,6 @@ use Rattle.rules.specs.declared.Resource.{Resource}
 use Rattle.rules.specs.declared.Token.{Token}
 use Rattle.rules.specs.declared.DestroyResource.{DestroyResource}
 use Rattle.rules.specs.declared.ImportSurface.{ImportSurface}
-use Rattle.rules.specs.declared.Verdict.TheVariants.{Fine}
 use Rattle.rules.specs.declared.Packet.TheVariants.{Destroy, Import}
 use Rattle.rows.specs.Keys.{same_or_not, length_removed, lookup-pushed-other}
 use Rattle.promises_of_packets.specs.Names.{none-not-found, found-same, found-place, found-key, in_found, moved, rebound, renamed-own, renamed-other, length-rename}
@@ -127,7 +126,7 @@ module _ (es : List Entry) (h : Progress) (s : SoundProgress es h) where
             }))))
             (same_or_not (new es h s k r e) 0)
 
-  pub destroying_a_name_leaves_the_others : (c : DestroyResource) → (pass es h (Destroy c)).verdict ≡ Fine → Destroyed c.handle h (pass es h (Destroy c)).held
+  pub destroying_a_name_leaves_the_others : (c : DestroyResource) → (pass es h (Destroy c)).verdict ≡ Ok tt → Destroyed c.handle h (pass es h (Destroy c)).held
   destroying_a_name_leaves_the_others c v =
       let d = destroyed-is es h c v in
       subst (λ (o : Passed). Destroyed c.handle h o.held) (sym d.2) (destroy_comes_to c.handle d.0 d.1)
@@ -176,7 +175,7 @@ module _ (es : List Entry) (h : Progress) (s : SoundProgress es h) where
           no_record = refl;
         }
 
-  pub an-import-is-a-second-name : (c : ImportSurface) → (pass es h (Import c)).verdict ≡ Fine → SecondName c.token c.handle h (pass es h (Import c)).held
+  pub an-import-is-a-second-name : (c : ImportSurface) → (pass es h (Import c)).verdict ≡ Ok tt → SecondName c.token c.handle h (pass es h (Import c)).held
   an-import-is-a-second-name c v =
       let d = imported-is es h c v in
       subst (λ (o : Passed). SecondName c.token c.handle h o.held) (sym d.2) (import-comes-to c.handle c.token d.0 d.1)

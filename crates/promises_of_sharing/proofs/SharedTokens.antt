@@ -1,5 +1,5 @@
 -- The theorems of specs/SharedTokens.antt, and what they rest on. Assumes nothing.
-use Rattle.std.specs.Prelude.{◌≡◌, List, [], ◌∷◌, ◌⊎◌, ℕ, take}
+use Rattle.std.specs.Prelude.{◌≡◌, List, [], ◌∷◌, ◌⊎◌, ℕ, take, Err, Ok}
 use Rattle.std.proofs.Math.Path.{refl}
 use Rattle.std.proofs.Common.{sym, ap, subst, ◌∙◌, inl, inr, ⊎_elim}
 use Rattle.machine.specs.Machine.{pick}
@@ -7,13 +7,11 @@ use Rattle.rules.specs.Numbers.{no_name}
 use Rattle.rules.specs.Lists.{Found, lookup, pushed}
 use Rattle.rules.specs.Lists.Found.{none, found}
 use Rattle.rules.specs.Names.{token_of, renamed, under, lower, lowest_left, names_left, tokens_left, names_with, tokens_with, is_new, with_token, without_token}
-use Rattle.rules.specs.Stream.{frame_of, packet_of}
+use Rattle.rules.specs.Stream.{frame_of, packet_of, Frame}
 use Rattle.rules.specs.Packets.{handle_of, live, without, bound, Progress, Passed, pass, pass_frame, take_packet}
 use Rattle.rules.specs.declared.Entry.{Entry}
 use Rattle.rules.specs.declared.Resource.{Resource}
 use Rattle.rules.specs.declared.Token.{Token}
-use Rattle.rules.specs.declared.Frame.{Frame}
-use Rattle.rules.specs.declared.Frame.TheVariants.{Whole, Misframed}
 use Rattle.rules.specs.declared.Packet.{Packet}
 use Rattle.rows.specs.Keys.{same_or_not, lookup-pushed-other}
 use Rattle.promises_of_packets.specs.Names.{none-not-found, found-same, in_found, moved, rebound, renamed-own, renamed-other}
@@ -223,8 +221,8 @@ module _ (es : List Entry) (h : Progress) (s : SoundProgress es h) where
   tokens-stay-in-a-stream b = by_frame (frame_of b)
     where
       by_frame : (f : Frame) → TokensStay h (pass_frame es h b f).held
-      by_frame (Whole op size) = tokens-stay (packet_of op (take size b))
-      by_frame (Misframed r) = stay-same h h refl refl
+      by_frame (Ok (op, size)) = tokens-stay (packet_of op (take size b))
+      by_frame (Err r) = stay-same h h refl refl
 
 -- ---- several packets
 

@@ -1,5 +1,5 @@
 -- The theorems of specs/TokenLives.antt, and what they rest on. Assumes nothing.
-use Rattle.std.specs.Prelude.{◌≡◌, refl, false, ◌⊎◌, ℕ, ◌<◌, eqb, length, take}
+use Rattle.std.specs.Prelude.{◌≡◌, refl, false, ◌⊎◌, ℕ, ◌<◌, eqb, length, take, Ok}
 use Rattle.std.proofs.Common.{sym, subst, ◌∙◌, eqb-true}
 use Rattle.std.proofs.Math.Path.{ap}
 use mathlib.Core.List.{List, [], ◌∷◌, ◌++◌}
@@ -23,8 +23,6 @@ use Rattle.rules.specs.declared.Token.{Token}
 use Rattle.rules.specs.declared.ExportSurface.{ExportSurface}
 use Rattle.rules.specs.declared.ImportSurface.{ImportSurface}
 use Rattle.rules.specs.declared.ReleaseToken.{ReleaseToken}
-use Rattle.rules.specs.declared.Verdict.TheVariants.{Fine}
-use Rattle.rules.specs.declared.Frame.TheVariants.{Whole}
 use Rattle.rules.specs.declared.Packet.{Packet}
 use Rattle.rules.specs.declared.Packet.TheVariants.{Buffer, Texture, Destroy, Dirty, Copy, Target, Viewport, Scissor, Clear, Export, Import, Release, NotANumber, Unknown}
 use Rattle.rows.specs.Keys.{same_or_not, lookup-pushed-same, lookup-pushed-other}
@@ -90,28 +88,28 @@ module _ (es : List Entry) (h : Progress) (s : SoundProgress es h) where
       by_found none e o = (record { name = r.lowest; token = c.token }, lookup-pushed-same token_of c.token h.tokens (record { name = r.lowest; token = c.token }) e refl, some)
       by_found (found t) e o = (t, e, λ z. some (sym (eqb-true t.name r.lowest (not-false (eqb t.name r.lowest) o)) ∙ z))
 
-  pub an-export-binds : (c : ExportSurface) → (pass es h (Export c)).verdict ≡ Fine → IsBound c.token (pass es h (Export c)).held.tokens
+  pub an-export-binds : (c : ExportSurface) → (pass es h (Export c)).verdict ≡ Ok tt → IsBound c.token (pass es h (Export c)).held.tokens
   unfolding pass apply target_after tokens_after
   an-export-binds c =
-      export-or (λ (o : Outcome). o.verdict ≡ Fine → IsBound c.token (passed (Export c) h o).held.tokens) h (λ r e. absurd (fine-not-broken r e)) c
+      export-or (λ (o : Outcome). o.verdict ≡ Ok tt → IsBound c.token (passed (Export c) h o).held.tokens) h (λ r e. absurd (fine-not-broken r e)) c
       (λ r x _. rw x.named (bound-with c r x))
 
   -- an accepted release finds its token bound
-  released-was-bound : (c : ReleaseToken) → (pass es h (Release c)).verdict ≡ Fine → (r : Resource) × (bound c.token h.tokens h.holdings.resources ≡ found r)
+  released-was-bound : (c : ReleaseToken) → (pass es h (Release c)).verdict ≡ Ok tt → (r : Resource) × (bound c.token h.tokens h.holdings.resources ≡ found r)
   unfolding pass apply target_after tokens_after
   released-was-bound c =
-      release-or (λ (o : Outcome). o.verdict ≡ Fine → (r : Resource) × (bound c.token h.tokens h.holdings.resources ≡ found r)) h.holdings
+      release-or (λ (o : Outcome). o.verdict ≡ Ok tt → (r : Resource) × (bound c.token h.tokens h.holdings.resources ≡ found r)) h.holdings
       (λ r e. absurd (fine-not-broken r e)) h.tokens c (λ r e _. (r, e))
 
-  a_release_spends : (c : ReleaseToken) → (pass es h (Release c)).verdict ≡ Fine → Spent c.token (pass es h (Release c)).held.tokens
+  a_release_spends : (c : ReleaseToken) → (pass es h (Release c)).verdict ≡ Ok tt → Spent c.token (pass es h (Release c)).held.tokens
   a_release_spends c v = let b = released-was-bound c v in (when-a-release-is-accepted es h c).spends_it b.0 b.1
 
-  a_packet_spends : (token : ℕ) (p : Packet) → (pass es h p).verdict ≡ Fine → Spends token (record { before = h; packet = p }) → Spent token (pass es h p).held.tokens
+  a_packet_spends : (token : ℕ) (p : Packet) → (pass es h p).verdict ≡ Ok tt → Spends token (record { before = h; packet = p }) → Spent token (pass es h p).held.tokens
   a_packet_spends token p v (inl e) =
-      subst (λ (i : Packet). Spent token (pass es h i).held.tokens) (sym e) (a_release_spends (record { token = token }) (subst (λ (i : Packet). (pass es h i).verdict ≡ Fine) e v))
+      subst (λ (i : Packet). Spent token (pass es h i).held.tokens) (sym e) (a_release_spends (record { token = token }) (subst (λ (i : Packet). (pass es h i).verdict ≡ Ok tt) e v))
   a_packet_spends token p v (inr d) =
       subst (λ (i : Packet). Spent token (pass es h i).held.tokens) (sym d.is)
-      ((destroying_a_name_leaves_the_others es h s d.what (subst (λ (i : Packet). (pass es h i).verdict ≡ Fine) d.is v)).last_spends
+      ((destroying_a_name_leaves_the_others es h s d.what (subst (λ (i : Packet). (pass es h i).verdict ≡ Ok tt) d.is v)).last_spends
       d.last_name.last token d.last_name.its-name)
 
   -- ---- where a token that is bound after a packet came from
@@ -175,7 +173,7 @@ module _ (es : List Entry) (h : Progress) (s : SoundProgress es h) where
     came_from Unknown b = inl b
 
   -- whatever the packet
-  lives-packet : (p : Packet) → (pass es h p).verdict ≡ Fine → TokensLive (record { before = h; packet = p } ∷ []) h.tokens (pass es h p).held.tokens
+  lives-packet : (p : Packet) → (pass es h p).verdict ≡ Ok tt → TokensLive (record { before = h; packet = p } ∷ []) h.tokens (pass es h p).held.tokens
   unfolding Some
   lives-packet p v =
       record {
@@ -191,7 +189,7 @@ module _ (es : List Entry) (h : Progress) (s : SoundProgress es h) where
       from-export : (token : ℕ) → Exports token (record { before = h; packet = p }) → IsBound token (pass es h p).held.tokens
       from-export token x =
           subst (λ (i : Packet). IsBound token (pass es h i).held.tokens) (sym x.1)
-          (an-export-binds (record { handle = x.0; token = token }) (subst (λ (i : Packet). (pass es h i).verdict ≡ Fine) x.1 v))
+          (an-export-binds (record { handle = x.0; token = token }) (subst (λ (i : Packet). (pass es h i).verdict ≡ Ok tt) x.1 v))
 
 -- ---- over any calls between resets
 
@@ -241,11 +239,11 @@ pub an-import-of-a-bound-token : (es : List Entry) (h : Progress) → SoundProgr
     → IsBound c.token h.tokens → (c.handle ≡ 0 → ⊥) → live c.handle h.holdings ≡ none → length h.holdings.resources < most → ImportAccepted es h c
 an-import-of-a-bound-token es h s c b some free room =
     let r = bound-is-found c.token h.tokens h.holdings.resources s.tokens b in
-    let fine : (pass es h (Import c)).verdict ≡ Fine = ap (λ (o : Passed). o.verdict) ((when-an-import-is-accepted es h c).second_name some free r.0 r.1 room) in
+    let fine : (pass es h (Import c)).verdict ≡ Ok tt = ap (λ (o : Passed). o.verdict) ((when-an-import-is-accepted es h c).second_name some free r.0 r.1 room) in
     record { accepted = fine; second_name = an-import-is-a-second-name es h s c fine }
 
 pub an-accepted-import-works-on : (w : World) (j : Job) (r : Stream) (at : ℕ) (es : List Entry) (h : Progress) → w.state.work ≡ packets j r at es h
-    → (op size : ℕ) → frame_of (left w.mem r at) ≡ Whole op size → (c : ImportSurface) → packet_of op (take size (left w.mem r at)) ≡ Import c
+    → (op size : ℕ) → frame_of (left w.mem r at) ≡ Ok (op, size) → (c : ImportSurface) → packet_of op (take size (left w.mem r at)) ≡ Import c
     → ImportAccepted es h c → WorksOn w j r at es h c
 unfolding take_packet
 an-accepted-import-works-on w j r at es h e op size framed c is a =

@@ -1,6 +1,6 @@
 -- The theorems of specs/TokenMeans.antt, and what they rest on. Assumes nothing.
 use Rattle.std.proofs.Math.Path.{◌≡◌, ap}
-use Rattle.std.specs.Prelude.{refl, false, ◌⊎◌, ℕ, eqb}
+use Rattle.std.specs.Prelude.{refl, false, ◌⊎◌, ℕ, eqb, Ok}
 use Rattle.std.proofs.Common.{sym, subst, ◌∙◌, inl, inr, ⊎_elim, eqb-true}
 use mathlib.Core.List.{List, [], ◌∷◌, ◌++◌}
 use native.Mathlib.Omega.{arith}
@@ -20,7 +20,6 @@ use Rattle.rules.specs.declared.Resource.{Resource}
 use Rattle.rules.specs.declared.Token.{Token}
 use Rattle.rules.specs.declared.ExportSurface.{ExportSurface}
 use Rattle.rules.specs.declared.ImportSurface.{ImportSurface}
-use Rattle.rules.specs.declared.Verdict.TheVariants.{Fine}
 use Rattle.rules.specs.declared.Packet.{Packet}
 use Rattle.rules.specs.declared.Packet.TheVariants.{Export, Import}
 use Rattle.rows.specs.Keys.{same_or_not, lookup-pushed-same, lookup-pushed-other}
@@ -193,13 +192,13 @@ module _ (es : List Entry) (h : Progress) (s : SoundProgress es h) (c : ExportSu
           (lookup-pushed-same token_of c.token h.tokens (record { name = r.lowest; token = c.token }) e refl) refl
       by_found (found t) e o = as-its-lowest r x.named h.tokens t e (eqb-true t.name r.lowest (not-false (eqb t.name r.lowest) o))
 
-  an-export-means-its-handle : (pass es h (Export c)).verdict ≡ Fine → (AsTheHandle es h s c) (left_by (pass es h (Export c)).held)
+  an-export-means-its-handle : (pass es h (Export c)).verdict ≡ Ok tt → (AsTheHandle es h s c) (left_by (pass es h (Export c)).held)
   unfolding pass apply target_after tokens_after
   an-export-means-its-handle =
-      export-or (λ (o : Outcome). o.verdict ≡ Fine → (AsTheHandle es h s c) (left_by (passed (Export c) h o).held)) h
+      export-or (λ (o : Outcome). o.verdict ≡ Ok tt → (AsTheHandle es h s c) (left_by (passed (Export c) h o).held)) h
       (λ r e. absurd (let z : ◌≡◌ {A = ℕ} 0 1 = cc in omega arith)) c (λ r x _. rw x.named (λ b. with-its-token r x b ∙ ap meaning_in x.named))
 
-mean-packet : (es : List Entry) (h : Progress) → SoundProgress es h → (p : Packet) → (pass es h p).verdict ≡ Fine
+mean-packet : (es : List Entry) (h : Progress) → SoundProgress es h → (p : Packet) → (pass es h p).verdict ≡ Ok tt
     → TokensMean (record { before = h; packet = p } ∷ []) (left_by h) (left_by (pass es h p).held)
 unfolding Every
 mean-packet es h s p v =
@@ -213,7 +212,7 @@ mean-packet es h s p v =
         → token_means token (left_by (pass es h p).held) ≡ means e.0 h.holdings.resources
     at-its-export token e =
         subst (λ (i : Packet). IsBound token (pass es h i).held.tokens → token_means token (left_by (pass es h i).held) ≡ means e.0 h.holdings.resources) (sym e.1)
-        (an-export-means-its-handle es h s (record { handle = e.0; token = token }) (subst (λ (i : Packet). (pass es h i).verdict ≡ Fine) e.1 v))
+        (an-export-means-its-handle es h s (record { handle = e.0; token = token }) (subst (λ (i : Packet). (pass es h i).verdict ≡ Ok tt) e.1 v))
 
 -- ---- over any calls between resets
 
@@ -233,7 +232,7 @@ tokens-mean-in-work s t k q j r at es h e =
 -- ---- so the handle of an accepted import is a second name of the resource that was exported
 
 pub a-later-import-names-the-exported : (s t : State) (k : Called s) → Called t → (q : CalledOn s t) (j : Job) (r : Stream) (at : ℕ) (es : List Entry) (h : Progress)
-    → t.work ≡ packets j r at es h → (c : ImportSurface) → (pass es h (Import c)).verdict ≡ Fine
+    → t.work ≡ packets j r at es h → (c : ImportSurface) → (pass es h (Import c)).verdict ≡ Ok tt
     → NamesTheExported c.token c.handle ((packets_since s t k q).in_work ++ (packets_since s t k q).by_good) s.belongings (pass es h (Import c)).held.holdings.resources
 a-later-import-names-the-exported s t k l q j r at es h e c v =
     let m : TokensMean ((packets_since s t k q).in_work ++ (packets_since s t k q).by_good) s.belongings (left_by h) = tokens-mean-in-work s t k q j r at es h e in

@@ -1,16 +1,14 @@
 -- Wish 5, the names of a token's resource from packet to packet: a token that is bound before and after a packet keeps each of them and gets no other,
 -- but for the one name that an import gives and a destroy takes away. Of any sound progress. Assumes nothing.
-use Rattle.std.specs.Prelude.{◌≡◌, ℕ, take}
+use Rattle.std.specs.Prelude.{◌≡◌, ℕ, take, Err, Ok}
 use Rattle.std.proofs.Math.Path.{refl}
 use mathlib.Core.List.{List, [], ◌∷◌}
 use Rattle.rules.specs.Lists.{Found}
 use Rattle.rules.specs.Lists.Found.{none, found}
-use Rattle.rules.specs.Stream.{packet_of}
+use Rattle.rules.specs.Stream.{packet_of, Frame}
 use Rattle.rules.specs.Packets.{Outcome, live, is_live, Progress, Belongings, left_by, passed}
 use Rattle.rules.specs.declared.Entry.{Entry}
 use Rattle.rules.specs.declared.Resource.{Resource}
-use Rattle.rules.specs.declared.Frame.{Frame}
-use Rattle.rules.specs.declared.Frame.TheVariants.{Whole, Misframed}
 use Rattle.rules.specs.declared.Packet.{Packet}
 use Rattle.rules.specs.declared.Packet.TheVariants.{Buffer, Texture, Destroy, Dirty, Copy, Target, Viewport, Scissor, Clear, Export, Import, Release, NotANumber, Unknown}
 use Rattle.promises_of_packets.specs.Names.{in_found, moved}
@@ -38,8 +36,8 @@ imported_or_destroyed Unknown = []
 
 -- the same of the packet that some bytes begin with
 abbrev pub in_frame : List ℕ → Frame → List ℕ
-in_frame b (Whole op size) = imported_or_destroyed (packet_of op (take size b))
-in_frame b (Misframed r) = []
+in_frame b (Ok (op, size)) = imported_or_destroyed (packet_of op (take size b))
+in_frame b (Err r) = []
 
 -- a name that is none of these
 abbrev pub NotAmong : ℕ → List ℕ → Type 0

@@ -1,10 +1,8 @@
 -- The names that packets taken imported or destroyed, from packet to packet: they are the names that count over calls between resets. Assumes nothing.
-use Rattle.std.specs.Prelude.{◌≡◌, refl, List, [], ◌∷◌, ◌++◌, ℕ, take}
+use Rattle.std.specs.Prelude.{◌≡◌, refl, List, [], ◌∷◌, ◌++◌, ℕ, take, Err, Ok}
 use Rattle.std.proofs.Common.{sym, ap, ◌∙◌, append_assoc, append-nil}
-use Rattle.rules.specs.Stream.{packet_of}
+use Rattle.rules.specs.Stream.{packet_of, Frame}
 use Rattle.rules.specs.Packets.{Progress, Belongings}
-use Rattle.rules.specs.declared.Frame.{Frame}
-use Rattle.rules.specs.declared.Frame.TheVariants.{Whole, Misframed}
 use Rattle.promises_of_sharing.specs.SharedTokens.{TokensGoOn}
 use Rattle.promises_of_sharing.specs.NamesKept.{imported_or_destroyed, in_frame, KeepsNamesBut}
 use Rattle.promises_of_sharing.specs.NamesOverCalls.{Names}
@@ -29,8 +27,8 @@ pub record NamesGoOn (xs : List Taken) (before after : Belongings) : Type 0 wher
 
 pub names-of-frame : (h : Progress) (b : List ℕ) (f : Frame) → names_of (taken_in h b f) ≡ in_frame b f
 unfolding names_of
-names-of-frame h b (Whole op size) = append-nil (imported_or_destroyed (packet_of op (take size b)))
-names-of-frame h b (Misframed r) = refl
+names-of-frame h b (Ok (op, size)) = append-nil (imported_or_destroyed (packet_of op (take size b)))
+names-of-frame h b (Err r) = refl
 
 abbrev pub names_in : Packets → Names
 names_in x = record { by_good = names_of x.by_good; in_work = names_of x.in_work }

@@ -2,22 +2,19 @@
 -- the one in work. What a refused or failed submission took does not count. And what holds of them from packet to packet holds over any calls. Assumes
 -- nothing.
 use Rattle.std.proofs.Math.Path.{◌≡◌}
-use Rattle.std.specs.Prelude.{Bool, eqb, take}
+use Rattle.std.specs.Prelude.{Bool, eqb, take, Err, Ok}
 use mathlib.Core.List.{List, [], ◌∷◌, ◌++◌}
 use Prim.Native.Nat.{ℕ, zero, suc, ◌≤◌}
 use Rattle.machine.specs.Machine.{pick}
 use Rattle.rules.specs.Numbers.{done}
-use Rattle.rules.specs.Stream.{left, frame_of, packet_of}
+use Rattle.rules.specs.Stream.{left, frame_of, packet_of, Frame}
 use Rattle.rules.specs.Packets.{Progress, Belongings, left_by, pass}
 use Rattle.rules.specs.State.{Work, State, World}
 use Rattle.rules.specs.State.Work.{resting, entries, packets, waiting}
 use Rattle.rules.specs.Steps.{step, answered}
 use Rattle.rules.specs.Calls.{Ran, call_run, call_answer}
 use Rattle.rules.specs.declared.Entry.{Entry}
-use Rattle.rules.specs.declared.Frame.{Frame}
-use Rattle.rules.specs.declared.Frame.TheVariants.{Whole, Misframed}
 use Rattle.rules.specs.declared.Packet.{Packet}
-use Rattle.rules.specs.declared.Verdict.TheVariants.{Fine}
 use Rattle.promises_of_packets.specs.Held.{SoundProgress}
 use Rattle.promises_of_units.specs.Called.{Call, Called}
 use Rattle.promises_of_units.specs.Called.Call.{writes, reads, runs, records, answers}
@@ -35,8 +32,8 @@ pub record Taken : Type 0 where
 
 -- the one that some bytes begin with
 abbrev pub taken_in : Progress → List ℕ → Frame → List Taken
-taken_in h b (Whole op size) = record { before = h; packet = packet_of op (take size b) } ∷ []
-taken_in h b (Misframed r) = []
+taken_in h b (Ok (op, size)) = record { before = h; packet = packet_of op (take size b) } ∷ []
+taken_in h b (Err r) = []
 
 -- those of the submission in work, with one unit more, the last one first. An opening begins with none, so what a refused submission took is dropped.
 abbrev pub packets_after_unit : World → Work → List Taken → List Taken
@@ -86,7 +83,7 @@ packets_since s t k (calls-on {t = u} q c n m) = packets_after_call c (record { 
 pub record Carries (R : List Taken → Belongings → Belongings → Type 0) : Type 0 where
   pub same : (b : Belongings) → R [] b b
   pub both : (xs ys : List Taken) (a b c : Belongings) → R xs a b → R ys b c → R (ys ++ xs) a c
-  pub packet : (es : List Entry) (h : Progress) → SoundProgress es h → (p : Packet) → (pass es h p).verdict ≡ Fine
+  pub packet : (es : List Entry) (h : Progress) → SoundProgress es h → (p : Packet) → (pass es h p).verdict ≡ Ok tt
       → R (record { before = h; packet = p } ∷ []) (left_by h) (left_by (pass es h p).held)
 
 module _ (R : List Taken → Belongings → Belongings → Type 0) (c : Carries R) where

@@ -1,6 +1,6 @@
 -- Wish 5, "two programs, one surface", the names: "Import makes the handle a second name for the exported resource; destroying one name leaves the
 -- others, and destroying the last frees the room." Of any sound progress, as a submission of any device made and called has it. Assumes nothing.
-use Rattle.std.specs.Prelude.{◌≡◌, refl, true, List, ℕ, suc, eqb, length}
+use Rattle.std.specs.Prelude.{◌≡◌, refl, true, List, ℕ, suc, eqb, length, Err, Ok}
 use Rattle.std.proofs.Common.{sym, ap, ◌∙◌, arith, eqb-true}
 use Rattle.rules.specs.Numbers.{no_name}
 use Rattle.rules.specs.Lists.{Found, lookup}
@@ -16,7 +16,6 @@ use Rattle.rules.specs.declared.Kind.TheVariants.{Buffer, Texture}
 use Rattle.rules.specs.declared.DestroyResource.{DestroyResource}
 use Rattle.rules.specs.declared.ImportSurface.{ImportSurface}
 use Rattle.rules.specs.declared.Refusal.{Refusal}
-use Rattle.rules.specs.declared.Verdict.TheVariants.{Fine, Broken}
 use Rattle.rules.specs.declared.Packet.TheVariants.{Destroy, Import}
 use Rattle.rule_laws.specs.Fine.{both_left, both_right}
 use Rattle.promises_of_packets.specs.Names.{none-not-found, found-same, in_found, moved}
@@ -102,24 +101,24 @@ pub record NameOf (token k : ℕ) (ts : List Token) (rs : List Resource) : Type 
   pub here : lookup handle_of k rs ≡ found resource
   pub same : resource.lowest ≡ what.name
 
-fine-not-broken : (r : Refusal) → Broken r ≡ Fine → ⊥
+fine-not-broken : (r : Refusal) → Err r ≡ Ok tt → ⊥
 fine-not-broken r e = let z : ◌≡◌ {A = ℕ} 0 1 = cc in omega arith
 
 -- ---- what an accepted destroy and an accepted import come to
 
 module _ (es : List Entry) (h : Progress) where
-  pub destroyed-is : (c : DestroyResource) → (pass es h (Destroy c)).verdict ≡ Fine
+  pub destroyed-is : (c : DestroyResource) → (pass es h (Destroy c)).verdict ≡ Ok tt
       → (r : Resource) × (live c.handle h.holdings ≡ found r) × (pass es h (Destroy c) ≡ destroyed h c.handle r)
   unfolding pass apply target_after tokens_after
   destroyed-is c =
-      destroy-or (λ (o : Outcome). o.verdict ≡ Fine → (r : Resource) × (live c.handle h.holdings ≡ found r) × (passed (Destroy c) h o ≡ destroyed h c.handle r))
+      destroy-or (λ (o : Outcome). o.verdict ≡ Ok tt → (r : Resource) × (live c.handle h.holdings ≡ found r) × (passed (Destroy c) h o ≡ destroyed h c.handle r))
       h.holdings (λ r e. absurd (fine-not-broken r e)) c (λ r e _. (r, e, rw e))
 
-  pub imported-is : (c : ImportSurface) → (pass es h (Import c)).verdict ≡ Fine
+  pub imported-is : (c : ImportSurface) → (pass es h (Import c)).verdict ≡ Ok tt
       → (r : Resource) × Imported h c.handle c.token r × (pass es h (Import c) ≡ imported h c.handle r)
   unfolding pass apply target_after tokens_after
   imported-is c =
-      import-or (λ (o : Outcome). o.verdict ≡ Fine → (r : Resource) × Imported h c.handle c.token r × (passed (Import c) h o ≡ imported h c.handle r))
+      import-or (λ (o : Outcome). o.verdict ≡ Ok tt → (r : Resource) × Imported h c.handle c.token r × (passed (Import c) h o ≡ imported h c.handle r))
       h.holdings (λ r e. absurd (fine-not-broken r e)) h.tokens c
       (λ r some unused e room _. (r, record { some = some; unused = unused; bound-to = e; room = room }, rw e))
 

@@ -1,5 +1,5 @@
 -- Wish 5, what an export, an import and a release come to, rule by rule and in their order. Of any progress. Assumes nothing.
-use Rattle.std.specs.Prelude.{◌≡◌, refl, Bool, true, false, ◌||◌, List, ℕ, ◌≤◌, ◌<◌, eqb, length}
+use Rattle.std.specs.Prelude.{◌≡◌, refl, Bool, true, false, ◌||◌, List, ℕ, ◌≤◌, ◌<◌, eqb, length, Err, Ok}
 use borrow.Author.Tests.{eq-eqb, ne_eqb, le-leb, lt-leb}
 use Rattle.rules.specs.Numbers.{bad_handle, bad_shape, too_many, bad_token, unbound_token, most, most_tokens}
 use Rattle.rules.specs.Lists.{lookup, pushed}
@@ -13,7 +13,6 @@ use Rattle.rules.specs.declared.Token.{Token}
 use Rattle.rules.specs.declared.ExportSurface.{ExportSurface}
 use Rattle.rules.specs.declared.ImportSurface.{ImportSurface}
 use Rattle.rules.specs.declared.ReleaseToken.{ReleaseToken}
-use Rattle.rules.specs.declared.Verdict.TheVariants.{Fine, Broken}
 use Rattle.rules.specs.declared.Packet.TheVariants.{Export, Import, Release}
 use Rattle.promises_of_packets.specs.Effects.{imported}
 use Rattle.promises_of_sharing.specs.Shared.{Spent}
@@ -22,7 +21,7 @@ use Rattle.promises_of_sharing.specs.Shared.{Spent}
 
 -- what is held, without a token
 abbrev pub released_from : Progress → ℕ → Passed
-released_from h token = record { verdict = Fine; held = record { holdings = h.holdings; target = h.target; tokens = without_token token h.tokens } }
+released_from h token = record { verdict = Ok tt; held = record { holdings = h.holdings; target = h.target; tokens = without_token token h.tokens } }
 
 pub or-true : (b : Bool) → b || true ≡ true
 or-true true = refl
@@ -30,7 +29,7 @@ or-true false = refl
 
 module _ (es : List Entry) (h : Progress) where
   abbrev pub refused_with : ℕ → Passed
-  refused_with n = record { verdict = Broken (refusal n); held = h }
+  refused_with n = record { verdict = Err (refusal n); held = h }
 
   -- "Only textures with one mip and one layer may be exported, else 20. Export gives 28 for token 0, a token ever bound to another resource or
   -- one released; the same token on the same resource again changes nothing."
@@ -42,13 +41,13 @@ module _ (es : List Entry) (h : Progress) where
     pub of-another-one : (r : Resource) → live c.handle h.holdings ≡ found r → shareable r.kind ≡ true
         → (t : Token) → lookup token_of c.token h.tokens ≡ found t → (t.name ≡ r.lowest → ⊥) → pass es h (Export c) ≡ refused_with bad_token
     pub again : (r : Resource) → live c.handle h.holdings ≡ found r → shareable r.kind ≡ true → (c.token ≡ 0 → ⊥)
-        → (t : Token) → lookup token_of c.token h.tokens ≡ found t → t.name ≡ r.lowest → pass es h (Export c) ≡ record { verdict = Fine; held = h }
+        → (t : Token) → lookup token_of c.token h.tokens ≡ found t → t.name ≡ r.lowest → pass es h (Export c) ≡ record { verdict = Ok tt; held = h }
     -- "At most 256 tokens .., then 19"
     pub no_room : (r : Resource) → live c.handle h.holdings ≡ found r → shareable r.kind ≡ true → (c.token ≡ 0 → ⊥)
         → lookup token_of c.token h.tokens ≡ none → most_tokens ≤ length h.tokens → pass es h (Export c) ≡ refused_with too_many
     pub new-token : (r : Resource) → live c.handle h.holdings ≡ found r → shareable r.kind ≡ true → (c.token ≡ 0 → ⊥)
         → lookup token_of c.token h.tokens ≡ none → length h.tokens < most_tokens
-        → pass es h (Export c) ≡ record { verdict = Fine; held = record { holdings = h.holdings; target = h.target; tokens = pushed h.tokens (record { name = r.lowest; token = c.token }) } }
+        → pass es h (Export c) ≡ record { verdict = Ok tt; held = record { holdings = h.holdings; target = h.target; tokens = pushed h.tokens (record { name = r.lowest; token = c.token }) } }
 
   -- "Import and release give 29 for a token not bound to a live resource": exactly then, once the handle is good
   pub record ImportPacket (c : ImportSurface) : Type 0 where

@@ -2,16 +2,16 @@
 -- it, what a scissor wants of it, and that it names a live texture for as long as it lasts. Assumes nothing.
 use Rattle.std.proofs.Math.Path.{◌≡◌, refl}
 use Rattle.std.proofs.Common.{sym, subst, arith}
-use Rattle.std.specs.Prelude.{Bool, List, [], ◌∷◌, ℕ, ◌≤◌, ◌<◌, ltb, eqb, length}
+use Rattle.std.specs.Prelude.{Bool, List, [], ◌∷◌, ℕ, ◌≤◌, ◌<◌, ltb, eqb, length, Err, Ok}
 use Rattle.std.proofs.Math.Bool.{true, false}
 use borrow.Author.Tests.{eq-eqb, ne_eqb, le-leb, lt-leb}
 use Rattle.machine.specs.Machine.{pick}
 use Rattle.rules.specs.Numbers.{bad_handle, bad_state, too_many, most}
 use Rattle.rules.specs.Lists.Found.{none, found}
-use Rattle.rules.specs.Judging.{refusal}
+use Rattle.rules.specs.Judging.{refusal, Verdict}
 use Rattle.rules.specs.Layouts.{stream_header_size, packet_header_size}
 use Rattle.rules.specs.Table.{take_entry}
-use Rattle.rules.specs.Stream.{frame_of, size_of, left}
+use Rattle.rules.specs.Stream.{frame_of, size_of, left, Frame}
 use Rattle.rules.specs.StatePackets.{bad_sides}
 use Rattle.rules.specs.Packets.{Outcome, at_first, live_texture, on_target_packet, on_scissor_packet, apply, Progress, if-fine, target_after, pass, pass_frame, take_packet, Belongings, tokens_after}
 use Rattle.rules.specs.State.{Work, World}
@@ -25,10 +25,6 @@ use Rattle.rules.specs.declared.DestroyResource.{DestroyResource}
 use Rattle.rules.specs.declared.Job.{Job}
 use Rattle.rules.specs.declared.Stream.{Stream}
 use Rattle.rules.specs.declared.Opened.{Opened}
-use Rattle.rules.specs.declared.Verdict.{Verdict}
-use Rattle.rules.specs.declared.Verdict.TheVariants.{Fine, Broken}
-use Rattle.rules.specs.declared.Frame.{Frame}
-use Rattle.rules.specs.declared.Frame.TheVariants.{Whole, Misframed}
 use Rattle.rules.specs.declared.Packet.{Packet}
 use Rattle.rules.specs.declared.Packet.TheVariants.{Buffer, Texture, Destroy, Dirty, Copy, Target, Viewport, Scissor, Clear, Export, Import, Release, NotANumber, Unknown}
 use Rattle.stream_packets.specs.Framing.{frame-sound}
@@ -41,18 +37,18 @@ use Rattle.promises_of_units.specs.Units.{Next}
 -- "The target is a live texture": one that is accepted names one, and is the target from then on; "else 18", and nothing changes
 module _ (es : List Entry) (h : Progress) (c : SetTarget) where
   pub target-is-set : (s : Shape) → live_texture c.handle h.holdings ≡ found s
-      → pass es h (Target c) ≡ record { verdict = Fine; held = record { holdings = h.holdings; target = c.handle; tokens = h.tokens } }
+      → pass es h (Target c) ≡ record { verdict = Ok tt; held = record { holdings = h.holdings; target = c.handle; tokens = h.tokens } }
   unfolding pass apply on_target_packet target_after tokens_after
   target-is-set s e = rw e
 
-  pub target-is-refused : live_texture c.handle h.holdings ≡ none → pass es h (Target c) ≡ record { verdict = Broken (refusal bad_handle); held = h }
+  pub target-is-refused : live_texture c.handle h.holdings ≡ none → pass es h (Target c) ≡ record { verdict = Err (refusal bad_handle); held = h }
   unfolding pass apply on_target_packet target_after tokens_after
   target-is-refused e = rw e
 
-  pub accepted-target-is-live : (pass es h (Target c)).verdict ≡ Fine → LiveTexture c.handle h.holdings
+  pub accepted-target-is-live : (pass es h (Target c)).verdict ≡ Ok tt → LiveTexture c.handle h.holdings
   unfolding pass apply
   accepted-target-is-live =
-      target-or (λ (o : Outcome). o.verdict ≡ Fine → LiveTexture c.handle h.holdings) h.holdings
+      target-or (λ (o : Outcome). o.verdict ≡ Ok tt → LiveTexture c.handle h.holdings) h.holdings
       (λ r e. absurd (let z : ◌≡◌ {A = ℕ} 0 1 = cc in omega arith)) c (λ s e _. (s, e))
 
 -- ---- kept, and ended
@@ -79,7 +75,7 @@ module _ (es : List Entry) (h : Progress) where
 
   module _ (c : DestroyResource) where
     -- "until .. that handle is destroyed"
-    pub destroyed-ends-the-target : (pass es h (Destroy c)).verdict ≡ Fine → c.handle ≡ h.target → (pass es h (Destroy c)).held.target ≡ 0
+    pub destroyed-ends-the-target : (pass es h (Destroy c)).verdict ≡ Ok tt → c.handle ≡ h.target → (pass es h (Destroy c)).held.target ≡ 0
     unfolding pass target_after tokens_after
     destroyed-ends-the-target e same = rw (e, eq-eqb c.handle h.target same)
 
@@ -88,8 +84,8 @@ module _ (es : List Entry) (h : Progress) where
     another-destroyed-keeps-the-target other = by-verdict (apply es h.target h.tokens h.holdings (Destroy c)).verdict
       where
         by-verdict : (v : Verdict) → if-fine v (pick (eqb c.handle h.target) 0 h.target) h.target ≡ h.target
-        by-verdict Fine = rw (ne_eqb c.handle h.target other)
-        by-verdict (Broken r) = refl
+        by-verdict (Ok tt) = rw (ne_eqb c.handle h.target other)
+        by-verdict (Err r) = refl
 
   -- where there is none, there is none after it, unless it is a target packet
   none-stays-none : (p : Packet) → ((c : SetTarget) → p ≡ Target c → ⊥) → h.target ≡ 0 → (pass es h p).held.target ≡ 0
@@ -99,9 +95,9 @@ module _ (es : List Entry) (h : Progress) where
   none-stays-none (Destroy c) t z = by-verdict (apply es h.target h.tokens h.holdings (Destroy c)).verdict (eqb c.handle h.target)
     where
       by-verdict : (v : Verdict) (b : Bool) → if-fine v (pick b 0 h.target) h.target ≡ 0
-      by-verdict Fine true = refl
-      by-verdict Fine false = z
-      by-verdict (Broken r) b = z
+      by-verdict (Ok tt) true = refl
+      by-verdict (Ok tt) false = z
+      by-verdict (Err r) b = z
   none-stays-none (Dirty c) t z = z
   none-stays-none (Copy c) t z = z
   none-stays-none (Target c) t z = absurd (t c refl)
@@ -130,22 +126,22 @@ ended-target-stays-ended es h (p ∷ ps) k z = ended-target-stays-ended es (pass
 
 module _ (es : List Entry) (h : Progress) (c : SetScissor) where
   -- "scissor without a target": 30
-  pub scissor-without-a-target : h.target ≡ 0 → pass es h (Scissor c) ≡ record { verdict = Broken (refusal bad_state); held = h }
+  pub scissor-without-a-target : h.target ≡ 0 → pass es h (Scissor c) ≡ record { verdict = Err (refusal bad_state); held = h }
   unfolding pass apply on_scissor_packet live_texture target_after tokens_after
   scissor-without-a-target z = rw z
 
   module _ (s : Shape) (e : live_texture h.target h.holdings ≡ found s) where
     -- "scissor sides negative": 30
-    pub scissor-with-negative-sides : bad_sides c ≡ true → pass es h (Scissor c) ≡ record { verdict = Broken (refusal bad_state); held = h }
+    pub scissor-with-negative-sides : bad_sides c ≡ true → pass es h (Scissor c) ≡ record { verdict = Err (refusal bad_state); held = h }
     unfolding pass apply on_scissor_packet target_after tokens_after
     scissor-with-negative-sides b = rw (e, b)
 
     -- its record "counts toward the 64": 19. "Order: 18, 30, 19"
-    pub scissor-past-the-last-record : bad_sides c ≡ false → most ≤ length h.holdings.records → pass es h (Scissor c) ≡ record { verdict = Broken (refusal too_many); held = h }
+    pub scissor-past-the-last-record : bad_sides c ≡ false → most ≤ length h.holdings.records → pass es h (Scissor c) ≡ record { verdict = Err (refusal too_many); held = h }
     unfolding pass apply on_scissor_packet target_after tokens_after
     scissor-past-the-last-record b f = rw (e, b, le-leb most (length h.holdings.records) f)
 
-    pub scissor-is-accepted : bad_sides c ≡ false → length h.holdings.records < most → (pass es h (Scissor c)).verdict ≡ Fine
+    pub scissor-is-accepted : bad_sides c ≡ false → length h.holdings.records < most → (pass es h (Scissor c)).verdict ≡ Ok tt
     unfolding pass apply on_scissor_packet target_after tokens_after
     scissor-is-accepted b f = rw (e, b, lt-leb most (length h.holdings.records) f)
 
@@ -173,13 +169,13 @@ entries-begin o kept owned = by_test (ltb (length kept) o.table.count)
     by_test false = packets-begin o.job o.stream stream_header_size kept (at_first owned) (omega arith) (λ _. refl)
 
 -- a packet that is accepted has a header, so the next one stands behind it
-goes_on : (es : List Entry) (h : Progress) (b : List ℕ) → (take_packet es h b).verdict ≡ Fine → packet_header_size ≤ size_of (frame_of b)
+goes_on : (es : List Entry) (h : Progress) (b : List ℕ) → (take_packet es h b).verdict ≡ Ok tt → packet_header_size ≤ size_of (frame_of b)
 unfolding take_packet
 goes_on es h b = by_frame (frame_of b) refl
   where
-    by_frame : (f : Frame) → frame_of b ≡ f → (pass_frame es h b f).verdict ≡ Fine → packet_header_size ≤ size_of f
-    by_frame (Whole op size) e v = (frame-sound b op size e).header
-    by_frame (Misframed r) e v = absurd (let z : ◌≡◌ {A = ℕ} 0 1 = cc in omega arith)
+    by_frame : (f : Frame) → frame_of b ≡ f → (pass_frame es h b f).verdict ≡ Ok tt → packet_header_size ≤ size_of f
+    by_frame (Ok (op, size)) e v = (frame-sound b op size e).header
+    by_frame (Err r) e v = absurd (let z : ◌≡◌ {A = ℕ} 0 1 = cc in omega arith)
 
 pub next-begins : (w : World) (k next : Work) → Next w k next → BeginsWithNone k → BeginsWithNone next
 next-begins w resting next h b = subst BeginsWithNone (sym h.first) (entries-begin h.what [] w.state.belongings)

@@ -1,7 +1,7 @@
 -- Wish 5, "two programs, one surface": a token lives from one submission to the next. One that is bound, or exported since, is bound over any calls
 -- between resets, exactly unless a submission answered good has released it or destroyed the last name of its resource since. And import's own test finds
 -- it, so an import of it in a later submission, with a free handle and room, is accepted. Assumes nothing.
-use Rattle.std.specs.Prelude.{◌≡◌, refl, ◌⊎◌, ℕ, ◌<◌, length}
+use Rattle.std.specs.Prelude.{◌≡◌, refl, ◌⊎◌, ℕ, ◌<◌, length, Err, Ok}
 use Rattle.std.proofs.Common.{sym, ◌∙◌, arith, ne_eqb}
 use Rattle.std.proofs.Math.Path.{ap}
 use mathlib.Core.List.{List, [], ◌∷◌, ◌++◌}
@@ -21,7 +21,6 @@ use Rattle.rules.specs.declared.Stream.{Stream}
 use Rattle.rules.specs.declared.Token.{Token}
 use Rattle.rules.specs.declared.ImportSurface.{ImportSurface}
 use Rattle.rules.specs.declared.Refusal.{Refusal}
-use Rattle.rules.specs.declared.Verdict.TheVariants.{Fine, Broken}
 use Rattle.rules.specs.declared.Packet.{Packet}
 use Rattle.rules.specs.declared.Packet.TheVariants.{Export, Import}
 use Rattle.promises_of_packets.specs.Names.{none-not-found, found-same, in_found, rebound, renamed-other}
@@ -78,7 +77,7 @@ pub record TokensLive (xs : List Taken) (before after : List Token) : Type 0 whe
 
 -- ---- each packet that is accepted
 
-pub fine-not-broken : (r : Refusal) → Broken r ≡ Fine → ⊥
+pub fine-not-broken : (r : Refusal) → Err r ≡ Ok tt → ⊥
 fine-not-broken r e = let z : ◌≡◌ {A = ℕ} 0 1 = cc in omega arith
 
 -- a token that followed its resource to another name was bound before
@@ -126,7 +125,7 @@ pub record BoundIsFound (token : ℕ) (s : State) : Type 0 where
 -- ---- so an import in a later submission is accepted, and its handle is one more name of that resource
 
 pub record ImportAccepted (es : List Entry) (h : Progress) (c : ImportSurface) : Type 0 where
-  pub accepted : (pass es h (Import c)).verdict ≡ Fine
+  pub accepted : (pass es h (Import c)).verdict ≡ Ok tt
   pub second_name : SecondName c.token c.handle h (pass es h (Import c)).held
 
 -- that packet's unit works on, and the names go on with one more

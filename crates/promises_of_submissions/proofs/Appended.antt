@@ -1,19 +1,17 @@
 -- The theorems of specs/Appended.antt, and what they rest on. Assumes nothing.
-use Rattle.std.specs.Prelude.{◌≡◌, List, ◌++◌, ℕ, zero, suc, ◌+◌, ◌≤◌, length, drop}
+use Rattle.std.specs.Prelude.{◌≡◌, List, ◌++◌, ℕ, zero, suc, ◌+◌, ◌≤◌, length, drop, Err, Ok}
 use Rattle.std.proofs.Math.Path.{refl}
 use Rattle.std.proofs.Common.{sym, ap, ◌∙◌, arith, length-drop, length-append}
 use Rattle.std.proofs.lemmas.List.{take-append-le}
 use Rattle.std.proofs.Math.Seq.{drop-append-add, drop-append_seam}
 use Rattle.rules.specs.Layouts.{word, packet_header_size, stream_header_size}
 use Rattle.rules.specs.Table.{entries_of}
-use Rattle.rules.specs.Stream.{least_size, frame_of, cut, left, packets_of}
+use Rattle.rules.specs.Stream.{least_size, frame_of, cut, left, packets_of, Frame}
 use Rattle.rules.specs.Packets.{Progress}
 use Rattle.rules.specs.Unsliced.{judge_packets, submission}
 use Rattle.rules.specs.declared.Entry.{Entry}
 use Rattle.rules.specs.declared.Stream.{Stream}
 use Rattle.rules.specs.declared.Opened.{Opened}
-use Rattle.rules.specs.declared.Frame.{Frame}
-use Rattle.rules.specs.declared.Frame.TheVariants.{Whole, Misframed}
 use Rattle.stream_packets.specs.Framing.{FrameFits, frame-sound}
 use Rattle.stream_packets.specs.Listing.{cut-packet}
 use Rattle.promises_of_submissions.specs.LocalBytes.{Agree, same_first, same-field}
@@ -54,12 +52,12 @@ module _ (m m' : List ℕ) (len : length m ≡ length m') (o : Opened) (same : S
 
 -- ---- of bytes: any that are appended to a packet may be exchanged for as many others
 
-same_here : (b : List ℕ) → ((op size : ℕ) → frame_of b ≡ Whole op size → SameButAppended (drop size b) (drop size b)) → SameButAppended b b
+same_here : (b : List ℕ) → ((op size : ℕ) → frame_of b ≡ Ok (op, size) → SameButAppended (drop size b) (drop size b)) → SameButAppended b b
 same_here b later = by_frame (frame_of b) refl
   where
     by_frame : (f : Frame) → frame_of b ≡ f → SameButAppended b b
-    by_frame (Whole op size) e = packet op size e e refl (later op size e)
-    by_frame (Misframed r) e = misframed r refl e e
+    by_frame (Ok (op, size)) e = packet op size e e refl (later op size e)
+    by_frame (Err r) e = misframed r refl e e
 
 same_within : (k : ℕ) (b : List ℕ) → length b ≤ k → SameButAppended b b
 same_within zero b h = same_here b (λ op size e. absurd (omega (arith, whole-some b op size e)))
@@ -86,7 +84,7 @@ module _ (x y y' z z' : List ℕ) (head : packet_header_size ≤ length x) (row 
   behind u v = drop-append-add x (u ++ v) (length u) ∙ drop-append_seam u v
 
   by_frame : (f : Frame) → frame_of (one x y y' z z' head row size_is len later-len later) ≡ f → SameButAppended (one x y y' z z' head row size_is len later-len later) (other x y y' z z' head row size_is len later-len later)
-  by_frame (Whole op size) e =
+  by_frame (Ok (op, size)) e =
       let fits : FrameFits (one x y y' z z' head row size_is len later-len later) op size = frame-sound (one x y y' z z' head row size_is len later-len later) op size e in
       let own : Agree (one x y y' z z' head row size_is len later-len later) x 0 packet_header_size = take-append-le packet_header_size x (y ++ z) head in
       let op-is : op ≡ word x 0 = fits.opcode ∙ same_first (one x y y' z z' head row size_is len later-len later) x 0 packet_header_size own 4 (omega arith) in
@@ -95,7 +93,7 @@ module _ (x y y' z z' : List ℕ) (head : packet_header_size ≤ length x) (row 
       let rest' : drop size (other x y y' z z' head row size_is len later-len later) ≡ z' = rw (long, len) (behind y' z') in
       packet op size e (sym (same-frame (one x y y' z z' head row size_is len later-len later) (other x y y' z z' head row size_is len later-len later) as_long (λ _. front packet_header_size head)) ∙ e) (front (least_size op) (rw op-is row))
       (rw (rest, rest') later)
-  by_frame (Misframed r) e = misframed r as_long e (sym (same-frame (one x y y' z z' head row size_is len later-len later) (other x y y' z z' head row size_is len later-len later) as_long (λ _. front packet_header_size head)) ∙ e)
+  by_frame (Err r) e = misframed r as_long e (sym (same-frame (one x y y' z z' head row size_is len later-len later) (other x y y' z z' head row size_is len later-len later) as_long (λ _. front packet_header_size head)) ∙ e)
 
   -- whatever y and y' are
   pub exchanged : SameButAppended (one x y y' z z' head row size_is len later-len later) (other x y y' z z' head row size_is len later-len later)

@@ -1,17 +1,17 @@
 -- The theorems of specs/AppendedUnits.antt, and what they rest on. Assumes nothing.
-use Rattle.std.specs.Prelude.{◌≡◌, Bool, ltb, length, drop}
+use Rattle.std.specs.Prelude.{◌≡◌, Bool, ltb, length, drop, Err, Ok}
 use Rattle.std.proofs.Math.Path.{refl, ap, subst}
 use Rattle.std.proofs.Common.{sym, ◌∙◌, arith, ltb-true, drop-drop}
 use Rattle.std.proofs.Math.Bool.{true, false}
 use mathlib.Core.List.{List, []}
 use Prim.Native.Nat.{ℕ, zero, suc, ◌+◌, ◌≤◌, ◌<◌}
 use Rattle.machine.specs.Machine.{pick, run_none, run-stop, run-go}
-use Rattle.rules.specs.Judging.{Finding, fault_at, at_place, without_place}
+use Rattle.rules.specs.Judging.{Finding, fault_at, at_place, without_place, Verdict}
 use Rattle.rules.specs.Judging.Finding.{fine, broken}
 use Rattle.rules.specs.Layouts.{stream_header_size}
 use Rattle.rules.specs.Numbers.{other_memory}
 use Rattle.rules.specs.Table.{entries_of, take_entry}
-use Rattle.rules.specs.Stream.{least_size, frame_rules, frame_of, size_of, left, stream_bytes}
+use Rattle.rules.specs.Stream.{least_size, frame_rules, frame_of, size_of, left, stream_bytes, Frame}
 use Rattle.rules.specs.Ring.{opening_of}
 use Rattle.rules.specs.Packets.{Progress, at_first, pass_frame, take_packet, Belongings}
 use Rattle.rules.specs.State.{Work, State, World, working}
@@ -25,10 +25,6 @@ use Rattle.rules.specs.declared.Job.{Job}
 use Rattle.rules.specs.declared.Fault.{Fault}
 use Rattle.rules.specs.declared.Stream.{Stream}
 use Rattle.rules.specs.declared.Opened.{Opened}
-use Rattle.rules.specs.declared.Frame.{Frame}
-use Rattle.rules.specs.declared.Frame.TheVariants.{Whole, Misframed}
-use Rattle.rules.specs.declared.Verdict.{Verdict}
-use Rattle.rules.specs.declared.Verdict.TheVariants.{Fine, Broken}
 use Rattle.rules.specs.declared.Ended.TheVariants.{Idle}
 use Rattle.rules.specs.declared.Opening.{Opening}
 use Rattle.rules.specs.declared.Opening.TheVariants.{BadRing, NoWork, Refused, Started}
@@ -53,12 +49,12 @@ same-frames b b' (packet op size e e' same later) = e ∙ sym e'
 same-frames b b' (misframed r len e e') = e ∙ sym e'
 
 module _ (op size : ℕ) where
-  same_row : (b b' : List ℕ) → SameButAppended b b' → frame_of b ≡ Whole op size → Agree b b' 0 (least_size op)
+  same_row : (b b' : List ℕ) → SameButAppended b b' → frame_of b ≡ Ok (op, size) → Agree b b' 0 (least_size op)
   same_row b b' ends h = refl
   same_row b b' (packet op₁ size₁ e e' same later) h = let is : op₁ ≡ op = cc in rw is at same
   same_row b b' (misframed r len e e') h = absurd ((no-packet op size) b r e h)
 
-  same_behind : (b b' : List ℕ) → SameButAppended b b' → frame_of b ≡ Whole op size → SameButAppended (drop size b) (drop size b')
+  same_behind : (b b' : List ℕ) → SameButAppended b b' → frame_of b ≡ Ok (op, size) → SameButAppended (drop size b) (drop size b')
   unfolding frame_of frame_rules
   same_behind b b' ends h = absurd ((no-packet op size) [] _ refl h)
   same_behind b b' (packet op₁ size₁ e e' same later) h = let is : size₁ ≡ size = cc in rw is at later
@@ -109,10 +105,10 @@ module _ (s : State) (m m' : List ℕ) where
   entry-onward o kept fine same = goes_on (entries_at o kept s.belongings) (entries-ahead o kept s.belongings same)
   entry-onward o kept (broken f) same = stops o.job f
 
-  packet-onward : (j : Job) (t : Stream) (at next : ℕ) (es : List Entry) (h : Progress) (v : Verdict) → (v ≡ Fine → SameButAppended (left m t next) (left m' t next))
+  packet-onward : (j : Job) (t : Stream) (at next : ℕ) (es : List Entry) (h : Progress) (v : Verdict) → (v ≡ Ok tt → SameButAppended (left m t next) (left m' t next))
       → Onward m m' (after_packet (lent s m) j t next es h (at_place at v)) (after_packet (lent s m') j t next es h (at_place at v))
-  packet-onward j t at next es h Fine same = goes_on (packets_at j t next es h) (packets-ahead j t next es h (same refl))
-  packet-onward j t at next es h (Broken r) same = stops j (fault_at at r)
+  packet-onward j t at next es h (Ok tt) same = goes_on (packets_at j t next es h) (packets-ahead j t next es h (same refl))
+  packet-onward j t at next es h (Err r) same = stops j (fault_at at r)
 
 -- behind the entries kept so far
 fewer-entries : (m m' : List ℕ) (o : Opened) (i k : ℕ) → i ≤ k → SameSubmission m m' o i → SameSubmission m m' o k
@@ -120,15 +116,15 @@ fewer-entries m m' o i k h same = record { table = λ n from to. same.table n (o
 
 -- a packet that is fine has the same behind it
 packet_behind : (m m' : List ℕ) (t : Stream) (at : ℕ) (es : List Entry) (h : Progress) → SameButAppended (left m t at) (left m' t at)
-    → (take_packet es h (left m t at)).verdict ≡ Fine → SameButAppended (left m t (next_place at (left m t at))) (left m' t (next_place at (left m t at)))
+    → (take_packet es h (left m t at)).verdict ≡ Ok tt → SameButAppended (left m t (next_place at (left m t at))) (left m' t (next_place at (left m t at)))
 unfolding take_packet
 packet_behind m m' t at es h same = by_frame (frame_of (left m t at)) refl
   where
-    by_frame : (f : Frame) → frame_of (left m t at) ≡ f → (pass_frame es h (left m t at) f).verdict ≡ Fine
+    by_frame : (f : Frame) → frame_of (left m t at) ≡ f → (pass_frame es h (left m t at) f).verdict ≡ Ok tt
         → SameButAppended (left m t (at + size_of f)) (left m' t (at + size_of f))
-    by_frame (Whole op size) e good =
+    by_frame (Ok (op, size)) e good =
         rw (← drop-drop size at (stream_bytes m t), ← drop-drop size at (stream_bytes m' t)) (same_behind op size (left m t at) (left m' t at) same e)
-    by_frame (Misframed r) e good = absurd (broken-not-fine r good)
+    by_frame (Err r) e good = absurd (broken-not-fine r good)
 
 module _ (m m' : List ℕ) (len : length m ≡ length m') where
   unit-on : (s : State) (k : Work) → s.work ≡ k → SameAhead s.regs k m m' → Onward m m' (step_on (lent s m) k) (step_on (lent s m') k)

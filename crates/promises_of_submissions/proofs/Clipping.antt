@@ -1,5 +1,5 @@
 -- The theorems of specs/Clipping.antt, and what they rest on. Assumes nothing.
-use Rattle.std.specs.Prelude.{◌≡◌, Bool, ◌||◌, List, ℕ, ◌≤◌, pos, nat_abs, ◌+ℤ◌, ◌<ℤ◌}
+use Rattle.std.specs.Prelude.{◌≡◌, Bool, ◌||◌, List, ℕ, ◌≤◌, pos, nat_abs, ◌+ℤ◌, ◌<ℤ◌, Ok}
 use Rattle.std.proofs.Math.Path.{refl}
 use Rattle.std.proofs.Common.{sym, subst, ⊎_elim}
 use Rattle.std.proofs.Math.Bool.{true, false}
@@ -12,7 +12,6 @@ use Rattle.rules.specs.Packets.{Outcome, apply, target_after, Progress, passed, 
 use Rattle.rules.specs.declared.Entry.{Entry}
 use Rattle.rules.specs.declared.Shape.{Shape}
 use Rattle.rules.specs.declared.SetScissor.{SetScissor}
-use Rattle.rules.specs.declared.Verdict.TheVariants.{Fine}
 use Rattle.rules.specs.declared.Packet.TheVariants.{Scissor}
 use Rattle.promises_of_packets.specs.Effects.{scissor-or}
 use Rattle.promises_of_submissions.specs.Clipping.{Along, ClippedTo, CutBoth, InBoth, Scissored, cut-is, cut_inside, either, height-is, high, neither, wide, width_is}
@@ -81,9 +80,9 @@ module _ (s : Shape) (c : SetScissor) (good : bad_sides c ≡ false) where
 
 -- ---- the packet
 
-pub accepted-scissor-is-clipped : (es : List Entry) (h : Progress) (c : SetScissor) → (pass es h (Scissor c)).verdict ≡ Fine → Scissored h c (pass es h (Scissor c))
+pub accepted-scissor-is-clipped : (es : List Entry) (h : Progress) (c : SetScissor) → (pass es h (Scissor c)).verdict ≡ Ok tt → Scissored h c (pass es h (Scissor c))
 unfolding pass apply target_after tokens_after
 accepted-scissor-is-clipped es h c =
-    scissor-or (λ (o : Outcome). o.verdict ≡ Fine → Scissored h c (passed (Scissor c) h o)) h.holdings
+    scissor-or (λ (o : Outcome). o.verdict ≡ Ok tt → Scissored h c (passed (Scissor c) h o)) h.holdings
     (λ r e. absurd (let z : ◌≡◌ {A = ℕ} 0 1 = cc in omega arith)) h.target c
     (λ s k e. record { texture = s; its-target = k.texture; clip = clip_of s c; is-clipped = clip-is-the-common-part s c k.sides; held = refl })

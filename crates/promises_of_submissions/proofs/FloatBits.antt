@@ -1,5 +1,5 @@
 -- The theorems of specs/FloatBits.antt, and what they rest on. Assumes nothing.
-use Rattle.std.specs.Prelude.{◌≡◌, Bool, List, ℕ, ◌%◌}
+use Rattle.std.specs.Prelude.{◌≡◌, Bool, List, ℕ, ◌%◌, Ok}
 use Rattle.std.proofs.Math.Path.{refl, ap}
 use Rattle.std.proofs.Common.{sym, ◌∙◌}
 use Rattle.std.proofs.Math.Bool.{true, false}
@@ -11,7 +11,6 @@ use Rattle.rules.specs.StatePackets.{bad_viewport, bad_clear}
 use Rattle.rules.specs.Stream.{known, frame_of, packet_of}
 use Rattle.rules.specs.Packets.{Progress, pass, take_packet}
 use Rattle.rules.specs.declared.Entry.{Entry}
-use Rattle.rules.specs.declared.Frame.TheVariants.{Whole}
 use Rattle.rules.specs.declared.Packet.TheVariants.{Viewport, Clear, NotANumber}
 use Rattle.promises_of_packets.specs.Held.{Every}
 use Rattle.promises_of_submissions.specs.LentBytes.{OfBytes, word_fits}
@@ -80,8 +79,8 @@ module _ (b : List ℕ) where
               clear-comes-to es h (clear_fields b) ∙ rw (c.flags, c.red, c.green, c.blue, c.alpha, c.depth)
 
       -- the same of the packet that the bytes left of a stream begin with
-      pub framed-viewport-judged-by-its-words : (size : ℕ) → frame_of b ≡ Whole set_viewport size → take_packet es h b ≡ judged_state h (bad_viewport_words b)
+      pub framed-viewport-judged-by-its-words : (size : ℕ) → frame_of b ≡ Ok (set_viewport, size) → take_packet es h b ≡ judged_state h (bad_viewport_words b)
       framed-viewport-judged-by-its-words size e = framed-is-read b es h set_viewport size e ∙ viewport-judged-by-its-words
 
-      pub framed-clear-judged-by-its-words : (size : ℕ) → frame_of b ≡ Whole clear size → take_packet es h b ≡ judged_state h (bad_clear_words b)
+      pub framed-clear-judged-by-its-words : (size : ℕ) → frame_of b ≡ Ok (clear, size) → take_packet es h b ≡ judged_state h (bad_clear_words b)
       framed-clear-judged-by-its-words size e = framed-is-read b es h clear size e ∙ clear-judged-by-its-words

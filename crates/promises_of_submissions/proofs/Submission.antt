@@ -1,5 +1,5 @@
 -- The theorems of specs/Submission.antt, and what they rest on. Assumes nothing.
-use Rattle.std.specs.Prelude.{◌≡◌, Bool, eqb}
+use Rattle.std.specs.Prelude.{◌≡◌, Bool, eqb, Err, Ok}
 use Rattle.std.proofs.Math.Path.{refl}
 use Rattle.std.proofs.Common.{sym, subst}
 use Rattle.std.proofs.Math.Bool.{true, false}
@@ -7,7 +7,7 @@ use mathlib.Core.List.{List, []}
 use Prim.Native.Nat.{ℕ, suc, ◌+◌, ◌≤◌}
 use native.Mathlib.Omega.{arith}
 use Rattle.machine.specs.Machine.{pick, spent}
-use Rattle.rules.specs.Judging.{Finding}
+use Rattle.rules.specs.Judging.{Finding, Verdict}
 use Rattle.rules.specs.Judging.Finding.{fine, broken}
 use Rattle.rules.specs.Layouts.{ring_header, stream_header_size}
 use Rattle.rules.specs.Ring.{present, submission_rules, opened_of, concluded, submission_opening, good_ring, ring_opening, opening_of}
@@ -19,8 +19,6 @@ use Rattle.rules.specs.Unsliced.{Reckoned, after_entries, submission, finished, 
 use Rattle.rules.specs.declared.Descriptor.{Descriptor}
 use Rattle.rules.specs.declared.Job.{Job}
 use Rattle.rules.specs.declared.Opened.{Opened}
-use Rattle.rules.specs.declared.Verdict.{Verdict}
-use Rattle.rules.specs.declared.Verdict.TheVariants.{Fine, Broken}
 use Rattle.rules.specs.declared.Opening.{Opening}
 use Rattle.rules.specs.declared.Opening.TheVariants.{BadRing, NoWork, Refused, Started}
 use Rattle.rule_laws.specs.Fine.{both_left}
@@ -29,7 +27,7 @@ use Rattle.promises_of_submissions.specs.Submission.{Lies, LiesOn, Submits, all,
 
 -- ---- what was opened lies within memory
 
-module _ (m : List ℕ) (j : Job) (d : Descriptor) (stride : ℕ) (good : submission_rules m stride d ≡ Fine) where
+module _ (m : List ℕ) (j : Job) (d : Descriptor) (stride : ℕ) (good : submission_rules m stride d ≡ Ok tt) where
   pub started-lies : Lies m (opened_of m j d)
   started-lies =
       record {
@@ -40,8 +38,8 @@ module _ (m : List ℕ) (j : Job) (d : Descriptor) (stride : ℕ) (good : submis
       }
 
 concluded-lies : (m : List ℕ) (j : Job) (d : Descriptor) (stride : ℕ) (v : Verdict) → submission_rules m stride d ≡ v → LiesOn m (concluded v j (opened_of m j d))
-concluded-lies m j d stride Fine e = started-lies m j d stride e
-concluded-lies m j d stride (Broken r) e = omega arith
+concluded-lies m j d stride (Ok tt) e = started-lies m j d stride e
+concluded-lies m j d stride (Err r) e = omega arith
 
 pick-lies : (m : List ℕ) (t : Bool) (x y : Opening) → LiesOn m x → LiesOn m y → LiesOn m (pick t x y)
 pick-lies m true x y p q = p

@@ -1,6 +1,6 @@
 -- Wish 2: appended bytes cannot matter. Two streams that are the same packet by packet, in opcode, size and the bytes that the table of
 -- opcodes gives the packet, come to the same finding, records, resources and tokens, whatever stands past those bytes. Assumes nothing.
-use Rattle.std.specs.Prelude.{◌≡◌, List, [], ◌++◌, ℕ, zero, suc, ◌+◌, ◌≤◌, ◌<◌, length, drop}
+use Rattle.std.specs.Prelude.{◌≡◌, List, [], ◌++◌, ℕ, zero, suc, ◌+◌, ◌≤◌, ◌<◌, length, drop, Err, Ok}
 use Rattle.std.proofs.Math.Path.{refl}
 use Rattle.std.proofs.Common.{arith}
 use Rattle.rules.specs.Layouts.{word, packet_header_size, entry_size, stream_header_size}
@@ -9,7 +9,6 @@ use Rattle.rules.specs.Stream.{least_size, frame_of, left}
 use Rattle.rules.specs.declared.Refusal.{Refusal}
 use Rattle.rules.specs.declared.Table.{Table}
 use Rattle.rules.specs.declared.Opened.{Opened}
-use Rattle.rules.specs.declared.Frame.TheVariants.{Whole, Misframed}
 use Rattle.stream_packets.specs.Framing.{FrameFits, frame-sound}
 use Rattle.promises_of_submissions.specs.LocalBytes.{Agree, same-entry}
 
@@ -18,12 +17,12 @@ use Rattle.promises_of_submissions.specs.LocalBytes.{Agree, same-entry}
 -- an unknown one's but the header.
 pub data SameButAppended : List ℕ → List ℕ → Type 0 where
   ends : SameButAppended [] []
-  packet : {b b' : List ℕ} (op size : ℕ) → frame_of b ≡ Whole op size → frame_of b' ≡ Whole op size → Agree b b' 0 (least_size op)
+  packet : {b b' : List ℕ} (op size : ℕ) → frame_of b ≡ Ok (op, size) → frame_of b' ≡ Ok (op, size) → Agree b b' 0 (least_size op)
       → SameButAppended (drop size b) (drop size b') → SameButAppended b b'
-  misframed : {b b' : List ℕ} (r : Refusal) → length b ≡ length b' → frame_of b ≡ Misframed r → frame_of b' ≡ Misframed r → SameButAppended b b'
+  misframed : {b b' : List ℕ} (r : Refusal) → length b ≡ length b' → frame_of b ≡ Err r → frame_of b' ≡ Err r → SameButAppended b b'
 
 -- a whole packet is not empty
-pub whole-some : (b : List ℕ) (op size : ℕ) → frame_of b ≡ Whole op size → 0 < length b
+pub whole-some : (b : List ℕ) (op size : ℕ) → frame_of b ≡ Ok (op, size) → 0 < length b
 whole-some b op size e =
     let fits : FrameFits b op size = frame-sound b op size e in
     omega (arith, fits.header, fits.inside)

@@ -1,13 +1,13 @@
 -- Wish 2, unit by unit: over two memories that differ only in bytes appended to a submission's packets, each unit comes to the same state,
 -- with the same resources, records, tokens and place kept, and writes the same. Assumes nothing.
-use Rattle.std.specs.Prelude.{◌≡◌, Bool, length}
+use Rattle.std.specs.Prelude.{◌≡◌, Bool, length, Err, Ok}
 use Rattle.std.proofs.Math.Path.{refl}
 use Rattle.std.proofs.Common.{arith, length-append}
 use Rattle.std.proofs.Math.Bool.{true, false}
 use mathlib.Core.List.{List}
 use Prim.Native.Nat.{ℕ, suc, ◌≤◌, ◌<◌}
 use Rattle.machine.specs.Machine.{pick, Out}
-use Rattle.rules.specs.Judging.{refusal}
+use Rattle.rules.specs.Judging.{refusal, Verdict}
 use Rattle.rules.specs.Layouts.{entry}
 use Rattle.rules.specs.Numbers.{bad_entry}
 use Rattle.rules.specs.Table.{entry_place, entry_rules, keep, in_reach, take_entry}
@@ -20,9 +20,6 @@ use Rattle.rules.specs.declared.Entry.{Entry}
 use Rattle.rules.specs.declared.Refusal.{Refusal}
 use Rattle.rules.specs.declared.Registers.{Registers}
 use Rattle.rules.specs.declared.Opened.{Opened}
-use Rattle.rules.specs.declared.Frame.TheVariants.{Whole, Misframed}
-use Rattle.rules.specs.declared.Verdict.{Verdict}
-use Rattle.rules.specs.declared.Verdict.TheVariants.{Fine, Broken}
 use Rattle.rules.specs.declared.Opening.TheVariants.{Started}
 use Rattle.promises_of_submissions.specs.Whole.{midst}
 use Rattle.promises_of_submissions.specs.LocalWrites.SameWrites.{unwritten}
@@ -41,7 +38,7 @@ SameAhead r (waiting j es h) m m' = 0 ≤ 0
 -- ---- the next packet of two such streams
 
 module _ (op size : ℕ) where
-  pub no-packet : (b : List ℕ) (r : Refusal) → frame_of b ≡ Misframed r → frame_of b ≡ Whole op size → ⊥
+  pub no-packet : (b : List ℕ) (r : Refusal) → frame_of b ≡ Err r → frame_of b ≡ Ok (op, size) → ⊥
   no-packet b r e h = let z : ◌≡◌ {A = ℕ} 0 1 = cc in omega arith
 
 -- ---- one unit
@@ -63,9 +60,9 @@ kept-no-fewer m o kept = by_tests (in_reach m o.table (length kept)) (entry_rule
     next : Entry
     next = entry m (entry_place o.table (length kept))
 
-    by_tests : (t : Bool) (v : Verdict) → length kept ≤ length (pick t (keep v kept next) (record { verdict = Broken (refusal bad_entry); kept = kept })).kept
-    by_tests true Fine = rw length-append (omega arith)
-    by_tests true (Broken r) = omega arith
+    by_tests : (t : Bool) (v : Verdict) → length kept ≤ length (pick t (keep v kept next) (record { verdict = Err (refusal bad_entry); kept = kept })).kept
+    by_tests true (Ok tt) = rw length-append (omega arith)
+    by_tests true (Err r) = omega arith
     by_tests false v = omega arith
 
 -- ---- any number of units

@@ -1,6 +1,6 @@
 -- Wish 7: "Read each packet as one of viewport, clear, scissor or target, its floats carried bit for bit." The floats of a packet have the bits
 -- that stand in memory, and whether a viewport or a clear is error 30 goes by these. Assumes nothing.
-use Rattle.std.specs.Prelude.{◌≡◌, Bool, ◌||◌, List, [], ◌∷◌, ℕ, ◌%◌, ◌^◌, ◌<◌}
+use Rattle.std.specs.Prelude.{◌≡◌, Bool, ◌||◌, List, [], ◌∷◌, ℕ, ◌%◌, ◌^◌, ◌<◌, Err, Ok}
 use Rattle.std.proofs.Math.Path.{refl}
 use Rattle.std.proofs.Common.{sym, ◌∙◌, arith, ltb-true, le-leb}
 use Rattle.std.proofs.Math.Bool.{true, false}
@@ -17,7 +17,6 @@ use Rattle.rules.specs.Packets.{accepted, refuse, on_viewport_packet, on_clear_p
 use Rattle.rules.specs.declared.Entry.{Entry}
 use Rattle.rules.specs.declared.SetViewport.{SetViewport}
 use Rattle.rules.specs.declared.ClearValues.{ClearValues}
-use Rattle.rules.specs.declared.Verdict.TheVariants.{Fine, Broken}
 use Rattle.rules.specs.declared.Packet.TheVariants.{Viewport, Clear, NotANumber}
 use Rattle.promises_of_packets.specs.Held.{Every}
 
@@ -62,7 +61,7 @@ none-among (b ∷ bs) e = by_test (is_nan_bits b) refl (none-among bs) e
 
 -- error 30 or none
 abbrev pub judged_state : Progress → Bool → Passed
-judged_state h bad = pick bad (record { verdict = Broken (refusal bad_state); held = h }) (record { verdict = Fine; held = h })
+judged_state h bad = pick bad (record { verdict = Err (refusal bad_state); held = h }) (record { verdict = Ok tt; held = h })
 
 module _ (es : List Entry) (h : Progress) where
   pub viewport-comes-to : (v : SetViewport) → pass es h (Viewport v) ≡ judged_state h (bad_viewport v)

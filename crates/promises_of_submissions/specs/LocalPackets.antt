@@ -1,19 +1,17 @@
 -- A packet's unit reads the packet's header, and of a packet that is framed the bytes that the table of opcodes gives it: none of an
 -- unknown packet's body, none that stand past a known packet's table size. Of 1 to 7 bytes left it reads none. Assumes nothing.
-use Rattle.std.specs.Prelude.{◌≡◌, Bool, List, ℕ, zero, suc, ◌+◌, ◌-◌, ◌≤◌, ◌<◌, length, take, drop}
+use Rattle.std.specs.Prelude.{◌≡◌, Bool, List, ℕ, zero, suc, ◌+◌, ◌-◌, ◌≤◌, ◌<◌, length, take, drop, Err, Ok}
 use Rattle.std.proofs.Math.Path.{refl, ap}
 use Rattle.std.proofs.Common.{sym, ◌∙◌, arith, ltb-false, length-take, length-drop, drop-drop, take-take}
 use Rattle.std.proofs.Math.Bool.{true, false}
 use Rattle.std.proofs.Math.Nat.{min-le_left}
 use Rattle.std.proofs.Math.Dec.{ltb}
 use Rattle.rules.specs.Layouts.{packet_header_size}
-use Rattle.rules.specs.Stream.{least_size, frame_rules, frame_of, packet_of, left}
+use Rattle.rules.specs.Stream.{least_size, frame_rules, frame_of, packet_of, left, Frame}
 use Rattle.rules.specs.Packets.{Progress, pass, pass_frame, take_packet}
 use Rattle.rules.specs.declared.Entry.{Entry}
 use Rattle.rules.specs.declared.Stream.{Stream}
 use Rattle.rules.specs.declared.Packet.{Packet}
-use Rattle.rules.specs.declared.Frame.{Frame}
-use Rattle.rules.specs.declared.Frame.TheVariants.{Whole, Misframed}
 use Rattle.stream_packets.specs.Framing.{FrameFits, frame-sound}
 use Rattle.promises_of_submissions.specs.LocalBytes.{Agree, front_read, same_first, same-field, packet-reads-only}
 
@@ -21,7 +19,7 @@ use Rattle.promises_of_submissions.specs.LocalBytes.{Agree, front_read, same_fir
 -- packet as many bytes as its opcode's row has, which are none for an unknown one
 pub record SamePacket (m m' : List ℕ) (s : Stream) (at : ℕ) : Type 0 where
   pub header : packet_header_size ≤ length (left m s at) → Agree m m' (s.gpa + at) packet_header_size
-  pub packet : (op size : ℕ) → frame_of (left m s at) ≡ Whole op size → Agree m m' (s.gpa + at) (least_size op)
+  pub packet : (op size : ℕ) → frame_of (left m s at) ≡ Ok (op, size) → Agree m m' (s.gpa + at) (least_size op)
 
 -- ---- some bytes, whatever they are a part of
 
@@ -43,13 +41,13 @@ module _ (b b' : List ℕ) where
   same-packet op size fits same =
       packet-reads-only op (take size b) (take size b') (take-take (least_size op) size b fits ∙ (same ∙ sym (take-take (least_size op) size b' fits)))
 
-  same-applied : (es : List Entry) (h : Progress) (f : Frame) → ((op size : ℕ) → f ≡ Whole op size → (least_size op ≤ size) × Agree b b' 0 (least_size op))
+  same-applied : (es : List Entry) (h : Progress) (f : Frame) → ((op size : ℕ) → f ≡ Ok (op, size) → (least_size op ≤ size) × Agree b b' 0 (least_size op))
       → pass_frame es h b f ≡ pass_frame es h b' f
-  same-applied es h (Whole op size) k = ap (λ (p : Packet). pass es h p) (same-packet op size (k op size refl).0 (k op size refl).1)
-  same-applied es h (Misframed r) k = refl
+  same-applied es h (Ok (op, size)) k = ap (λ (p : Packet). pass es h p) (same-packet op size (k op size refl).0 (k op size refl).1)
+  same-applied es h (Err r) k = refl
 
   -- what the next packet comes to, of two streams whose next frame is the same and its row's bytes too
-  pub same_taken : (es : List Entry) (h : Progress) → frame_of b ≡ frame_of b' → ((op size : ℕ) → frame_of b ≡ Whole op size → Agree b b' 0 (least_size op))
+  pub same_taken : (es : List Entry) (h : Progress) → frame_of b ≡ frame_of b' → ((op size : ℕ) → frame_of b ≡ Ok (op, size) → Agree b b' 0 (least_size op))
       → take_packet es h b ≡ take_packet es h b'
   unfolding take_packet
   same_taken es h e same =
@@ -57,7 +55,7 @@ module _ (b b' : List ℕ) where
       ∙ ap (λ (f : Frame). pass_frame es h b' f) e
 
 -- what is framed says what stands at its front, whatever is behind it
-pub framed-is-read : (b : List ℕ) (es : List Entry) (h : Progress) (op size : ℕ) → frame_of b ≡ Whole op size → take_packet es h b ≡ pass es h (packet_of op b)
+pub framed-is-read : (b : List ℕ) (es : List Entry) (h : Progress) (op size : ℕ) → frame_of b ≡ Ok (op, size) → take_packet es h b ≡ pass es h (packet_of op b)
 unfolding take_packet
 framed-is-read b es h op size e =
     rw e (ap (λ (p : Packet). pass es h p) (packet-reads-only op (take size b) b (take-take (least_size op) size b (frame-sound b op size e).known)))
@@ -90,7 +88,7 @@ module _ (s : Stream) (at : ℕ) where
       pub same-next-frame : frame_of (left m s at) ≡ frame_of (left m' s at)
       same-next-frame = same-frame (left m s at) (left m' s at) left-length (λ h. left-agree packet_header_size h (same.header h))
 
-      row-bytes : (op size : ℕ) → frame_of (left m s at) ≡ Whole op size → Agree (left m s at) (left m' s at) 0 (least_size op)
+      row-bytes : (op size : ℕ) → frame_of (left m s at) ≡ Ok (op, size) → Agree (left m s at) (left m' s at) 0 (least_size op)
       row-bytes op size e =
           let fits : FrameFits (left m s at) op size = frame-sound (left m s at) op size e in
           left-agree (least_size op) (omega (arith, fits.known, fits.inside)) (same.packet op size e)

@@ -1,6 +1,6 @@
 -- An opening is fixed by the ring's header, the head's slot, and the headers of the table and of the stream, each only where the rules before it
 -- let it be read: by what they say, whatever bytes say it. Assumes nothing.
-use Rattle.std.specs.Prelude.{◌≡◌, Bool, ◌&&◌, List, ltb, eqb, length}
+use Rattle.std.specs.Prelude.{◌≡◌, Bool, ◌&&◌, List, ltb, eqb, length, Err, Ok}
 use Rattle.std.proofs.Math.Path.{refl, ap}
 use Rattle.std.proofs.Common.{sym, ◌∙◌, leb-true, ltb-false}
 use Rattle.std.proofs.Math.Bool.{true, false}
@@ -9,7 +9,7 @@ use Rattle.std.proofs.lemmas.Bool.{eqb-false}
 use Rattle.std.proofs.Math.Dec.{leb}
 use Rattle.machine.specs.Machine.{pick}
 use Rattle.rules.specs.Numbers.{bad_table, bad_stream}
-use Rattle.rules.specs.Judging.{refusal, only, ◌▹◌}
+use Rattle.rules.specs.Judging.{refusal, only, ◌▹◌, Verdict}
 use Rattle.rules.specs.Layouts.{ring_header, ring_header_size, descriptor, table_header, table_header_size, stream_header, stream_header_size}
 use Rattle.rules.specs.Headers.{wrong_header}
 use Rattle.rules.specs.Table.{header_rules, checked_table, no_table}
@@ -22,8 +22,6 @@ use Rattle.rules.specs.declared.TableHeader.{TableHeader}
 use Rattle.rules.specs.declared.StreamHeader.{StreamHeader}
 use Rattle.rules.specs.declared.Job.{Job}
 use Rattle.rules.specs.declared.Opened.{Opened}
-use Rattle.rules.specs.declared.Verdict.{Verdict}
-use Rattle.rules.specs.declared.Verdict.TheVariants.{Fine, Broken}
 use Rattle.rules.specs.declared.Opening.{Opening}
 use Rattle.rules.specs.declared.Opening.TheVariants.{BadRing, NoWork, Started}
 use Rattle.rule_laws.specs.Fine.{broken-not-fine, both_left, both_right}
@@ -32,12 +30,12 @@ use Rattle.promises_of_submissions.specs.LocalOpening.{stream_fine, same-rules, 
 -- of the ranges that a descriptor names: the table's header, and the stream's if the table's is good
 pub record RangesRead (m m' : List ℕ) (d : Descriptor) : Type 0 where
   pub table : table_header_size ≤ d.tablesize → table_header m d.table ≡ table_header m' d.table
-  pub stream : table_fine m d ≡ Fine → stream_header_size ≤ d.cmdsize → stream_header m d.cmd ≡ stream_header m' d.cmd
+  pub stream : table_fine m d ≡ Ok tt → stream_header_size ≤ d.cmdsize → stream_header m d.cmd ≡ stream_header m' d.cmd
 
 -- of a slot: its descriptor, and the ranges if 11 and 12 let them pass
 pub record SlotRead (m m' : List ℕ) (at stride : ℕ) : Type 0 where
   pub slot : descriptor m at ≡ descriptor m' at
-  pub ranges : descriptor_rules stride (descriptor m at) ≡ Fine → range_rules (length m) (descriptor m at) ≡ Fine → RangesRead m m' (descriptor m at)
+  pub ranges : descriptor_rules stride (descriptor m at) ≡ Ok tt → range_rules (length m) (descriptor m at) ≡ Ok tt → RangesRead m m' (descriptor m at)
 
 -- of a ring: its header if it lies within memory and is no smaller than that, and the head's slot if the header is good and a submission is pending
 pub record OpeningRead (m m' : List ℕ) (ring size : ℕ) : Type 0 where
@@ -51,7 +49,7 @@ module _ (m m' : List ℕ) (d : Descriptor) (same : RangesRead m m' d) where
   table_same : table_header_size ≤ d.tablesize → table_header m d.table ≡ table_header m' d.table
   table_same h = same.table h
 
-  stream-same : table_fine m d ≡ Fine → stream_header_size ≤ d.cmdsize → stream_header m d.cmd ≡ stream_header m' d.cmd
+  stream-same : table_fine m d ≡ Ok tt → stream_header_size ≤ d.cmdsize → stream_header m d.cmd ≡ stream_header m' d.cmd
   stream-same f h = same.stream f h
 
   pub same-table-rules : table_fine m d ≡ table_fine m' d
@@ -59,12 +57,12 @@ module _ (m m' : List ℕ) (d : Descriptor) (same : RangesRead m m' d) where
       same-rules (header_rules d.tablesize) bad_table table_header_size d.tablesize (small-table d.tablesize)
       (table_header m d.table) (table_header m' d.table) table_same
 
-  same-stream-rules : table_fine m d ≡ Fine → stream_fine m d ≡ stream_fine m' d
+  same-stream-rules : table_fine m d ≡ Ok tt → stream_fine m d ≡ stream_fine m' d
   same-stream-rules f =
       same-rules (stream_rules d.cmdsize) bad_stream stream_header_size d.cmdsize (small-stream d.cmdsize)
       (stream_header m d.cmd) (stream_header m' d.cmd) (stream-same f)
 
-  same-opened : (j : Job) → table_fine m d ≡ Fine → stream_fine m d ≡ Fine → opened_of m j d ≡ opened_of m' j d
+  same-opened : (j : Job) → table_fine m d ≡ Ok tt → stream_fine m d ≡ Ok tt → opened_of m j d ≡ opened_of m' j d
   same-opened j f g =
       let t =
       same_kept (header_rules d.tablesize) bad_table table_header_size d.tablesize (small-table d.tablesize)
@@ -78,26 +76,26 @@ module _ (m m' : List ℕ) (d : Descriptor) (same : RangesRead m m' d) where
   same-concluded : (j : Job) → concluded (table_fine m d ▹ stream_fine m d) j (opened_of m j d) ≡ concluded (table_fine m' d ▹ stream_fine m' d) j (opened_of m' j d)
   same-concluded j = rw (← same-table-rules) (by-verdict (table_fine m d) refl)
     where
-      by-stream : (v : Verdict) → stream_fine m d ≡ v → table_fine m d ≡ Fine → concluded v j (opened_of m j d) ≡ concluded v j (opened_of m' j d)
-      by-stream Fine g f = ap (λ (o : Opened). Started o) (same-opened j f g)
-      by-stream (Broken r) g f = refl
+      by-stream : (v : Verdict) → stream_fine m d ≡ v → table_fine m d ≡ Ok tt → concluded v j (opened_of m j d) ≡ concluded v j (opened_of m' j d)
+      by-stream (Ok tt) g f = ap (λ (o : Opened). Started o) (same-opened j f g)
+      by-stream (Err r) g f = refl
 
       by-verdict : (v : Verdict) → table_fine m d ≡ v → concluded (v ▹ stream_fine m d) j (opened_of m j d) ≡ concluded (v ▹ stream_fine m' d) j (opened_of m' j d)
-      by-verdict Fine f = rw (← same-stream-rules f) (by-stream (stream_fine m d) refl f)
-      by-verdict (Broken r) f = refl
+      by-verdict (Ok tt) f = rw (← same-stream-rules f) (by-stream (stream_fine m d) refl f)
+      by-verdict (Err r) f = refl
 
 module _ (m m' : List ℕ) (len : length m ≡ length m') where
   same-submission : (stride : ℕ) (j : Job) (d : Descriptor)
-      → (descriptor_rules stride d ≡ Fine → range_rules (length m) d ≡ Fine → RangesRead m m' d)
+      → (descriptor_rules stride d ≡ Ok tt → range_rules (length m) d ≡ Ok tt → RangesRead m m' d)
       → submission_opening m stride j d ≡ submission_opening m' stride j d
   unfolding submission_opening submission_rules
   same-submission stride j d same = rw (← len) (by-verdicts (descriptor_rules stride d) (range_rules (length m) d) refl refl)
     where
       by-verdicts : (u v : Verdict) → descriptor_rules stride d ≡ u → range_rules (length m) d ≡ v
           → concluded (u ▹ v ▹ table_fine m d ▹ stream_fine m d) j (opened_of m j d) ≡ concluded (u ▹ v ▹ table_fine m' d ▹ stream_fine m' d) j (opened_of m' j d)
-      by-verdicts Fine Fine p q = same-concluded m m' d (same p q) j
-      by-verdicts Fine (Broken r) p q = refl
-      by-verdicts (Broken r) v p q = refl
+      by-verdicts (Ok tt) (Ok tt) p q = same-concluded m m' d (same p q) j
+      by-verdicts (Ok tt) (Err r) p q = refl
+      by-verdicts (Err r) v p q = refl
 
   -- ---- the ring
 

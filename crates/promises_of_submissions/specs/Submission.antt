@@ -1,6 +1,6 @@
 -- Demand 2, whole: from its opening on, over still memory, a submission's steps end where the unsliced rules end, after their
 -- count of units. Assumes nothing.
-use Rattle.std.specs.Prelude.{◌≡◌, Bool, ltb, length, take, drop}
+use Rattle.std.specs.Prelude.{◌≡◌, Bool, ltb, length, take, drop, Ok}
 use Rattle.std.proofs.Common.{◌∙◌, one-add, mul-le-mul_right, length-drop, length-take-le}
 use Rattle.std.proofs.Math.Bool.{true, false}
 use mathlib.Core.List.{List, []}
@@ -25,7 +25,6 @@ use Rattle.rules.specs.declared.Job.{Job}
 use Rattle.rules.specs.declared.Table.{Table}
 use Rattle.rules.specs.declared.Stream.{Stream}
 use Rattle.rules.specs.declared.Opened.{Opened}
-use Rattle.rules.specs.declared.Verdict.TheVariants.{Fine}
 use Rattle.rules.specs.declared.Opening.{Opening}
 use Rattle.rules.specs.declared.Opening.TheVariants.{BadRing, NoWork, Refused, Started}
 use Rattle.rule_laws.specs.Fine.{fine-first, fine-later, kept_rule, kept-only}
@@ -51,16 +50,16 @@ part_length m at n h = length-take-le n (drop at m) (omega (arith, length-drop a
 row_inside : (i n stride : ℕ) → i < n → entry_size ≤ stride → i * stride + entry_size ≤ n * stride
 row_inside i n stride h big = omega (arith, mul-le-mul_right stride h)
 
-module _ (m : List ℕ) (j : Job) (d : Descriptor) (stride : ℕ) (good : submission_rules m stride d ≡ Fine) where
-  ranges-fine : range_rules (length m) d ≡ Fine
+module _ (m : List ℕ) (j : Job) (d : Descriptor) (stride : ℕ) (good : submission_rules m stride d ≡ Ok tt) where
+  ranges-fine : range_rules (length m) d ≡ Ok tt
   unfolding submission_rules
   ranges-fine = fine-first _ _ (fine-later (descriptor_rules stride d) _ good)
 
-  header-fine : only (present d.tablesize) (header_rules d.tablesize (table_header m d.table)) ≡ Fine
+  header-fine : only (present d.tablesize) (header_rules d.tablesize (table_header m d.table)) ≡ Ok tt
   unfolding submission_rules
   header-fine = fine-first _ _ (fine-later (range_rules (length m) d) _ (fine-later (descriptor_rules stride d) _ good))
 
-  stream_fine : only (present d.cmdsize) (stream_rules d.cmdsize (stream_header m d.cmd)) ≡ Fine
+  stream_fine : only (present d.cmdsize) (stream_rules d.cmdsize (stream_header m d.cmd)) ≡ Ok tt
   unfolding submission_rules
   stream_fine = fine-later (only (present d.tablesize) (header_rules d.tablesize (table_header m d.table))) _ (fine-later (range_rules (length m) d) _ (fine-later (descriptor_rules stride d) _ good))
 

@@ -1,5 +1,5 @@
 -- Demand 2: the steps of a submission over still memory end where the unsliced rules end, after their count of units. Assumes nothing.
-use Rattle.std.specs.Prelude.{◌≡◌, Bool, true, false, List, [], ◌∷◌, ◌++◌, ltb, take, drop}
+use Rattle.std.specs.Prelude.{◌≡◌, Bool, true, false, List, [], ◌∷◌, ◌++◌, ltb, take, drop, Err, Ok}
 use Rattle.std.proofs.Math.Path.{refl}
 use Rattle.std.proofs.Common.{ap, subst, ◌∙◌, append_assoc, append-nil, arith, one-add}
 use Prim.Native.Nat.{ℕ, zero, suc, ◌+◌, ◌-◌, ◌≤◌, ◌<◌}
@@ -7,11 +7,11 @@ use borrow.Author.Tests.{lt-ltb, le-ltb, ltb-false, ltb-true}
 use Rattle.std.proofs.Math.ListN.{length, length-append, length-drop}
 use Rattle.machine.specs.Machine.{Out, spent, run_none, run-go, sliced}
 use Rattle.rules.specs.Lists.{pushed}
-use Rattle.rules.specs.Judging.{Finding, at_place}
+use Rattle.rules.specs.Judging.{Finding, at_place, Verdict}
 use Rattle.rules.specs.Judging.Finding.{fine, broken}
 use Rattle.rules.specs.Layouts.{entry, stream_header_size}
 use Rattle.rules.specs.Table.{Judged, entry_place, entry_rules, keep, in_reach, take_entry, entries_from, stop_or_go, judge_entries}
-use Rattle.rules.specs.Stream.{frame_of, packet_of, size_of, before, cut, stream_bytes}
+use Rattle.rules.specs.Stream.{frame_of, packet_of, size_of, before, cut, stream_bytes, Frame}
 use Rattle.rules.specs.Packets.{Progress, at_first, pass, pass_frame, take_packet}
 use Rattle.rules.specs.Unsliced.{Reckoned, one_further, judge_packets}
 use Rattle.stream_packets.specs.Framing.{FrameFits, frame-sound}
@@ -24,10 +24,6 @@ use Rattle.rules.specs.declared.Entry.{Entry}
 use Rattle.rules.specs.declared.Job.{Job}
 use Rattle.rules.specs.declared.Stream.{Stream}
 use Rattle.rules.specs.declared.Opened.{Opened}
-use Rattle.rules.specs.declared.Frame.{Frame}
-use Rattle.rules.specs.declared.Frame.TheVariants.{Whole, Misframed}
-use Rattle.rules.specs.declared.Verdict.{Verdict}
-use Rattle.rules.specs.declared.Verdict.TheVariants.{Fine, Broken}
 
 -- in the midst of a submission: its entries or its packets are being read
 abbrev pub midst : Work → Bool
@@ -116,10 +112,10 @@ module _ (w : World) (on : w.state.regs.enabled ≡ true) (o : Opened) where
       at_entry : (v : Verdict) (es : List Entry) (j : Judged) → step (reading kept) ≡ after_entry w o (keep v kept (next kept)).kept (at_place (length kept) (keep v kept (next kept)).verdict)
           → Course j.count (reading (pushed kept (next kept))) (after_table j.finding (pushed kept (next kept) ++ es))
           → Course (stop_or_go (length kept) v j).count (reading kept) (after_table (stop_or_go (length kept) v j).finding (kept ++ (next kept ∷ es)))
-      at_entry Fine es j st ih =
+      at_entry (Ok tt) es j st ih =
           course_more j.count (reading kept) (reading (pushed kept (next kept))) _ go-entry st midst-entry
           (subst (λ (l : List Entry). Course j.count (reading (pushed kept (next kept))) (after_table j.finding l)) (append_assoc kept (next kept ∷ []) es) ih)
-      at_entry (Broken r) es j st ih = course_last (reading kept) _ go-entry st midst-entry
+      at_entry (Err r) es j st ih = course_last (reading kept) _ go-entry st midst-entry
 
     -- from the entries kept so far, n being left
     pub entries_end : (n i : ℕ) (kept : List Entry) → i ≡ length kept → i + n ≡ o.table.count
@@ -179,22 +175,22 @@ module _ (w : World) (on : w.state.regs.enabled ≡ true) (j : Job) (s : Stream)
     at_applied : (v : Verdict) (size : ℕ) (held : Progress) (q : Reckoned) → step (placed at h) ≡ after_packet w j s (at + size) es held (at_place at v)
         → Course q.count (placed (at + size) held) (after_stream q.finding q.held)
         → Course (one_further at v h q).count (placed at h) (after_stream (one_further at v h q).finding (one_further at v h q).held)
-    at_applied Fine size held q st ih = course_more q.count (placed at h) (placed (at + size) held) _ go-packet st midst-packet ih
-    at_applied (Broken r) size held q st ih = course_last (placed at h) _ go-packet st midst-packet
+    at_applied (Ok tt) size held q st ih = course_more q.count (placed at h) (placed (at + size) held) _ go-packet st midst-packet ih
+    at_applied (Err r) size held q st ih = course_last (placed at h) _ go-packet st midst-packet
 
-    at-frame : (k : ℕ) (f : Frame) → ((op size : ℕ) → f ≡ Whole op size → FrameFits (drop at bytes) op size)
+    at-frame : (k : ℕ) (f : Frame) → ((op size : ℕ) → f ≡ Ok (op, size) → FrameFits (drop at bytes) op size)
         → step (placed at h) ≡ after_packet w j s (at + size_of f) es (pass_frame es h (drop at bytes) f).held (at_place at (pass_frame es h (drop at bytes) f).verdict)
         → ((n : ℕ) (g : Progress) → at < n → n ≤ s.size → Reckons n g (judge_packets es g (cut k n (drop n bytes))))
         → Reckons at h (judge_packets es h (before at f (drop at bytes) (cut k (at + size_of f) (drop (at + size_of f) bytes))))
     unfolding judge_packets
-    at-frame k (Whole op size) d st ih =
+    at-frame k (Ok (op, size)) d st ih =
         let room : length (drop at bytes) ≡ s.size - at = length-drop at bytes ∙ rw len in
         let some : 8 ≤ size = (d op size refl).header in
         let fits : size ≤ length (drop at bytes) = (d op size refl).inside in
         at_applied (pass es h (packet_of op (take size (drop at bytes)))).verdict size (pass es h (packet_of op (take size (drop at bytes)))).held
         (judge_packets es (pass es h (packet_of op (take size (drop at bytes)))).held (cut k (at + size) (drop (at + size) bytes))) st
         (ih (at + size) (pass es h (packet_of op (take size (drop at bytes)))).held (omega arith) (omega arith))
-    at-frame k (Misframed r) d st ih = course_last (placed at h) _ go-packet st midst-packet
+    at-frame k (Err r) d st ih = course_last (placed at h) _ go-packet st midst-packet
 
   packets-none : (k at : ℕ) (h : Progress) → s.size ≤ at → Reckons at h (judge_packets es h (cut k at (drop at bytes)))
   unfolding judge_packets

@@ -1,12 +1,12 @@
 -- The theorems of specs/Sound.antt, and what they rest on. Assumes nothing.
-use Rattle.std.specs.Prelude.{◌≡◌, Bool, true, false, ℕ, zero, suc, ◌+◌, ◌<◌, ltb, eqb, length}
+use Rattle.std.specs.Prelude.{◌≡◌, Bool, true, false, ℕ, zero, suc, ◌+◌, ◌<◌, ltb, eqb, length, Err, Ok}
 use Rattle.std.proofs.Math.Path.{refl, subst}
 use Rattle.std.proofs.Common.{sym, arith, ltb-true, length-append}
 use mathlib.Core.List.{List, []}
 use Rattle.machine.specs.Machine.{pick, run_none, run-stop, run-go}
 use Rattle.rules.specs.Numbers.{most, bad_ring, bad_entry, twice_in_table, host_failed}
 use Rattle.rules.specs.Lists.Found.{none}
-use Rattle.rules.specs.Judging.{refusal, rule, Finding, at_place, without_place}
+use Rattle.rules.specs.Judging.{refusal, rule, Finding, at_place, without_place, Verdict}
 use Rattle.rules.specs.Judging.Finding.{fine, broken}
 use Rattle.rules.specs.Layouts.{entry}
 use Rattle.rules.specs.Table.{entry_id, matching, entry_place, entry_rules, keep, in_reach, take_entry}
@@ -22,8 +22,6 @@ use Rattle.rules.specs.declared.Job.{Job}
 use Rattle.rules.specs.declared.Table.{Table}
 use Rattle.rules.specs.declared.Stream.{Stream}
 use Rattle.rules.specs.declared.Opened.{Opened}
-use Rattle.rules.specs.declared.Verdict.{Verdict}
-use Rattle.rules.specs.declared.Verdict.TheVariants.{Fine, Broken}
 use Rattle.rules.specs.declared.Opening.{Opening}
 use Rattle.rules.specs.declared.Opening.TheVariants.{BadRing, NoWork, Refused, Started}
 use Rattle.rows.specs.Keys.{Once, once-nil, once-pushed}
@@ -43,7 +41,7 @@ no-entries = record { few = omega arith; once = once-nil entry_id }
 
 module _ (m : List ℕ) (t : Table) (kept : List Entry) (s : SoundEntries kept) where
   -- an entry that is fine has an id that no earlier one has
-  new-id : (e : Entry) → entry_rules (length m) kept e ≡ Fine → matching e.id kept ≡ none
+  new-id : (e : Entry) → entry_rules (length m) kept e ≡ Ok tt → matching e.id kept ≡ none
   unfolding entry_rules
   new-id e h =
       unfound (matching e.id kept)
@@ -53,12 +51,12 @@ module _ (m : List ℕ) (t : Table) (kept : List Entry) (s : SoundEntries kept) 
       (fine-later (rule bad_entry (eqb e.id 0)) _ h))))
 
   keep-sound : (v : Verdict) (e : Entry) → length kept < most → entry_rules (length m) kept e ≡ v → SoundEntries (keep v kept e).kept
-  keep-sound Fine e room h =
+  keep-sound (Ok tt) e room h =
       record { few = simp length-append (omega arith); once = once-pushed entry_id kept e s.once (new-id e h) }
-  keep-sound (Broken r) e room h = s
+  keep-sound (Err r) e room h = s
 
   taken_by : (b : Bool) → in_reach m t (length kept) ≡ b
-      → SoundEntries (pick b (keep (entry_rules (length m) kept (entry m (entry_place t (length kept)))) kept (entry m (entry_place t (length kept)))) (record { verdict = Broken (refusal bad_entry); kept = kept })).kept
+      → SoundEntries (pick b (keep (entry_rules (length m) kept (entry m (entry_place t (length kept)))) kept (entry m (entry_place t (length kept)))) (record { verdict = Err (refusal bad_entry); kept = kept })).kept
   taken_by true e = keep-sound (entry_rules (length m) kept (entry m (entry_place t (length kept)))) (entry m (entry_place t (length kept))) (ltb-true (length kept) most (both_left (ltb (length kept) most) _ e)) refl
   taken_by false e = s
 

@@ -1,7 +1,7 @@
 -- The theorems of specs/Tables.antt, and what they rest on. Assumes nothing.
 use Rattle.std.proofs.Math.Path.{◌≡◌, refl}
 use Rattle.std.proofs.Common.{sym, subst, arith, ltb-true, ltb-false, length-append}
-use Rattle.std.specs.Prelude.{Bool, List, [], ℕ, ◌≤◌, ◌<◌, ltb, length}
+use Rattle.std.specs.Prelude.{Bool, List, [], ℕ, ◌≤◌, ◌<◌, ltb, length, Ok}
 use Rattle.std.proofs.Math.Bool.{true, false}
 use Rattle.machine.specs.Machine.{pick}
 use Rattle.rules.specs.Lists.{pushed}
@@ -15,7 +15,6 @@ use Rattle.rules.specs.declared.Entry.{Entry}
 use Rattle.rules.specs.declared.Job.{Job}
 use Rattle.rules.specs.declared.Opened.{Opened}
 use Rattle.rules.specs.declared.Stream.{Stream}
-use Rattle.rules.specs.declared.Verdict.TheVariants.{Fine}
 use Rattle.promises_of_units.specs.Called.{Called}
 use Rattle.promises_of_units.specs.Units.{Next}
 use Rattle.promises_of_units.specs.Kept.{AnyMemory, KeptByUnits}
@@ -49,8 +48,8 @@ module _ (w : World) (n : ℕ) (lent : length w.mem ≡ n) where
       (entries-own n h.what [] w.state.belongings (record { mem = w.mem; long = lent; ring = w.state.regs.ring; size = w.state.regs.ringsize; started = h.here }) none_kept (omega arith))
   next-own (entries o kept) next h own =
       let x : Entry = next_entry w.mem o.table kept in
-      let good : ((take_entry w.mem o.table kept).kept ≡ pushed kept x) × (entry_rules (length w.mem) kept x ≡ Fine) = good-entry-is-kept w.mem o.table kept h.0 in
-      let more : TakenFrom n o.table (pushed kept x) = kept-one own.1 w.mem lent (subst (λ i. entry_rules i kept x ≡ Fine) lent good.1) in
+      let good : ((take_entry w.mem o.table kept).kept ≡ pushed kept x) × (entry_rules (length w.mem) kept x ≡ Ok tt) = good-entry-is-kept w.mem o.table kept h.0 in
+      let more : TakenFrom n o.table (pushed kept x) = kept-one own.1 w.mem lent (subst (λ i. entry_rules i kept x ≡ Ok tt) lent good.1) in
       subst (OwnTable n) (sym h.1)
       (subst (λ es. OwnTable n (entries_at o es w.state.belongings)) (sym good.0)
       (entries-own n o (pushed kept x) w.state.belongings own.0 more (simp length-append (omega (arith, own.2)))))

@@ -1,9 +1,9 @@
 -- The theorems of specs/Units.antt, and what they rest on. Assumes nothing.
-use Rattle.std.specs.Prelude.{◌≡◌, Bool, true, false, List, [], ℕ, zero, suc, length}
+use Rattle.std.specs.Prelude.{◌≡◌, Bool, true, false, List, [], ℕ, zero, suc, length, Err, Ok}
 use Rattle.std.proofs.Math.Path.{refl, sym, ap}
 use Rattle.std.proofs.Common.{subst, ◌∙◌}
 use Rattle.machine.specs.Machine.{run_none, run-stop, run-go}
-use Rattle.rules.specs.Judging.{fault_at, at_place, without_place}
+use Rattle.rules.specs.Judging.{fault_at, at_place, without_place, Verdict}
 use Rattle.rules.specs.Judging.Finding.{broken}
 use Rattle.rules.specs.Table.{take_entry}
 use Rattle.rules.specs.Stream.{left}
@@ -17,8 +17,6 @@ use Rattle.rules.specs.declared.Entry.{Entry}
 use Rattle.rules.specs.declared.Job.{Job}
 use Rattle.rules.specs.declared.Stream.{Stream}
 use Rattle.rules.specs.declared.Opened.{Opened}
-use Rattle.rules.specs.declared.Verdict.{Verdict}
-use Rattle.rules.specs.declared.Verdict.TheVariants.{Fine, Broken}
 use Rattle.rules.specs.declared.Opening.{Opening}
 use Rattle.rules.specs.declared.Opening.TheVariants.{BadRing, NoWork, Refused, Started}
 use Rattle.promises_of_units.specs.Memory.{JobOf}
@@ -34,18 +32,18 @@ module _ (w : World) where
 
   by-entry : (o : Opened) (kept : List Entry) → w.state.work ≡ entries o kept → (v : Verdict) → (take_entry w.mem o.table kept).verdict ≡ v
       → Unit w (after_entry w o (take_entry w.mem o.table kept).kept (at_place (length kept) v))
-  by-entry o kept e Fine h =
+  by-entry o kept e (Ok tt) h =
       let next : Work = entries_at o (take_entry w.mem o.table kept).kept w.state.belongings in
       works-on next (subst (λ k. Next w k next) (sym e) (h, refl))
-  by-entry o kept e (Broken r) h =
+  by-entry o kept e (Err r) h =
       settles o.job (fault_at (length kept) r) (subst (λ k. Breaks w k o.job (fault_at (length kept) r)) (sym e) (refl, ap (at_place (length kept)) h))
 
   by-packet : (j : Job) (s : Stream) (at : ℕ) (es : List Entry) (h : Progress) → w.state.work ≡ packets j s at es h → (v : Verdict) → (take_packet es h (left w.mem s at)).verdict ≡ v
       → Unit w (after_packet w j s (next_place at (left w.mem s at)) es (take_packet es h (left w.mem s at)).held (at_place at v))
-  by-packet j s at es h e Fine q =
+  by-packet j s at es h e (Ok tt) q =
       let next : Work = packets_at j s (next_place at (left w.mem s at)) es (take_packet es h (left w.mem s at)).held in
       works-on next (subst (λ k. Next w k next) (sym e) (q, refl))
-  by-packet j s at es h e (Broken r) q = settles j (fault_at at r) (subst (λ k. Breaks w k j (fault_at at r)) (sym e) (refl, ap (at_place at) q))
+  by-packet j s at es h e (Err r) q = settles j (fault_at at r) (subst (λ k. Breaks w k j (fault_at at r)) (sym e) (refl, ap (at_place at) q))
 
   by-work : (k : Work) → w.state.work ≡ k → Unit w (step_on w k)
   unfolding open_step entry_step packet_step

@@ -1,6 +1,6 @@
 -- What is handed out lies in memory: every entry that is kept ends within the memory's length, so every range of a device that waits
 -- does. A new device has it and every call keeps it, whatever bytes stood in memory. Assumes nothing.
-use Rattle.std.specs.Prelude.{◌≡◌, Bool, ℕ, zero, suc, ◌+◌, ◌≤◌, ltb, eqb, length}
+use Rattle.std.specs.Prelude.{◌≡◌, Bool, ℕ, zero, suc, ◌+◌, ◌≤◌, ltb, eqb, length, Err, Ok}
 use Rattle.std.proofs.Math.Path.{refl, subst}
 use Rattle.std.proofs.Common.{sym, ◌∙◌}
 use Rattle.std.proofs.Math.Bool.{true, false}
@@ -11,7 +11,7 @@ use Rattle.machine.specs.Machine.{pick, run_none, run-stop, run-go}
 use Rattle.rules.specs.Numbers.{bad_entry, clips}
 use Rattle.rules.specs.Lists.{lookup}
 use Rattle.rules.specs.Lists.Found.{found}
-use Rattle.rules.specs.Judging.{refusal, rule, Finding, at_place}
+use Rattle.rules.specs.Judging.{refusal, rule, Finding, at_place, Verdict}
 use Rattle.rules.specs.Judging.Finding.{fine, broken}
 use Rattle.rules.specs.Layouts.{entry}
 use Rattle.rules.specs.Table.{matching, entry_place, entry_rules, keep, in_reach, take_entry}
@@ -30,8 +30,6 @@ use Rattle.rules.specs.declared.Job.{Job}
 use Rattle.rules.specs.declared.Table.{Table}
 use Rattle.rules.specs.declared.Stream.{Stream}
 use Rattle.rules.specs.declared.Opened.{Opened}
-use Rattle.rules.specs.declared.Verdict.{Verdict}
-use Rattle.rules.specs.declared.Verdict.TheVariants.{Fine, Broken}
 use Rattle.rules.specs.declared.Opening.{Opening}
 use Rattle.rules.specs.declared.Opening.TheVariants.{BadRing, NoWork, Refused, Started}
 use Rattle.promises_of_packets.specs.Held.{Every, every-none, every-pushed, Within}
@@ -55,22 +53,22 @@ LiesIn n (waiting j es h) = Every (EndsIn n) es
 -- ---- one entry
 
 module _ (m : List ℕ) (t : Table) (kept : List Entry) (s : Every (EndsIn (length m)) kept) where
-  ends : (e : Entry) → entry_rules (length m) kept e ≡ Fine → EndsIn (length m) e
+  ends : (e : Entry) → entry_rules (length m) kept e ≡ Ok tt → EndsIn (length m) e
   unfolding entry_rules
   ends e h =
       ltb-false (length m) (e.gpa + e.size)
       (kept_rule bad_entry _ (fine-first _ _ (fine-later (rule bad_entry (eqb e.size 0)) _ (fine-later (rule bad_entry (eqb e.id 0)) _ h))))
 
   kept-lies : (v : Verdict) (e : Entry) → entry_rules (length m) kept e ≡ v → Every (EndsIn (length m)) (keep v kept e).kept
-  kept-lies Fine e h = every-pushed (EndsIn (length m)) kept e s (ends e h)
-  kept-lies (Broken r) e h = s
+  kept-lies (Ok tt) e h = every-pushed (EndsIn (length m)) kept e s (ends e h)
+  kept-lies (Err r) e h = s
 
   take-lies : Every (EndsIn (length m)) (take_entry m t kept).kept
   unfolding take_entry
   take-lies = by_test (in_reach m t (length kept))
     where
       by_test : (b : Bool)
-          → Every (EndsIn (length m)) (pick b (keep (entry_rules (length m) kept (entry m (entry_place t (length kept)))) kept (entry m (entry_place t (length kept)))) (record { verdict = Broken (refusal bad_entry); kept = kept })).kept
+          → Every (EndsIn (length m)) (pick b (keep (entry_rules (length m) kept (entry m (entry_place t (length kept)))) kept (entry m (entry_place t (length kept)))) (record { verdict = Err (refusal bad_entry); kept = kept })).kept
       by_test true = kept-lies (entry_rules (length m) kept (entry m (entry_place t (length kept)))) (entry m (entry_place t (length kept))) refl
       by_test false = s
 

@@ -1,14 +1,12 @@
 -- The last error stays sound: its code is 0 or listed, its count 0 exactly with code 0, and then its fence and its place. What a submission's end and a
 -- bad ring make of it. Assumes nothing.
-use Rattle.std.specs.Prelude.{◌≡◌, refl, Bool, true, false, ◌||◌, ℕ, ◌+◌, ◌-◌, ◌^◌, ◌≤◌, ltb, leb}
+use Rattle.std.specs.Prelude.{◌≡◌, refl, Bool, true, false, ◌||◌, ℕ, ◌+◌, ◌-◌, ◌^◌, ◌≤◌, ltb, leb, Err, Ok}
 use Rattle.std.proofs.Common.{arith, leb-true, ltb-false}
 use Rattle.machine.specs.Machine.{pick}
 use Rattle.rules.specs.Numbers.{bad_ring}
-use Rattle.rules.specs.Judging.{Finding, at_place}
+use Rattle.rules.specs.Judging.{Finding, at_place, Verdict}
 use Rattle.rules.specs.Judging.Finding.{fine, broken}
 use Rattle.rules.specs.Settle.{one_more}
-use Rattle.rules.specs.declared.Verdict.{Verdict}
-use Rattle.rules.specs.declared.Verdict.TheVariants.{Fine, Broken}
 use Rattle.rule_laws.specs.Fine.{both_left}
 use Rattle.rule_laws.specs.Listed.{listed, Listed}
 
@@ -18,8 +16,8 @@ ListedFinding fine = 0 ≤ 0
 ListedFinding (broken f) = listed f.code ≡ true
 
 pub found-listed : (place : ℕ) (v : Verdict) → Listed v → ListedFinding (at_place place v)
-found-listed place Fine l = l
-found-listed place (Broken r) l = l
+found-listed place (Ok tt) l = l
+found-listed place (Err r) l = l
 
 -- "count + 1 (stops at 4294967295)" is never 0
 pub counted : (n : ℕ) → one_more n ≡ 0 → ⊥

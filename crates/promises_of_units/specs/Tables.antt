@@ -3,12 +3,12 @@
 -- Assumes nothing.
 use Rattle.std.proofs.Math.Path.{◌≡◌, refl}
 use Rattle.std.proofs.Common.{arith}
-use Rattle.std.specs.Prelude.{Bool, List, [], ℕ, ◌≤◌, ◌<◌, length}
+use Rattle.std.specs.Prelude.{Bool, List, [], ℕ, ◌≤◌, ◌<◌, length, Err, Ok}
 use Rattle.std.proofs.Math.Bool.{true, false}
 use Rattle.machine.specs.Machine.{pick}
 use Rattle.rules.specs.Numbers.{bad_entry}
 use Rattle.rules.specs.Lists.{pushed}
-use Rattle.rules.specs.Judging.{refusal}
+use Rattle.rules.specs.Judging.{refusal, Verdict}
 use Rattle.rules.specs.Layouts.{entry, stream_header_size}
 use Rattle.rules.specs.Table.{Taken, entry_place, entry_rules, keep, in_reach, take_entry}
 use Rattle.rules.specs.Ring.{opening_of}
@@ -19,8 +19,6 @@ use Rattle.rules.specs.declared.Job.{Job}
 use Rattle.rules.specs.declared.Opened.{Opened}
 use Rattle.rules.specs.declared.Stream.{Stream}
 use Rattle.rules.specs.declared.Table.{Table}
-use Rattle.rules.specs.declared.Verdict.{Verdict}
-use Rattle.rules.specs.declared.Verdict.TheVariants.{Fine, Broken}
 use Rattle.rules.specs.declared.Opening.TheVariants.{Started}
 
 -- the table's entry after those that were kept, as it stands in some memory
@@ -31,17 +29,17 @@ next_entry m t kept = entry m (entry_place t (length kept))
 module _ (m : List ℕ) (t : Table) (kept : List Entry) where
   -- what is kept is right, where the verdict is good
   abbrev pub Right : Taken → Type 0
-  Right x = x.verdict ≡ Fine → (x.kept ≡ pushed kept (next_entry m t kept)) × (entry_rules (length m) kept (next_entry m t kept) ≡ Fine)
+  Right x = x.verdict ≡ Ok tt → (x.kept ≡ pushed kept (next_entry m t kept)) × (entry_rules (length m) kept (next_entry m t kept) ≡ Ok tt)
 
   by-verdict : (v : Verdict) → entry_rules (length m) kept (next_entry m t kept) ≡ v → Right (keep v kept (next_entry m t kept))
-  by-verdict Fine e d = (refl, e)
-  by-verdict (Broken r) e d = absurd (let z : ◌≡◌ {A = ℕ} 0 1 = cc in omega arith)
+  by-verdict (Ok tt) e d = (refl, e)
+  by-verdict (Err r) e d = absurd (let z : ◌≡◌ {A = ℕ} 0 1 = cc in omega arith)
 
   pub good-entry-is-kept : Right (take_entry m t kept)
   unfolding take_entry
   good-entry-is-kept = by_test (in_reach m t (length kept))
     where
-      by_test : (b : Bool) → Right (pick b (keep (entry_rules (length m) kept (next_entry m t kept)) kept (next_entry m t kept)) (record { verdict = Broken (refusal bad_entry); kept = kept }))
+      by_test : (b : Bool) → Right (pick b (keep (entry_rules (length m) kept (next_entry m t kept)) kept (next_entry m t kept)) (record { verdict = Err (refusal bad_entry); kept = kept }))
       by_test true d = by-verdict (entry_rules (length m) kept (next_entry m t kept)) refl d
       by_test false d = absurd (let z : ◌≡◌ {A = ℕ} 0 1 = cc in omega arith)
 
@@ -51,7 +49,7 @@ module _ (m : List ℕ) (t : Table) (kept : List Entry) where
 pub data TakenFrom (n : ℕ) (t : Table) : List Entry → Type 0 where
   none_kept : TakenFrom n t []
   kept-one : {kept : List Entry} → TakenFrom n t kept → (m : List ℕ) → length m ≡ n
-      → entry_rules n kept (next_entry m t kept) ≡ Fine → TakenFrom n t (pushed kept (next_entry m t kept))
+      → entry_rules n kept (next_entry m t kept) ≡ Ok tt → TakenFrom n t (pushed kept (next_entry m t kept))
 
 -- an opening over some memory, with some ring, started this
 pub record StartedOnce (n : ℕ) (o : Opened) : Type 0 where

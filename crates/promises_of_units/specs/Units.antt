@@ -1,6 +1,6 @@
 -- What one unit does, over any world at all: any state, any bytes in memory. It works on, finds a bad ring or no work, or settles a
 -- submission whose rule is broken; and there is no other way. Assumes nothing.
-use Rattle.std.specs.Prelude.{◌≡◌, true, false, [], ℕ, suc, length}
+use Rattle.std.specs.Prelude.{◌≡◌, true, false, [], ℕ, suc, length, Ok}
 use Rattle.std.proofs.Math.Path.{refl, sym, ap}
 use Rattle.std.proofs.Common.{◌∙◌, arith}
 use Rattle.rules.specs.Numbers.{no_record}
@@ -20,7 +20,6 @@ use Rattle.rules.specs.declared.Fault.{Fault}
 use Rattle.rules.specs.declared.Refusal.{Refusal}
 use Rattle.rules.specs.declared.Job.{Job}
 use Rattle.rules.specs.declared.Opened.{Opened}
-use Rattle.rules.specs.declared.Verdict.TheVariants.{Fine}
 use Rattle.rules.specs.declared.Opening.{Opening}
 use Rattle.rules.specs.declared.Opening.TheVariants.{BadRing, NoWork, Refused, Started}
 
@@ -39,9 +38,9 @@ pub record Opens (w : World) (next : Work) : Type 0 where
 abbrev pub Next : World → Work → Work → Type 0
 Next w resting next = Opens w next
 Next w (entries o kept) next =
-    ((take_entry w.mem o.table kept).verdict ≡ Fine) × (next ≡ entries_at o (take_entry w.mem o.table kept).kept w.state.belongings)
+    ((take_entry w.mem o.table kept).verdict ≡ Ok tt) × (next ≡ entries_at o (take_entry w.mem o.table kept).kept w.state.belongings)
 Next w (packets j s at es h) next =
-    ((take_packet es h (left w.mem s at)).verdict ≡ Fine)
+    ((take_packet es h (left w.mem s at)).verdict ≡ Ok tt)
     × (next ≡ packets_at j s (next_place at (left w.mem s at)) es (take_packet es h (left w.mem s at)).held)
 Next w (waiting j es h) next = next ≡ waiting j es h
 

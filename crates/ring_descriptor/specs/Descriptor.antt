@@ -1,5 +1,5 @@
 -- A descriptor: what its reading and its judging ask. Assumes nothing.
-use Rattle.std.specs.Prelude.{◌≡◌, Bool, ◌||◌, List, ℕ, ◌+◌, ◌-◌, ◌^◌, ◌≤◌, ◌<◌}
+use Rattle.std.specs.Prelude.{◌≡◌, Bool, ◌||◌, List, ℕ, ◌+◌, ◌-◌, ◌^◌, ◌≤◌, ◌<◌, Err, Ok}
 use Rattle.std.proofs.Math.Path.{refl, ap}
 use Rattle.std.proofs.Common.{sym, ◌∙◌, rules}
 use Rattle.std.proofs.Math.Bool.{true, false}
@@ -7,12 +7,10 @@ use borrow.Author.Tests.{eq-eqb, ne_eqb, lt-ltb, le-ltb}
 use Rattle.std.proofs.Math.Dec.{ltb}
 use Rattle.machine.specs.Machine.{pick}
 use Rattle.rules.specs.Numbers.{bad_descriptor, outside_memory}
-use Rattle.rules.specs.Judging.{refusal, rule, only, ◌▹◌}
+use Rattle.rules.specs.Judging.{refusal, rule, only, ◌▹◌, Verdict}
 use Rattle.rules.specs.Layouts.{word, long, descriptor, descriptor_size}
 use Rattle.rules.specs.Ring.{half_there, present, descriptor_rules, range_rules}
 use Rattle.rules.specs.declared.Descriptor.{Descriptor}
-use Rattle.rules.specs.declared.Verdict.{Verdict}
-use Rattle.rules.specs.declared.Verdict.TheVariants.{Fine, Broken}
 
 pub descriptor-read : (m : List ℕ) (at a b c d e f g : ℕ) → a ≡ word m at → b ≡ word m (at + 4) → c ≡ long m (at + 16) → d ≡ word m (at + 24) → e ≡ long m (at + 32)
     → f ≡ word m (at + 40) → g ≡ long m (at + 48)
@@ -64,22 +62,22 @@ module _ (stride : ℕ) (d : Descriptor) where
       alone true b = refl
       alone false b = refl
 
-  pub short-descriptor : d.size < descriptor_size → Broken (refusal bad_descriptor) ≡ descriptor_rules stride d
+  pub short-descriptor : d.size < descriptor_size → Err (refusal bad_descriptor) ≡ descriptor_rules stride d
   short-descriptor p = sym (both-ranges ∙ rw (lt-ltb _ _ p))
 
   module _ (p : descriptor_size ≤ d.size) where
-    pub long-descriptor : stride < d.size → Broken (refusal bad_descriptor) ≡ descriptor_rules stride d
+    pub long-descriptor : stride < d.size → Err (refusal bad_descriptor) ≡ descriptor_rules stride d
     long-descriptor q = sym (both-ranges ∙ rw (le-ltb _ _ p, lt-ltb _ _ q))
 
     module _ (q : d.size ≤ stride) (a : Bool) (ea : a ≡ bad_range d.cmd d.cmdsize) where
-      pub bad-cmd : a ≡ true → Broken (refusal bad_descriptor) ≡ descriptor_rules stride d
+      pub bad-cmd : a ≡ true → Err (refusal bad_descriptor) ≡ descriptor_rules stride d
       bad-cmd t = sym (both-ranges ∙ rw (le-ltb _ _ p, le-ltb _ _ q, ← ea, t))
 
       module _ (u : a ≡ false) (b : Bool) (eb : b ≡ bad_range d.table d.tablesize) where
-        pub bad-table-range : b ≡ true → Broken (refusal bad_descriptor) ≡ descriptor_rules stride d
+        pub bad-table-range : b ≡ true → Err (refusal bad_descriptor) ≡ descriptor_rules stride d
         bad-table-range t = sym (both-ranges ∙ rw (le-ltb _ _ p, le-ltb _ _ q, ← ea, u, ← eb, t))
 
-        pub good-descriptor : b ≡ false → Fine ≡ descriptor_rules stride d
+        pub good-descriptor : b ≡ false → Ok tt ≡ descriptor_rules stride d
         good-descriptor t = sym (both-ranges ∙ rw (le-ltb _ _ p, le-ltb _ _ q, ← ea, u, ← eb, t))
 
 pub ruleset describing = (short-descriptor, long-descriptor, bad-cmd, bad-table-range, good-descriptor, rules)
@@ -111,14 +109,14 @@ module _ (memory : ℕ) (d : Descriptor) (a : Bool) (ea : a ≡ past memory d.cm
   two-ranges =
       rw (only-rule outside_memory (present d.cmdsize) (ltb memory (d.cmd + d.cmdsize)), only-rule outside_memory (present d.tablesize) (ltb memory (d.table + d.tablesize)))
 
-  pub cmd-outside : a ≡ true → Broken (refusal outside_memory) ≡ range_rules memory d
+  pub cmd-outside : a ≡ true → Err (refusal outside_memory) ≡ range_rules memory d
   cmd-outside t = sym (two-ranges ∙ rw (← ea, t))
 
   module _ (u : a ≡ false) (b : Bool) (eb : b ≡ past memory d.table d.tablesize) where
-    pub table-outside : b ≡ true → Broken (refusal outside_memory) ≡ range_rules memory d
+    pub table-outside : b ≡ true → Err (refusal outside_memory) ≡ range_rules memory d
     table-outside t = sym (two-ranges ∙ rw (← ea, u, ← eb, t))
 
-    pub ranges-inside : b ≡ false → Fine ≡ range_rules memory d
+    pub ranges-inside : b ≡ false → Ok tt ≡ range_rules memory d
     ranges-inside t = sym (two-ranges ∙ rw (← ea, u, ← eb, t))
 
 pub ruleset bounding = (cmd-outside, table-outside, ranges-inside, rules)

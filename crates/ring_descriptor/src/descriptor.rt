@@ -6,7 +6,7 @@ ghost use Rattle.rules.specs.Ring.{descriptor_rules, range_rules};
 ghost use Rattle.ring_descriptor.specs.Descriptor.{bad_range, past};
 
 use rules::numbers::{BAD_DESCRIPTOR, DESCRIPTOR_SIZE, OUTSIDE_MEMORY};
-use rules::{Descriptor, Refusal, Verdict};
+use rules::{Descriptor, Refusal};
 use widths::{beyond, u32_to_word};
 
 // Reads each field of a descriptor once.
@@ -42,30 +42,30 @@ fn bad(gpa: u64, size: u32) -> bool
 }
 
 // 11.
-pub fn descriptor_verdict(stride: u32, d: Descriptor) -> Verdict
+pub fn descriptor_verdict(stride: u32, d: Descriptor) -> Result<(), Refusal>
     ensures { result ≡ descriptor_rules stride d }
 {
     if d.size < DESCRIPTOR_SIZE {
-        return Verdict::Broken(Refusal {
+        return Err(Refusal {
             code: BAD_DESCRIPTOR,
         });
     }
     if stride < d.size {
-        return Verdict::Broken(Refusal {
+        return Err(Refusal {
             code: BAD_DESCRIPTOR,
         });
     }
     if bad(d.cmd, d.cmdsize) {
-        return Verdict::Broken(Refusal {
+        return Err(Refusal {
             code: BAD_DESCRIPTOR,
         });
     }
     if bad(d.table, d.tablesize) {
-        return Verdict::Broken(Refusal {
+        return Err(Refusal {
             code: BAD_DESCRIPTOR,
         });
     }
-    Verdict::Fine
+    Ok(())
 }
 
 // Whether a range that is present ends past the memory.
@@ -80,18 +80,18 @@ fn outside(memory: u64, gpa: u64, size: u32) -> bool
 }
 
 // 12.
-pub fn range_verdict(memory: u64, d: Descriptor) -> Verdict
+pub fn range_verdict(memory: u64, d: Descriptor) -> Result<(), Refusal>
     ensures { result ≡ range_rules memory d }
 {
     if outside(memory, d.cmd, d.cmdsize) {
-        return Verdict::Broken(Refusal {
+        return Err(Refusal {
             code: OUTSIDE_MEMORY,
         });
     }
     if outside(memory, d.table, d.tablesize) {
-        return Verdict::Broken(Refusal {
+        return Err(Refusal {
             code: OUTSIDE_MEMORY,
         });
     }
-    Verdict::Fine
+    Ok(())
 }

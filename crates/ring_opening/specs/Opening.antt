@@ -1,5 +1,5 @@
 -- The opening: what each of its turns asks. Assumes nothing.
-use Rattle.std.specs.Prelude.{◌≡◌, refl, Bool, true, false, not, List, ℕ, ◌+◌, ◌*◌, ◌-◌, ◌%◌, ◌^◌, ◌≤◌, ◌<◌, ltb, leb, eqb, length}
+use Rattle.std.specs.Prelude.{◌≡◌, refl, Bool, true, false, not, List, ℕ, ◌+◌, ◌*◌, ◌-◌, ◌%◌, ◌^◌, ◌≤◌, ◌<◌, ltb, leb, eqb, length, Err, Ok, Result}
 use Rattle.std.proofs.Common.{sym, ◌∙◌, mul-le-mul_right, mod-lt, arith, rules, Fits}
 use Rattle.std.proofs.Math.Path.{ap}
 use borrow.Author.Tests.{eq-eqb, ne_eqb, le-leb, lt-leb, leb-true, ltb-false, not-true, not-false}
@@ -7,7 +7,7 @@ use Rattle.std.specs.Int.{w64}
 use Rattle.machine.specs.Machine.{pick}
 use Rattle.widths.specs.Beyond.{leb-ltb}
 use Rattle.rules.specs.Numbers.{outside_memory, slot_doublings, ring_magic}
-use Rattle.rules.specs.Judging.{rule, only, ◌▹◌}
+use Rattle.rules.specs.Judging.{rule, only, ◌▹◌, Verdict}
 use Rattle.rules.specs.Layouts.{good_version, ring_header, ring_header_size, descriptor, descriptor_size, table_header, stream_header}
 use Rattle.rules.specs.Table.{header_rules, checked_table, no_table}
 use Rattle.rules.specs.Stream.{stream_rules, stream_of, no_stream}
@@ -19,16 +19,10 @@ use Rattle.rules.specs.declared.Job.{Job}
 use Rattle.rules.specs.declared.Table.{Table}
 use Rattle.rules.specs.declared.Stream.{Stream}
 use Rattle.rules.specs.declared.Refusal.{Refusal}
-use Rattle.rules.specs.declared.Verdict.{Verdict}
-use Rattle.rules.specs.declared.Verdict.TheVariants.{Fine, Broken}
 use Rattle.rules.specs.declared.Opening.{Opening}
 use Rattle.rules.specs.declared.Opening.TheVariants.{BadRing, NoWork, Refused, Started}
 use Rattle.table_header.specs.Header.{headed}
-use Rattle.table_header.specs.declared.header.CheckedTable.{CheckedTable}
-use Rattle.table_header.specs.declared.header.CheckedTable.TheVariants.{Good as GoodTable, Bad as BadTable}
 use Rattle.stream_header.specs.Header.{begun}
-use Rattle.stream_header.specs.declared.header.CheckedStream.{CheckedStream}
-use Rattle.stream_header.specs.declared.header.CheckedStream.TheVariants.{Good as GoodStream, Bad as BadStream}
 use Rattle.rule_laws.specs.Fine.{fine-first, fine-later, kept_rule, kept-only, both_left, both_right}
 
 -- ---- a table or a stream, where it is present
@@ -37,20 +31,20 @@ use Rattle.rule_laws.specs.Fine.{fine-first, fine-later, kept_rule, kept-only, b
 pub record Inside (memory gpa size : ℕ) : Type 0 where
   pub ends : (size ≡ 0 → ⊥) → gpa + size ≤ memory
 
-unfoldable pub table_of : List ℕ → ℕ → ℕ → CheckedTable
+unfoldable pub table_of : List ℕ → ℕ → ℕ → Result Table Refusal
 table_of m gpa size =
     headed (only (present size) (header_rules size (table_header m gpa))) (pick (present size) (checked_table gpa (table_header m gpa)) no_table)
 
-unfoldable pub judged_stream : List ℕ → ℕ → ℕ → CheckedStream
+unfoldable pub judged_stream : List ℕ → ℕ → ℕ → Result Stream Refusal
 judged_stream m gpa size =
     begun (only (present size) (stream_rules size (stream_header m gpa))) (pick (present size) (stream_of gpa (stream_header m gpa)) no_stream)
 
 module _ (m : List ℕ) (gpa size : ℕ) where
-  pub no-table-there : size ≡ 0 → GoodTable no_table ≡ table_of m gpa size
+  pub no-table-there : size ≡ 0 → Ok no_table ≡ table_of m gpa size
   unfolding table_of
   no-table-there e = rw (eq-eqb _ _ e)
 
-  pub no-stream-there : size ≡ 0 → GoodStream no_stream ≡ judged_stream m gpa size
+  pub no-stream-there : size ≡ 0 → Ok no_stream ≡ judged_stream m gpa size
   unfolding judged_stream
   no-stream-there e = rw (eq-eqb _ _ e)
 
@@ -58,11 +52,11 @@ module _ (m : List ℕ) (gpa size : ℕ) where
     pub range-lies : Inside (length m) gpa size → p + s ≤ length m
     range-lies i = omega (arith, i.ends n)
 
-    pub table-there : (h : CheckedTable) → h ≡ headed (header_rules s (table_header m p)) (checked_table p (table_header m p)) → h ≡ table_of m gpa size
+    pub table-there : (h : Result Table Refusal) → h ≡ headed (header_rules s (table_header m p)) (checked_table p (table_header m p)) → h ≡ table_of m gpa size
     unfolding table_of
     table-there h e = rw (e, at, long.0, ne_eqb _ _ n)
 
-    pub stream-there : (h : CheckedStream) → h ≡ begun (stream_rules s (stream_header m p)) (stream_of p (stream_header m p)) → h ≡ judged_stream m gpa size
+    pub stream-there : (h : Result Stream Refusal) → h ≡ begun (stream_rules s (stream_header m p)) (stream_of p (stream_header m p)) → h ≡ judged_stream m gpa size
     unfolding judged_stream
     stream-there h e = rw (e, at, long.0, ne_eqb _ _ n)
 
@@ -81,44 +75,44 @@ ranges_of m j d =
     (only (present d.tablesize) (header_rules d.tablesize (table_header m d.table)) ▹ only (present d.cmdsize) (stream_rules d.cmdsize (stream_header m d.cmd)))
     j (opened_of m j d)
 
-bad-table-says : (v : Verdict) (t : Table) (r : Refusal) → headed v t ≡ BadTable r → v ≡ Broken r
-bad-table-says Fine t r e = absurd (let z : ◌≡◌ {A = ℕ} 0 1 = cc in omega arith)
-bad-table-says (Broken x) t r e = let same : x ≡ r = cc in ap Broken same
+bad-table-says : (v : Verdict) (t : Table) (r : Refusal) → headed v t ≡ Err r → v ≡ Err r
+bad-table-says (Ok tt) t r e = absurd (let z : ◌≡◌ {A = ℕ} 0 1 = cc in omega arith)
+bad-table-says (Err x) t r e = let same : x ≡ r = cc in ap Err same
 
-good-table-says : (v : Verdict) (t u : Table) → headed v t ≡ GoodTable u → (v ≡ Fine) × (u ≡ t)
-good-table-says Fine t u e = let same : u ≡ t = cc in (refl, same)
-good-table-says (Broken x) t u e = absurd (let z : ◌≡◌ {A = ℕ} 0 1 = cc in omega arith)
+good-table-says : (v : Verdict) (t u : Table) → headed v t ≡ Ok u → (v ≡ Ok tt) × (u ≡ t)
+good-table-says (Ok tt) t u e = let same : u ≡ t = cc in (refl, same)
+good-table-says (Err x) t u e = absurd (let z : ◌≡◌ {A = ℕ} 0 1 = cc in omega arith)
 
-bad-stream-says : (v : Verdict) (t : Stream) (r : Refusal) → begun v t ≡ BadStream r → v ≡ Broken r
-bad-stream-says Fine t r e = absurd (let z : ◌≡◌ {A = ℕ} 0 1 = cc in omega arith)
-bad-stream-says (Broken x) t r e = let same : x ≡ r = cc in ap Broken same
+bad-stream-says : (v : Verdict) (t : Stream) (r : Refusal) → begun v t ≡ Err r → v ≡ Err r
+bad-stream-says (Ok tt) t r e = absurd (let z : ◌≡◌ {A = ℕ} 0 1 = cc in omega arith)
+bad-stream-says (Err x) t r e = let same : x ≡ r = cc in ap Err same
 
-good-stream-says : (v : Verdict) (t u : Stream) → begun v t ≡ GoodStream u → (v ≡ Fine) × (u ≡ t)
-good-stream-says Fine t u e = let same : u ≡ t = cc in (refl, same)
-good-stream-says (Broken x) t u e = absurd (let z : ◌≡◌ {A = ℕ} 0 1 = cc in omega arith)
+good-stream-says : (v : Verdict) (t u : Stream) → begun v t ≡ Ok u → (v ≡ Ok tt) × (u ≡ t)
+good-stream-says (Ok tt) t u e = let same : u ≡ t = cc in (refl, same)
+good-stream-says (Err x) t u e = absurd (let z : ◌≡◌ {A = ℕ} 0 1 = cc in omega arith)
 
-module _ (m : List ℕ) (j : Job) (d : Descriptor) (t : CheckedTable) (et : t ≡ table_of m d.table d.tablesize) where
-  pub table-refused : (r : Refusal) → t ≡ BadTable r → Refused j r ≡ ranges_of m j d
+module _ (m : List ℕ) (j : Job) (d : Descriptor) (t : Result Table Refusal) (et : t ≡ table_of m d.table d.tablesize) where
+  pub table-refused : (r : Refusal) → t ≡ Err r → Refused j r ≡ ranges_of m j d
   unfolding ranges_of table_of
   table-refused r e =
-      let broken : only (present d.tablesize) (header_rules d.tablesize (table_header m d.table)) ≡ Broken r = bad-table-says _ _ r (sym et ∙ e) in
+      let broken : only (present d.tablesize) (header_rules d.tablesize (table_header m d.table)) ≡ Err r = bad-table-says _ _ r (sym et ∙ e) in
       rw broken
 
-  module _ (u : Table) (eu : t ≡ GoodTable u) (s : CheckedStream) (es : s ≡ judged_stream m d.cmd d.cmdsize) where
-    table_fine : (only (present d.tablesize) (header_rules d.tablesize (table_header m d.table)) ≡ Fine) × (u ≡ pick (present d.tablesize) (checked_table d.table (table_header m d.table)) no_table)
+  module _ (u : Table) (eu : t ≡ Ok u) (s : Result Stream Refusal) (es : s ≡ judged_stream m d.cmd d.cmdsize) where
+    table_fine : (only (present d.tablesize) (header_rules d.tablesize (table_header m d.table)) ≡ Ok tt) × (u ≡ pick (present d.tablesize) (checked_table d.table (table_header m d.table)) no_table)
     unfolding table_of
     table_fine = good-table-says _ _ u (sym et ∙ eu)
 
-    pub stream-refused : (r : Refusal) → s ≡ BadStream r → Refused j r ≡ ranges_of m j d
+    pub stream-refused : (r : Refusal) → s ≡ Err r → Refused j r ≡ ranges_of m j d
     unfolding ranges_of judged_stream
     stream-refused r e =
-        let broken : only (present d.cmdsize) (stream_rules d.cmdsize (stream_header m d.cmd)) ≡ Broken r = bad-stream-says _ _ r (sym es ∙ e) in
+        let broken : only (present d.cmdsize) (stream_rules d.cmdsize (stream_header m d.cmd)) ≡ Err r = bad-stream-says _ _ r (sym es ∙ e) in
         rw (table_fine.0, broken)
 
-    pub both-started : (x : Stream) → s ≡ GoodStream x → Started (record { job = j; table = u; stream = x }) ≡ ranges_of m j d
+    pub both-started : (x : Stream) → s ≡ Ok x → Started (record { job = j; table = u; stream = x }) ≡ ranges_of m j d
     unfolding ranges_of judged_stream
     both-started x e =
-        let two : (only (present d.cmdsize) (stream_rules d.cmdsize (stream_header m d.cmd)) ≡ Fine) × (x ≡ pick (present d.cmdsize) (stream_of d.cmd (stream_header m d.cmd)) no_stream) =
+        let two : (only (present d.cmdsize) (stream_rules d.cmdsize (stream_header m d.cmd)) ≡ Ok tt) × (x ≡ pick (present d.cmdsize) (stream_of d.cmd (stream_header m d.cmd)) no_stream) =
         good-stream-says _ _ x (sym es ∙ e) in
         rw (table_fine.0, two.0, table_fine.1, two.1)
 
@@ -130,7 +124,7 @@ pub ruleset opening_ranges = (table-refused, stream-refused, both-started, rules
 present-size : (size : ℕ) → (size ≡ 0 → ⊥) → present size ≡ true
 present-size size n = rw (ne_eqb _ _ n)
 
-pub ranges-lie : (memory : ℕ) (d : Descriptor) → range_rules memory d ≡ Fine → RangesInside memory d
+pub ranges-lie : (memory : ℕ) (d : Descriptor) → range_rules memory d ≡ Ok tt → RangesInside memory d
 unfolding range_rules
 ranges-lie memory d fine =
     record {
@@ -145,16 +139,16 @@ ranges-lie memory d fine =
     }
 
 module _ (m : List ℕ) (stride : ℕ) (j : Job) (d : Descriptor) (v : Verdict) (ev : v ≡ descriptor_rules stride d) where
-  pub descriptor-refused : (r : Refusal) → v ≡ Broken r → Refused j r ≡ submission_opening m stride j d
+  pub descriptor-refused : (r : Refusal) → v ≡ Err r → Refused j r ≡ submission_opening m stride j d
   unfolding submission_opening submission_rules
   descriptor-refused r e = rw (← ev, e)
 
-  module _ (n : ℕ) (same : (n ≡ length m) × (n < 18446744073709551616)) (f : v ≡ Fine) (u : Verdict) (eu : u ≡ range_rules n d) where
-    pub ranges-refused : (r : Refusal) → u ≡ Broken r → Refused j r ≡ submission_opening m stride j d
+  module _ (n : ℕ) (same : (n ≡ length m) × (n < 18446744073709551616)) (f : v ≡ Ok tt) (u : Verdict) (eu : u ≡ range_rules n d) where
+    pub ranges-refused : (r : Refusal) → u ≡ Err r → Refused j r ≡ submission_opening m stride j d
     unfolding submission_opening submission_rules
     ranges-refused r e = rw (← ev, f, ← same.0, ← eu, e)
 
-    module _ (g : u ≡ Fine) where
+    module _ (g : u ≡ Ok tt) where
       pub ranges-given : RangesInside (length m) d
       ranges-given = ranges-lie (length m) d (rw (← same.0) (sym eu ∙ g))
 

@@ -7,18 +7,18 @@ ghost use Rattle.ring_opening.specs.Opening.{Inside, table_of, judged_stream, Ra
 use ring_descriptor::descriptor::{descriptor_at, descriptor_verdict, range_verdict};
 use ring_header::header::{good, header_at, slot_offset};
 use rules::numbers::RING_HEADER_SIZE;
-use rules::{Descriptor, Job, Opened, Opening, RingHeader, Stream, Table, Verdict};
-use stream_header::header::CheckedStream;
-use table_header::header::CheckedTable;
+use rules::{Descriptor, Job, Opened, Opening, Refusal, RingHeader, Stream, Table};
+use stream_header::header::Result<Stream, Refusal>;
+use table_header::header::Result<Table, Refusal>;
 use widths::{beyond, u32_to_word, usize_to_word, word_to_usize};
 
 // 13 and 19, where a table is present.
-fn open_table(mem: &[u8], gpa: u64, size: u32) -> CheckedTable
+fn open_table(mem: &[u8], gpa: u64, size: u32) -> Result<Table, Refusal>
     requires { Inside (length mem.now) gpa size }
     ensures { result ≡ table_of mem.now gpa size }
 {
     if size == 0 {
-        return CheckedTable::Good(Table {
+        return Ok(Table {
             gpa: 0,
             count: 0,
             stride: 0,
@@ -28,12 +28,12 @@ fn open_table(mem: &[u8], gpa: u64, size: u32) -> CheckedTable
 }
 
 // 16, where a stream is present.
-fn open_stream(mem: &[u8], gpa: u64, size: u32) -> CheckedStream
+fn open_stream(mem: &[u8], gpa: u64, size: u32) -> Result<Stream, Refusal>
     requires { Inside (length mem.now) gpa size }
     ensures { result ≡ judged_stream mem.now gpa size }
 {
     if size == 0 {
-        return CheckedStream::Good(Stream { gpa: 0, size: 0 });
+        return Ok(Stream { gpa: 0, size: 0 });
     }
     stream_header::header::check_header(mem, word_to_usize(gpa), u32_to_word(size))
 }
@@ -44,10 +44,10 @@ fn open_ranges(mem: &[u8], job: Job, d: Descriptor) -> Opening
     ensures { result ≡ ranges_of mem.now job d }
 {
     match open_table(mem, d.table, d.tablesize) {
-        CheckedTable::Bad(why) => Opening::Refused(job, why),
-        CheckedTable::Good(table) => match open_stream(mem, d.cmd, d.cmdsize) {
-            CheckedStream::Bad(why) => Opening::Refused(job, why),
-            CheckedStream::Good(stream) => Opening::Started(Opened { job, table, stream }),
+        Err(why) => Opening::Refused(job, why),
+        Ok(table) => match open_stream(mem, d.cmd, d.cmdsize) {
+            Err(why) => Opening::Refused(job, why),
+            Ok(stream) => Opening::Started(Opened { job, table, stream }),
         },
     }
 }
@@ -58,10 +58,10 @@ pub fn open_submission(mem: &[u8], stride: u32, job: Job, d: Descriptor) -> Open
 {
     let memory = usize_to_word(mem.len());
     match descriptor_verdict(stride, d) {
-        Verdict::Broken(why) => Opening::Refused(job, why),
-        Verdict::Fine => match range_verdict(memory, d) {
-            Verdict::Broken(why) => Opening::Refused(job, why),
-            Verdict::Fine => open_ranges(mem, job, d),
+        Err(why) => Opening::Refused(job, why),
+        Ok(()) => match range_verdict(memory, d) {
+            Err(why) => Opening::Refused(job, why),
+            Ok(()) => open_ranges(mem, job, d),
         },
     }
 }

@@ -1,14 +1,14 @@
 -- Wish 9, "the entry index for 14 and 15, the packet's byte offset in the stream for packet errors, else 0": the numbers that an opening's rules have and
 -- those that a packet's rules have. None of them is 14 or 15, which are an entry's. Assumes nothing.
-use Rattle.std.specs.Prelude.{◌≡◌, refl, Bool, true, false, ◌&&◌, ◌||◌, List, ℕ, leb, eqb, take}
+use Rattle.std.specs.Prelude.{◌≡◌, refl, Bool, true, false, ◌&&◌, ◌||◌, List, ℕ, leb, eqb, take, Err, Ok}
 use Rattle.std.proofs.Common.{inl, inr}
 use native.Mathlib.Omega.{arith}
 use Rattle.machine.specs.Machine.{pick}
 use Rattle.rules.specs.Numbers.{bad_table, bad_entry, twice_in_table, bad_stream, bad_packet, bad_handle, too_many, not_in_table, unbound_token}
-use Rattle.rules.specs.Judging.{rule, only, ◌▹◌}
+use Rattle.rules.specs.Judging.{rule, only, ◌▹◌, Verdict}
 use Rattle.rules.specs.Layouts.{ring_header, descriptor}
 use Rattle.rules.specs.Table.{header_rules}
-use Rattle.rules.specs.Stream.{stream_rules, frame_rules, framed, frame_of, packet_of}
+use Rattle.rules.specs.Stream.{stream_rules, frame_rules, framed, frame_of, packet_of, Frame}
 use Rattle.rules.specs.Ring.{good_ring, slot_place, descriptor_rules, range_rules, submission_rules, job_of, opened_of, concluded, submission_opening, ring_opening, opening_of}
 use Rattle.rules.specs.Lists.{Found}
 use Rattle.rules.specs.Lists.Found.{none, found}
@@ -29,11 +29,7 @@ use Rattle.rules.specs.declared.Descriptor.{Descriptor}
 use Rattle.rules.specs.declared.RingHeader.{RingHeader}
 use Rattle.rules.specs.declared.TableHeader.{TableHeader}
 use Rattle.rules.specs.declared.StreamHeader.{StreamHeader}
-use Rattle.rules.specs.declared.Frame.{Frame}
-use Rattle.rules.specs.declared.Frame.TheVariants.{Whole, Misframed}
 use Rattle.rules.specs.declared.Opening.TheVariants.{BadRing, NoWork}
-use Rattle.rules.specs.declared.Verdict.{Verdict}
-use Rattle.rules.specs.declared.Verdict.TheVariants.{Fine, Broken}
 use Rattle.rule_laws.specs.RuleNumbers.{EntryRule, Numbered, NumberedFrame, NumberedOpening, NumberedOutcome, OfOpening, opening_number, packet_number}
 
 -- neither is an entry's
@@ -52,8 +48,8 @@ rule-numbered n true l = l
 rule-numbered n false l = omega arith
 
 then-numbered : (a b : Verdict) → OfOpening a → OfOpening b → OfOpening (a ▹ b)
-then-numbered Fine b k l = l
-then-numbered (Broken r) b k l = k
+then-numbered (Ok tt) b k l = l
+then-numbered (Err r) b k l = k
 
 only-numbered : (t : Bool) (v : Verdict) → OfOpening v → OfOpening (only t v)
 only-numbered true v l = l
@@ -82,8 +78,8 @@ unfolding submission_rules
 submission-numbered m stride d = search (numbering, descriptor-numbered, range-numbered, table-numbered, stream-numbered) depth 12
 
 concluded-numbered : (v : Verdict) (j : Job) (o : Opened) → OfOpening v → NumberedOpening (concluded v j o)
-concluded-numbered Fine j o l = l
-concluded-numbered (Broken r) j o l = l
+concluded-numbered (Ok tt) j o l = l
+concluded-numbered (Err r) j o l = l
 
 submission-opening-numbered : (m : List ℕ) (stride : ℕ) (j : Job) (d : Descriptor) → NumberedOpening (submission_opening m stride j d)
 unfolding submission_opening
@@ -115,8 +111,8 @@ framing-numbered n true l = l
 framing-numbered n false l = omega arith
 
 further-numbered : (a b : Verdict) → Numbered a → Numbered b → Numbered (a ▹ b)
-further-numbered Fine b k l = l
-further-numbered (Broken r) b k l = k
+further-numbered (Ok tt) b k l = l
+further-numbered (Err r) b k l = k
 
 frame-numbered : (b : List ℕ) → Numbered (frame_rules b)
 unfolding frame_rules
@@ -127,8 +123,8 @@ unfolding frame_of
 frame-of-numbered b = by-verdict (frame_rules b) (frame-numbered b) _ _
   where
     by-verdict : (v : Verdict) → Numbered v → (op size : ℕ) → NumberedFrame (framed v op size)
-    by-verdict Fine l op size = omega arith
-    by-verdict (Broken r) l op size = l
+    by-verdict (Ok tt) l op size = omega arith
+    by-verdict (Err r) l op size = l
 
 -- ---- a packet
 
@@ -211,5 +207,5 @@ unfolding take_packet
 take-packet-numbered es h b = by_frame (frame_of b) (frame-of-numbered b)
   where
     by_frame : (f : Frame) → NumberedFrame f → Numbered (pass_frame es h b f).verdict
-    by_frame (Whole op size) l = pass-numbered es h (packet_of op (take size b))
-    by_frame (Misframed r) l = l
+    by_frame (Ok (op, size)) l = pass-numbered es h (packet_of op (take size b))
+    by_frame (Err r) l = l

@@ -1,13 +1,13 @@
 -- Every error that a rule tells has a number of the list, 10 to 30, and so never 0: whatever ring, descriptor, table, entry, stream or packet is
 -- judged. Assumes nothing.
-use Rattle.std.specs.Prelude.{◌≡◌, refl, Bool, true, false, ◌&&◌, List, ℕ, ◌≤◌, leb, eqb, length, take}
+use Rattle.std.specs.Prelude.{◌≡◌, refl, Bool, true, false, ◌&&◌, List, ℕ, ◌≤◌, leb, eqb, length, take, Err, Ok}
 use native.Mathlib.Omega.{arith}
 use Rattle.machine.specs.Machine.{pick}
 use Rattle.rules.specs.Numbers.{bad_ring, bad_state, bad_entry, bad_handle, not_in_table, unbound_token}
-use Rattle.rules.specs.Judging.{refusal, rule, only, ◌▹◌}
+use Rattle.rules.specs.Judging.{refusal, rule, only, ◌▹◌, Verdict}
 use Rattle.rules.specs.Layouts.{entry, ring_header, descriptor}
 use Rattle.rules.specs.Table.{header_rules, entry_rules, entry_place, keep, in_reach, take_entry}
-use Rattle.rules.specs.Stream.{stream_rules, frame_rules, framed, frame_of, packet_of}
+use Rattle.rules.specs.Stream.{stream_rules, frame_rules, framed, frame_of, packet_of, Frame}
 use Rattle.rules.specs.Ring.{good_ring, slot_place, descriptor_rules, range_rules, submission_rules, job_of, opened_of, concluded, submission_opening, ring_opening, opening_of}
 use Rattle.rules.specs.Lists.{Found}
 use Rattle.rules.specs.Lists.Found.{none, found}
@@ -29,12 +29,8 @@ use Rattle.rules.specs.declared.Descriptor.{Descriptor}
 use Rattle.rules.specs.declared.RingHeader.{RingHeader}
 use Rattle.rules.specs.declared.TableHeader.{TableHeader}
 use Rattle.rules.specs.declared.StreamHeader.{StreamHeader}
-use Rattle.rules.specs.declared.Frame.{Frame}
-use Rattle.rules.specs.declared.Frame.TheVariants.{Whole, Misframed}
 use Rattle.rules.specs.declared.Opening.{Opening}
 use Rattle.rules.specs.declared.Opening.TheVariants.{BadRing, NoWork, Refused, Started}
-use Rattle.rules.specs.declared.Verdict.{Verdict}
-use Rattle.rules.specs.declared.Verdict.TheVariants.{Fine, Broken}
 
 -- "error code .. one of 01's", which wishes 5 and 7 made 10 to 30
 abbrev pub listed : ℕ → Bool
@@ -42,8 +38,8 @@ listed code = leb bad_ring code && leb code bad_state
 
 -- what a rule comes to is no error, or a listed one
 abbrev pub Listed : Verdict → Type 0
-Listed Fine = 0 ≤ 0
-Listed (Broken r) = listed r.code ≡ true
+Listed (Ok tt) = 0 ≤ 0
+Listed (Err r) = listed r.code ≡ true
 
 -- ---- rules, one after the other
 
@@ -52,8 +48,8 @@ rule_listed n true l = l
 rule_listed n false l = omega arith
 
 then_listed : (a b : Verdict) → Listed a → Listed b → Listed (a ▹ b)
-then_listed Fine b k l = l
-then_listed (Broken r) b k l = k
+then_listed (Ok tt) b k l = l
+then_listed (Err r) b k l = k
 
 only_listed : (t : Bool) (v : Verdict) → Listed v → Listed (only t v)
 only_listed true v l = l
@@ -72,8 +68,8 @@ unfolding entry_rules
 entry_listed memory earlier e = search listing depth 12
 
 keep_listed : (v : Verdict) (kept : List Entry) (e : Entry) → Listed v → Listed (keep v kept e).verdict
-keep_listed Fine kept e l = l
-keep_listed (Broken r) kept e l = l
+keep_listed (Ok tt) kept e l = l
+keep_listed (Err r) kept e l = l
 
 -- an entry's step
 pub take_entry_listed : (m : List ℕ) (t : Table) (kept : List Entry) → Listed (take_entry m t kept).verdict
@@ -83,7 +79,7 @@ take_entry_listed m t kept = by_test (in_reach m t (length kept))
     here : Entry
     here = entry m (entry_place t (length kept))
 
-    by_test : (b : Bool) → Listed (pick b (keep (entry_rules (length m) kept here) kept here) (record { verdict = Broken (refusal bad_entry); kept = kept })).verdict
+    by_test : (b : Bool) → Listed (pick b (keep (entry_rules (length m) kept here) kept here) (record { verdict = Err (refusal bad_entry); kept = kept })).verdict
     by_test true = keep_listed (entry_rules (length m) kept here) kept here (entry_listed (length m) kept here)
     by_test false = refl
 
@@ -99,16 +95,16 @@ frame_listed b = search listing depth 12
 
 -- bytes that are no packet
 abbrev pub ListedFrame : Frame → Type 0
-ListedFrame (Whole op size) = 0 ≤ 0
-ListedFrame (Misframed r) = listed r.code ≡ true
+ListedFrame (Ok (op, size)) = 0 ≤ 0
+ListedFrame (Err r) = listed r.code ≡ true
 
 pub frame-of-listed : (b : List ℕ) → ListedFrame (frame_of b)
 unfolding frame_of
 frame-of-listed b = by-verdict (frame_rules b) (frame_listed b) _ _
   where
     by-verdict : (v : Verdict) → Listed v → (op size : ℕ) → ListedFrame (framed v op size)
-    by-verdict Fine l op size = omega arith
-    by-verdict (Broken r) l op size = l
+    by-verdict (Ok tt) l op size = omega arith
+    by-verdict (Err r) l op size = l
 
 -- ---- an opening
 
@@ -132,8 +128,8 @@ ListedOpening (Refused j r) = listed r.code ≡ true
 ListedOpening (Started o) = 0 ≤ 0
 
 concluded-listed : (v : Verdict) (j : Job) (o : Opened) → Listed v → ListedOpening (concluded v j o)
-concluded-listed Fine j o l = l
-concluded-listed (Broken r) j o l = l
+concluded-listed (Ok tt) j o l = l
+concluded-listed (Err r) j o l = l
 
 submission-opening-listed : (m : List ℕ) (stride : ℕ) (j : Job) (d : Descriptor) → ListedOpening (submission_opening m stride j d)
 unfolding submission_opening
@@ -243,5 +239,5 @@ unfolding take_packet
 take_packet_listed es h b = by_frame (frame_of b) (frame-of-listed b)
   where
     by_frame : (f : Frame) → ListedFrame f → Listed (pass_frame es h b f).verdict
-    by_frame (Whole op size) l = pass_listed es h (packet_of op (take size b))
-    by_frame (Misframed r) l = l
+    by_frame (Ok (op, size)) l = pass_listed es h (packet_of op (take size b))
+    by_frame (Err r) l = l

@@ -1,34 +1,18 @@
 -- 02, wish 8, "What differs between these two dumps?": two streams, packet by packet.
-use Rattle.std.specs.Prelude.{false, List, [], ◌∷◌, ℕ, ◌+◌, ltb, eqb, length, take, drop}
+use Rattle.std.specs.Prelude.{false, List, [], ◌∷◌, ℕ, ◌+◌, ltb, eqb, length, take, drop, ⊤, Option, None, Some, Result, Ok, Err}
 use Rattle.machine.specs.Machine.{pick}
 use Rattle.rules.specs.Layouts.{word, stream_header, stream_header_size}
 use Rattle.rules.specs.Lists.{Found, nth}
 use Rattle.rules.specs.Lists.Found.{none, found}
-use Rattle.rules.specs.Stream.{stream_rules, frame_of, size_of}
+use Rattle.rules.specs.Stream.{stream_rules, frame_of, size_of, Frame}
 use Rattle.rules.specs.Dump.{Listed, Ending, listed_at, dump_of}
 use Rattle.rules.specs.Dump.Ending.{complete, stopped, refused}
-use Rattle.rules.specs.declared.Frame.{Frame}
-use Rattle.rules.specs.declared.Frame.TheVariants.{Whole, Misframed}
-use Rattle.rules.specs.declared.Verdict.{Verdict}
-use Rattle.rules.specs.declared.Verdict.TheVariants.{Fine, Broken}
-use Rattle.rules.specs.declared.Checked.{Checked}
-use Rattle.rules.specs.declared.Checked.TheVariants.{Valid, Refused}
+use Rattle.rules.specs.declared.RefusedStream.{RefusedStream}
 use Rattle.rules.specs.declared.Class.{Class}
 use Rattle.rules.specs.declared.Class.TheVariants.{Equal, SameOpcode, OtherOpcode, OnlyFirst, OnlySecond, Neither}
-use Rattle.rules.specs.declared.Offset.{Offset}
-use Rattle.rules.specs.declared.Offset.TheVariants.{At, Nowhere}
-use Rattle.rules.specs.declared.Parting.{Parting}
-use Rattle.rules.specs.declared.Parting.TheVariants.{At as PartsAt, Never}
-use Rattle.rules.specs.declared.PartsAnswer.{PartsAnswer}
-use Rattle.rules.specs.declared.PartsAnswer.TheVariants.{Is as PartsIs, Refused as PartsRefused}
-use Rattle.rules.specs.declared.ClassAnswer.{ClassAnswer}
-use Rattle.rules.specs.declared.ClassAnswer.TheVariants.{Is as ClassIs, Refused as ClassRefused}
-use Rattle.rules.specs.declared.OffsetAnswer.{OffsetAnswer}
-use Rattle.rules.specs.declared.OffsetAnswer.TheVariants.{Is as OffsetIs, Refused as OffsetRefused}
-use Rattle.rules.specs.declared.StartAnswer.{StartAnswer}
-use Rattle.rules.specs.declared.StartAnswer.TheVariants.{Is as StartIs, Refused as StartRefused}
 use Rattle.rules.specs.declared.Cursor.{Cursor}
 use Rattle.rules.specs.declared.Pair.{Pair}
+use Rattle.rules.specs.Judging.{Verdict}
 
 -- ---- one stream
 
@@ -48,10 +32,13 @@ fault b = broken_by (dump_of false b).ending
 -- ---- check
 
 -- "A stream that breaks the rules of 16 or 17 is refused with that number and which of the two it was, the first if both."
-abbrev pub checked : ℕ → ℕ → Checked
-checked m n = pick (eqb m 0) (pick (eqb n 0) Valid (Refused n 2)) (Refused m 1)
+abbrev pub refused_stream : ℕ → ℕ → RefusedStream
+refused_stream code which = record { code = code; which = which }
 
-abbrev pub check : List ℕ → List ℕ → Checked
+abbrev pub checked : ℕ → ℕ → Result ⊤ RefusedStream
+checked m n = pick (eqb m 0) (pick (eqb n 0) (Ok tt) (Err (refused_stream n 2))) (Err (refused_stream m 1))
+
+abbrev pub check : List ℕ → List ℕ → Result ⊤ RefusedStream
 check b c = checked (fault b) (fault c)
 
 -- ---- two packets, by their bytes
@@ -92,9 +79,9 @@ offsets_of (found p) none = []
 offsets_of (found p) (found q) = offsets_both p.bytes q.bytes
 
 -- "the next differing offset from a given one", the given one included: the first of the list that is not below it
-unfoldable pub next_from : ℕ → List ℕ → Offset
-next_from from [] = Nowhere
-next_from from (i ∷ offsets) = pick (ltb i from) (next_from from offsets) (At i)
+unfoldable pub next_from : ℕ → List ℕ → Option ℕ
+next_from from [] = None
+next_from from (i ∷ offsets) = pick (ltb i from) (next_from from offsets) (Some i)
 
 -- ---- two streams
 
@@ -106,59 +93,52 @@ abbrev pub offsets_at : List ℕ → List ℕ → ℕ → List ℕ
 offsets_at b c i = offsets_of (nth (packets b) i) (nth (packets c) i)
 
 -- "the first packet index where they part or none": of the packets from an index on
-abbrev pub parted_by : Class → ℕ → Parting → Parting
+abbrev pub parted_by : Class → ℕ → Option ℕ → Option ℕ
 parted_by Equal i later = later
-parted_by SameOpcode i later = PartsAt i
-parted_by OtherOpcode i later = PartsAt i
-parted_by OnlyFirst i later = PartsAt i
-parted_by OnlySecond i later = PartsAt i
-parted_by Neither i later = Never
+parted_by SameOpcode i later = Some i
+parted_by OtherOpcode i later = Some i
+parted_by OnlyFirst i later = Some i
+parted_by OnlySecond i later = Some i
+parted_by Neither i later = None
 
-unfoldable pub parted : ℕ → List Listed → List Listed → Parting
-parted i [] [] = Never
-parted i [] (q ∷ qs) = PartsAt i
-parted i (p ∷ ps) [] = PartsAt i
+unfoldable pub parted : ℕ → List Listed → List Listed → Option ℕ
+parted i [] [] = None
+parted i [] (q ∷ qs) = Some i
+parted i (p ∷ ps) [] = Some i
 parted i (p ∷ ps) (q ∷ qs) = parted_by (class_both p.bytes q.bytes) i (parted (i + 1) ps qs)
 
 -- ---- the questions: "Given two valid streams"
 
-abbrev pub parts_in : Checked → Parting → PartsAnswer
-parts_in Valid x = PartsIs x
-parts_in (Refused code which) x = PartsRefused code which
+-- what was asked for, or the refusal
+abbrev pub asked : {A : Type 0} → Result ⊤ RefusedStream → A → Result A RefusedStream
+asked (Ok tt) x = Ok x
+asked (Err r) x = Err r
 
-abbrev pub parts : List ℕ → List ℕ → PartsAnswer
-parts b c = parts_in (check b c) (parted 0 (packets b) (packets c))
-
-abbrev pub class_in : Checked → Class → ClassAnswer
-class_in Valid x = ClassIs x
-class_in (Refused code which) x = ClassRefused code which
+abbrev pub parts : List ℕ → List ℕ → Result (Option ℕ) RefusedStream
+parts b c = asked (check b c) (parted 0 (packets b) (packets c))
 
 -- "One asks by packet index"
-abbrev pub class_asked : List ℕ → List ℕ → ℕ → ClassAnswer
-class_asked b c i = class_in (check b c) (class_at b c i)
-
-abbrev pub offset_in : Checked → Offset → OffsetAnswer
-offset_in Valid x = OffsetIs x
-offset_in (Refused code which) x = OffsetRefused code which
+abbrev pub class_asked : List ℕ → List ℕ → ℕ → Result Class RefusedStream
+class_asked b c i = asked (check b c) (class_at b c i)
 
 -- ".. and for the next differing offset from a given one"
-abbrev pub next_asked : List ℕ → List ℕ → ℕ → ℕ → OffsetAnswer
-next_asked b c i from = offset_in (check b c) (next_from from (offsets_at b c i))
+abbrev pub next_asked : List ℕ → List ℕ → ℕ → ℕ → Result (Option ℕ) RefusedStream
+next_asked b c i from = asked (check b c) (next_from from (offsets_at b c i))
 
 -- ---- packet by packet: a cursor, which has a place in each stream
 
 -- a stream's own bytes, none where its header breaks 16
 abbrev pub own_in : Verdict → ℕ → List ℕ → List ℕ
-own_in Fine size b = take size b
-own_in (Broken r) size b = []
+own_in (Ok tt) size b = take size b
+own_in (Err r) size b = []
 
 unfoldable pub own : List ℕ → List ℕ
 own b = own_in (stream_rules (length b) (stream_header b 0)) (stream_header b 0).size b
 
 -- the packet at a place of them, its size, and the place behind it
 abbrev pub framed_at : Frame → ℕ → List ℕ → Found Listed
-framed_at (Whole op size) at b = found (listed_at at op size b)
-framed_at (Misframed r) at b = none
+framed_at (Ok (op, size)) at b = found (listed_at at op size b)
+framed_at (Err r) at b = none
 
 abbrev pub packet_at : List ℕ → ℕ → Found Listed
 packet_at s at = framed_at (frame_of (drop at s)) at (drop at s)
@@ -182,15 +162,11 @@ pair_in s at t to =
 abbrev pub pair_at : List ℕ → List ℕ → Cursor → Pair
 pair_at b c k = pair_in (own b) k.first (own c) k.second
 
-abbrev pub next_at : List ℕ → List ℕ → Cursor → ℕ → Offset
+abbrev pub next_at : List ℕ → List ℕ → Cursor → ℕ → Option ℕ
 next_at b c k from = next_from from (offsets_of (packet_at (own b) k.first) (packet_at (own c) k.second))
 
 abbrev pub onward : List ℕ → List ℕ → Cursor → Cursor
 onward b c k = record { first = behind (own b) k.first; second = behind (own c) k.second }
 
-abbrev pub start_in : Checked → StartAnswer
-start_in Valid = StartIs (record { first = stream_header_size; second = stream_header_size })
-start_in (Refused code which) = StartRefused code which
-
-abbrev pub start : List ℕ → List ℕ → StartAnswer
-start b c = start_in (check b c)
+abbrev pub start : List ℕ → List ℕ → Result Cursor RefusedStream
+start b c = asked (check b c) (record { first = stream_header_size; second = stream_header_size })

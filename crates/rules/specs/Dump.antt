@@ -1,5 +1,5 @@
 -- 02, wish 3, "Read me the dump": the text of a dump.
-use Rattle.std.specs.Prelude.{Bool, true, false, ◌&&◌, ◌||◌, List, [], ◌∷◌, ◌++◌, ℕ, zero, suc, ◌+◌, ltb, eqb, length, take, drop}
+use Rattle.std.specs.Prelude.{Bool, true, false, ◌&&◌, ◌||◌, List, [], ◌∷◌, ◌++◌, ℕ, zero, suc, ◌+◌, ltb, eqb, length, take, drop, Err, Ok}
 use Prim.Native.String.{String}
 use Rattle.machine.specs.Machine.{pick}
 use Rattle.rules.specs.Fields.{Field, FieldType, number_of}
@@ -7,16 +7,13 @@ use Rattle.rules.specs.Fields.FieldType.{U32, U64, F32, I32}
 use Rattle.rules.specs.Layouts.{signed, stream_header, stream_header_size}
 use Rattle.rules.specs.Lists.{Found}
 use Rattle.rules.specs.Lists.Found.{none, found}
-use Rattle.rules.specs.Stream.{stream_rules, frame_of, size_of, packet_of}
+use Rattle.rules.specs.Stream.{stream_rules, frame_of, size_of, packet_of, Frame}
 use Rattle.rules.specs.PacketRows.{PacketRow, packet_row}
 use Rattle.rules.specs.declared.Refusal.{Refusal}
-use Rattle.rules.specs.declared.Verdict.{Verdict}
-use Rattle.rules.specs.declared.Verdict.TheVariants.{Fine, Broken}
 use Rattle.rules.specs.declared.Packet.{Packet}
 use Rattle.rules.specs.declared.Packet.TheVariants.{Buffer, Texture, Destroy, Dirty, Copy, Target, Viewport, Scissor, Clear, Export, Import, Release, NotANumber, Unknown}
-use Rattle.rules.specs.declared.Frame.{Frame}
-use Rattle.rules.specs.declared.Frame.TheVariants.{Whole, Misframed}
 use Rattle.rules.specs.Text.{ascii, hex, decimal, signed_decimal}
+use Rattle.rules.specs.Judging.{Verdict}
 
 -- ---- a line
 
@@ -112,9 +109,9 @@ listed_at at op size b = record { at = at; opcode = op; size = size; bytes = tak
 
 -- a packet before those after it; nothing is after a bad one, or after the one where the listing stops
 abbrev pub listed_before : Bool → ℕ → Frame → List ℕ → Dump → Dump
-listed_before strict at (Whole op size) b later =
+listed_before strict at (Ok (op, size)) b later =
     pick (stops strict (packet_of op (take size b))) (ends (stopped (listed_at at op size b))) (first_then (listed_at at op size b) later)
-listed_before strict at (Misframed r) b later = ends (refused r)
+listed_before strict at (Err r) b later = ends (refused r)
 
 -- the packets of the bytes at an offset, at most k of them (the caller gives no fewer than there are bytes)
 unfoldable pub listed : Bool → ℕ → ℕ → List ℕ → Dump
@@ -124,8 +121,8 @@ listed strict (suc k) at b =
     (listed_before strict at (frame_of b) b (listed strict k (at + size_of (frame_of b)) (drop (size_of (frame_of b)) b)))
 
 abbrev pub dump_in : Bool → List ℕ → Verdict → ℕ → Dump
-dump_in strict b Fine size = listed strict size stream_header_size (drop stream_header_size (take size b))
-dump_in strict b (Broken r) size = ends (refused r)
+dump_in strict b (Ok tt) size = listed strict size stream_header_size (drop stream_header_size (take size b))
+dump_in strict b (Err r) size = ends (refused r)
 
 -- a raw stream: its length is the cmd size of rule 16
 unfoldable pub dump_of : Bool → List ℕ → Dump

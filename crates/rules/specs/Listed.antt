@@ -1,15 +1,15 @@
 -- 02, wish 12: the listed bytes. What a submission names, from its opening on: "the named fields of the ring header, opened slots, tables,
 -- entries and streams, every packet's opcode and size, and the fields of known packets". A part is listed only where the rules before it let it be read:
 -- each condition below makes the list shorter, and so what follows from agreeing on it stronger.
-use Rattle.std.specs.Prelude.{Bool, not, ◌&&◌, List, [], ◌∷◌, ◌++◌, ℕ, zero, suc, ◌+◌, ◌-◌, leb, eqb, length}
+use Rattle.std.specs.Prelude.{Bool, not, ◌&&◌, List, [], ◌∷◌, ◌++◌, ℕ, zero, suc, ◌+◌, ◌-◌, leb, eqb, length, Err, Ok}
 use Rattle.machine.specs.Machine.{pick}
-use Rattle.rules.specs.Judging.{only, ◌▹◌}
+use Rattle.rules.specs.Judging.{only, ◌▹◌, Verdict}
 use Rattle.rules.specs.Fields.{Field, width_of}
 use Rattle.rules.specs.Layouts.{ring_header, ring_header_size, ring_header_layout, descriptor, descriptor_layout, table_header, table_header_size, table_header_layout, entry_layout, stream_header_size, stream_header_layout, packet_header_size, packet_header_layout}
 use Rattle.rules.specs.Lists.{Found}
 use Rattle.rules.specs.Lists.Found.{none, found}
 use Rattle.rules.specs.Table.{header_rules, entry_place}
-use Rattle.rules.specs.Stream.{frame_of, size_of, left}
+use Rattle.rules.specs.Stream.{frame_of, size_of, left, Frame}
 use Rattle.rules.specs.PacketRows.{PacketRow, packet_row}
 use Rattle.rules.specs.Ring.{present, descriptor_rules, range_rules, good_ring, slot_place, opening_of}
 use Rattle.rules.specs.State.{Work, State}
@@ -19,10 +19,6 @@ use Rattle.rules.specs.declared.Registers.{Registers}
 use Rattle.rules.specs.declared.Table.{Table}
 use Rattle.rules.specs.declared.Stream.{Stream}
 use Rattle.rules.specs.declared.Opened.{Opened}
-use Rattle.rules.specs.declared.Frame.{Frame}
-use Rattle.rules.specs.declared.Frame.TheVariants.{Whole, Misframed}
-use Rattle.rules.specs.declared.Verdict.{Verdict}
-use Rattle.rules.specs.declared.Verdict.TheVariants.{Fine, Broken}
 use Rattle.rules.specs.declared.Opening.{Opening}
 use Rattle.rules.specs.declared.Opening.TheVariants.{BadRing, NoWork, Refused, Started}
 
@@ -50,8 +46,8 @@ abbrev pub where_true : Bool → List Named → List Named
 where_true t l = pick t l []
 
 abbrev pub where_fine : Verdict → List Named → List Named
-where_fine Fine l = l
-where_fine (Broken r) l = []
+where_fine (Ok tt) l = l
+where_fine (Err r) l = []
 
 -- ---- an opening
 
@@ -88,8 +84,8 @@ entries_listed t i (suc n) = placed (entry_place t i) entry_layout ++ entries_li
 -- ---- its packets
 
 abbrev pub frame_listed : Frame → ℕ → List Named
-frame_listed (Whole op size) place = placed place (packet_layout op)
-frame_listed (Misframed r) place = []
+frame_listed (Ok (op, size)) place = placed place (packet_layout op)
+frame_listed (Err r) place = []
 
 -- of the packet at a place of the stream: opcode and size, if 8 bytes are left, and the fields of one that is framed and known
 unfoldable pub packet_listed : List ℕ → Stream → ℕ → List Named
@@ -99,8 +95,8 @@ packet_listed m s at =
 
 -- the packets after this one; none after a misframed one
 abbrev pub behind : Frame → List Named → List Named
-behind (Whole op size) later = later
-behind (Misframed r) later = []
+behind (Ok (op, size)) later = later
+behind (Err r) later = []
 
 -- this packet and those after it, at most k
 unfoldable pub packets_listed : ℕ → List ℕ → Stream → ℕ → List Named

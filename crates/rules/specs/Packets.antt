@@ -1,15 +1,15 @@
 -- 01, "Packet rules, checked in this order": what each packet does to a submission's resources and records; and by 02, wishes 7 and 5, to its target and its tokens.
-use Rattle.std.specs.Prelude.{Bool, true, false, not, ◌&&◌, ◌||◌, List, [], ℕ, ◌+◌, ◌%◌, ltb, leb, eqb, length, take}
+use Rattle.std.specs.Prelude.{Bool, true, false, not, ◌&&◌, ◌||◌, List, [], ℕ, ◌+◌, ◌%◌, ltb, leb, eqb, length, take, Err, Ok}
 use Rattle.machine.specs.Machine.{pick}
 use Rattle.rules.specs.Numbers.{bad_handle, too_many, bad_shape, not_in_table, past_entry, read_only, past_resource, host_backed, bad_copy, bad_token, unbound_token, bad_state, most, most_tokens, no_name, backs, reads, writes}
 use Rattle.rules.specs.Lists.{Found, lookup, index_of, pushed, removed}
 use Rattle.rules.specs.Lists.Found.{none, found}
-use Rattle.rules.specs.Judging.{refusal}
+use Rattle.rules.specs.Judging.{refusal, Verdict}
 use Rattle.rules.specs.Names.{token_of, shareable, names_left, tokens_left, names_with, tokens_with, of_another, is_new, with_token, without_token}
 use Rattle.rules.specs.Shapes.{good_shape, good_backed, packed_size}
 use Rattle.rules.specs.StatePackets.{bad_viewport, bad_clear, bad_sides, clip_of}
 use Rattle.rules.specs.Table.{matching}
-use Rattle.rules.specs.Stream.{frame_of, packet_of}
+use Rattle.rules.specs.Stream.{frame_of, packet_of, Frame}
 use Rattle.rules.specs.declared.Entry.{Entry}
 use Rattle.rules.specs.declared.Shape.{Shape}
 use Rattle.rules.specs.declared.CreateBuffer.{CreateBuffer}
@@ -27,12 +27,8 @@ use Rattle.rules.specs.declared.ReleaseToken.{ReleaseToken}
 use Rattle.rules.specs.declared.Resource.{Resource}
 use Rattle.rules.specs.declared.Token.{Token}
 use Rattle.rules.specs.declared.Record.{Record}
-use Rattle.rules.specs.declared.Verdict.{Verdict}
-use Rattle.rules.specs.declared.Verdict.TheVariants.{Fine, Broken}
 use Rattle.rules.specs.declared.Kind.{Kind}
 use Rattle.rules.specs.declared.Kind.TheVariants.{Buffer as BufferKind, Texture as TextureKind}
-use Rattle.rules.specs.declared.Frame.{Frame}
-use Rattle.rules.specs.declared.Frame.TheVariants.{Whole, Misframed}
 use Rattle.rules.specs.declared.Packet.{Packet}
 use Rattle.rules.specs.declared.Packet.TheVariants.{Buffer, Texture, Destroy, Dirty, Copy, Target, Viewport, Scissor, Clear, Export, Import, Release, NotANumber, Unknown}
 
@@ -47,10 +43,10 @@ pub record Outcome : Type 0 where
   pub held : Holdings
 
 abbrev pub accepted : Holdings → Outcome
-accepted h = record { verdict = Fine; held = h }
+accepted h = record { verdict = Ok tt; held = h }
 
 abbrev pub refused : ℕ → Holdings → Outcome
-refused n h = record { verdict = Broken (refusal n); held = h }
+refused n h = record { verdict = Err (refusal n); held = h }
 
 -- the rule with number n, and then those after it
 abbrev pub refuse : ℕ → Bool → Holdings → Outcome → Outcome
@@ -305,8 +301,8 @@ left_by h = record { resources = h.holdings.resources; tokens = h.tokens }
 
 -- a packet that is refused leaves target and tokens
 abbrev pub if-fine : {A : Type 0} → Verdict → A → A → A
-if-fine Fine new old = new
-if-fine (Broken r) new old = old
+if-fine (Ok tt) new old = new
+if-fine (Err r) new old = old
 
 -- "it lasts until the submission ends or that handle is destroyed"
 unfoldable pub target_after : Packet → Verdict → ℕ → ℕ
@@ -377,8 +373,8 @@ pass es h p = passed p h (apply es h.target h.tokens h.holdings p)
 -- ---- the packet that the bytes left of a stream begin with
 
 abbrev pub pass_frame : List Entry → Progress → List ℕ → Frame → Passed
-pass_frame es h b (Whole op size) = pass es h (packet_of op (take size b))
-pass_frame es h b (Misframed r) = record { verdict = Broken r; held = h }
+pass_frame es h b (Ok (op, size)) = pass es h (packet_of op (take size b))
+pass_frame es h b (Err r) = record { verdict = Err r; held = h }
 
 unfoldable pub take_packet : List Entry → Progress → List ℕ → Passed
 take_packet es h b = pass_frame es h b (frame_of b)

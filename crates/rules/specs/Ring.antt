@@ -1,8 +1,8 @@
 -- 01, "Open": the ring, its descriptor, and how an opening ends.
-use Rattle.std.specs.Prelude.{Bool, not, ◌&&◌, ◌||◌, List, ℕ, zero, suc, ◌+◌, ◌-◌, ◌*◌, ◌%◌, ◌^◌, ltb, leb, eqb, length}
+use Rattle.std.specs.Prelude.{Bool, not, ◌&&◌, ◌||◌, List, ℕ, zero, suc, ◌+◌, ◌-◌, ◌*◌, ◌%◌, ◌^◌, ltb, leb, eqb, length, Err, Ok}
 use Rattle.machine.specs.Machine.{pick}
 use Rattle.rules.specs.Numbers.{bad_descriptor, outside_memory, ring_magic, slot_doublings}
-use Rattle.rules.specs.Judging.{rule, only, ◌▹◌}
+use Rattle.rules.specs.Judging.{rule, only, ◌▹◌, Verdict}
 use Rattle.rules.specs.Layouts.{good_version, ring_header, ring_header_size, descriptor, descriptor_size, table_header, stream_header}
 use Rattle.rules.specs.Table.{header_rules, checked_table, no_table}
 use Rattle.rules.specs.Stream.{stream_rules, stream_of, no_stream}
@@ -10,8 +10,6 @@ use Rattle.rules.specs.declared.RingHeader.{RingHeader}
 use Rattle.rules.specs.declared.Descriptor.{Descriptor}
 use Rattle.rules.specs.declared.Job.{Job}
 use Rattle.rules.specs.declared.Opened.{Opened}
-use Rattle.rules.specs.declared.Verdict.{Verdict}
-use Rattle.rules.specs.declared.Verdict.TheVariants.{Fine, Broken}
 use Rattle.rules.specs.declared.Opening.{Opening}
 use Rattle.rules.specs.declared.Opening.TheVariants.{BadRing, NoWork, Refused, Started}
 
@@ -103,8 +101,8 @@ opened_of m j d =
     }
 
 abbrev pub concluded : Verdict → Job → Opened → Opening
-concluded Fine j o = Started o
-concluded (Broken r) j o = Refused j r
+concluded (Ok tt) j o = Started o
+concluded (Err r) j o = Refused j r
 
 unfoldable pub submission_opening : List ℕ → ℕ → Job → Descriptor → Opening
 submission_opening m stride j d = concluded (submission_rules m stride d) j (opened_of m j d)

@@ -1,10 +1,8 @@
 -- 01, "Shapes": which shapes are good, and where their bytes stand.
-use Rattle.std.specs.Prelude.{Bool, ◌&&◌, ◌||◌, ℕ, zero, suc, ◌+◌, ◌-◌, ◌*◌, ◌/◌, ◌%◌, ◌^◌, ltb, leb, eqb}
+use Rattle.std.specs.Prelude.{Bool, ◌&&◌, ◌||◌, ℕ, zero, suc, ◌+◌, ◌-◌, ◌*◌, ◌/◌, ◌%◌, ◌^◌, ltb, leb, eqb, None, Option, Some}
 use Rattle.machine.specs.Machine.{pick}
 use Rattle.rules.specs.Numbers.{longest_side, most_halvings, most_layers}
 use Rattle.rules.specs.declared.Shape.{Shape}
-use Rattle.rules.specs.declared.Start.{Start}
-use Rattle.rules.specs.declared.Start.TheVariants.{At, Nowhere}
 
 abbrev pub larger : ℕ → ℕ → ℕ
 larger a b = pick (ltb a b) b a
@@ -88,5 +86,5 @@ abbrev pub index_of : Shape → ℕ → ℕ → ℕ
 index_of s layer mip = layer * s.mips + mip
 
 -- where subresource i of a good texture starts
-unfoldable pub start_of : Shape → ℕ → ℕ → Start
-start_of s pitch i = pick (good_backed s pitch && ltb i (subresources s)) (At (offset_of s pitch i)) Nowhere
+unfoldable pub start_of : Shape → ℕ → ℕ → Option ℕ
+start_of s pitch i = pick (good_backed s pitch && ltb i (subresources s)) (Some (offset_of s pitch i)) None

@@ -1,8 +1,8 @@
 -- 01, "Open" 16, and the framing of "Packet": the command stream.
-use Rattle.std.specs.Prelude.{not, List, [], ◌∷◌, ℕ, zero, suc, ◌+◌, ◌%◌, ltb, eqb, length, take, drop}
+use Rattle.std.specs.Prelude.{not, List, [], ◌∷◌, ℕ, zero, suc, ◌+◌, ◌%◌, ltb, eqb, length, take, drop, Result, Ok, Err}
 use Rattle.machine.specs.Machine.{pick}
 use Rattle.rules.specs.Numbers.{bad_stream, bad_packet, stream_magic, create_buffer, create_texture, destroy, dirty_range, copy_buffer, set_target, set_viewport, set_scissor, clear, export_surface, import_surface, release_token, create_buffer_size, create_texture_size, destroy_size, dirty_range_size, copy_buffer_size, set_target_size, set_viewport_size, set_scissor_size, clear_size, export_surface_size, import_surface_size, release_token_size}
-use Rattle.rules.specs.Judging.{rule, ◌▹◌}
+use Rattle.rules.specs.Judging.{rule, ◌▹◌, Verdict}
 use Rattle.rules.specs.Layouts.{word, stream_header_size, packet_header_size, buffer_fields, texture_fields, destroy_fields, dirty_fields, copy_fields, target_fields, viewport_floats, viewport_fields, scissor_fields, clear_floats, clear_fields, export_fields, import_fields, release_fields}
 use Rattle.rules.specs.Floats.{nan_among}
 use Rattle.rules.specs.Headers.{wrong_header}
@@ -11,12 +11,8 @@ use Rattle.rules.specs.Lists.Found.{none, found}
 use Rattle.rules.specs.declared.StreamHeader.{StreamHeader}
 use Rattle.rules.specs.declared.Stream.{Stream}
 use Rattle.rules.specs.declared.Refusal.{Refusal}
-use Rattle.rules.specs.declared.Verdict.{Verdict}
-use Rattle.rules.specs.declared.Verdict.TheVariants.{Fine, Broken}
 use Rattle.rules.specs.declared.Packet.{Packet}
 use Rattle.rules.specs.declared.Packet.TheVariants.{Buffer, Texture, Destroy, Dirty, Copy, Target, Viewport, Scissor, Clear, Export, Import, Release, NotANumber, Unknown}
-use Rattle.rules.specs.declared.Frame.{Frame}
-use Rattle.rules.specs.declared.Frame.TheVariants.{Whole, Misframed}
 
 -- "16: cmd size below 24; magic; version; stream size below 24 or above cmd size."
 unfoldable pub stream_rules : ℕ → StreamHeader → Verdict
@@ -86,9 +82,13 @@ frame_rules b =
     ▹ rule bad_packet (ltb (length b) (word b 4))
     ▹ rule bad_packet (ltb (word b 4) (least_size (word b 0)))
 
+-- what the bytes left of a stream begin with: a whole packet, by opcode and size, or the rule that is broken
+abbrev pub Frame : Type 0
+Frame = Result (ℕ × ℕ) Refusal
+
 abbrev pub framed : Verdict → ℕ → ℕ → Frame
-framed Fine op size = Whole op size
-framed (Broken r) op size = Misframed r
+framed (Ok tt) op size = Ok (op, size)
+framed (Err r) op size = Err r
 
 -- the frame of the packet that the bytes left begin with
 unfoldable pub frame_of : List ℕ → Frame
@@ -109,13 +109,13 @@ pub data Piece : Type 0 where
   misframed : ℕ → Refusal → Piece
 
 abbrev pub size_of : Frame → ℕ
-size_of (Whole op size) = size
-size_of (Misframed r) = 0
+size_of (Ok (op, size)) = size
+size_of (Err r) = 0
 
 -- a packet before those after it; nothing is after a bad one
 abbrev pub before : ℕ → Frame → List ℕ → List Piece → List Piece
-before at (Whole op size) b later = packet at (packet_of op (take size b)) ∷ later
-before at (Misframed r) b later = misframed at r ∷ []
+before at (Ok (op, size)) b later = packet at (packet_of op (take size b)) ∷ later
+before at (Err r) b later = misframed at r ∷ []
 
 -- the packets of the bytes that stand at an offset, of which there are no more than the first number says
 unfoldable pub cut : ℕ → ℕ → List ℕ → List Piece

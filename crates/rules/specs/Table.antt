@@ -1,18 +1,16 @@
 -- 01, "Open" 13 and 19, and "Entry": the allocation table.
-use Rattle.std.specs.Prelude.{Bool, true, false, ◌&&◌, List, [], ◌∷◌, ℕ, zero, suc, ◌+◌, ◌*◌, ltb, leb, eqb, length}
+use Rattle.std.specs.Prelude.{Bool, true, false, ◌&&◌, List, [], ◌∷◌, ℕ, zero, suc, ◌+◌, ◌*◌, ltb, leb, eqb, length, Err, Ok}
 use Rattle.machine.specs.Machine.{pick}
 use Rattle.rules.specs.Numbers.{bad_table, bad_entry, twice_in_table, too_many, most, table_magic}
 use Rattle.rules.specs.Lists.{Found, lookup, pushed}
 use Rattle.rules.specs.Lists.Found.{none, found}
-use Rattle.rules.specs.Judging.{refusal, rule, ◌▹◌, Finding, fault_at, without_place, number, place_of}
+use Rattle.rules.specs.Judging.{refusal, rule, ◌▹◌, Finding, fault_at, without_place, number, place_of, Verdict}
 use Rattle.rules.specs.Judging.Finding.{fine, broken}
 use Rattle.rules.specs.Layouts.{table_header, table_header_size, entry, entry_size}
 use Rattle.rules.specs.Headers.{wrong_header}
 use Rattle.rules.specs.declared.TableHeader.{TableHeader}
 use Rattle.rules.specs.declared.Entry.{Entry}
 use Rattle.rules.specs.declared.Table.{Table}
-use Rattle.rules.specs.declared.Verdict.{Verdict}
-use Rattle.rules.specs.declared.Verdict.TheVariants.{Fine, Broken}
 
 -- "13: table size below 24; magic; version; header size below 24 or above table size; entry stride below 32;
 -- 24 + count*stride above header size. Then 19: count above 64."
@@ -64,8 +62,8 @@ pub record Taken : Type 0 where
   pub kept : List Entry
 
 abbrev pub keep : Verdict → List Entry → Entry → Taken
-keep Fine kept e = record { verdict = Fine; kept = pushed kept e }
-keep (Broken r) kept e = record { verdict = Broken r; kept = kept }
+keep (Ok tt) kept e = record { verdict = Ok tt; kept = pushed kept e }
+keep (Err r) kept e = record { verdict = Err r; kept = kept }
 
 -- an entry lies within memory and has room: so does each of a table that was opened
 abbrev pub in_reach : List ℕ → Table → ℕ → Bool
@@ -76,7 +74,7 @@ unfoldable pub take_entry : List ℕ → Table → List Entry → Taken
 take_entry m t kept =
     pick (in_reach m t (length kept))
     (keep (entry_rules (length m) kept (entry m (entry_place t (length kept)))) kept (entry m (entry_place t (length kept))))
-    (record { verdict = Broken (refusal bad_entry); kept = kept })
+    (record { verdict = Err (refusal bad_entry); kept = kept })
 
 -- ---- the table as a list
 
@@ -94,8 +92,8 @@ pub record Judged : Type 0 where
   pub count : ℕ
 
 abbrev pub stop_or_go : ℕ → Verdict → Judged → Judged
-stop_or_go place Fine later = record { finding = later.finding; count = suc later.count }
-stop_or_go place (Broken r) later = record { finding = broken (fault_at place r); count = 1 }
+stop_or_go place (Ok tt) later = record { finding = later.finding; count = suc later.count }
+stop_or_go place (Err r) later = record { finding = broken (fault_at place r); count = 1 }
 
 -- "in table order". An entry's place is its index: as many are earlier.
 unfoldable pub judge_entries : ℕ → List Entry → List Entry → Judged
@@ -104,8 +102,8 @@ judge_entries memory earlier (e ∷ es) = stop_or_go (length earlier) (entry_rul
 
 -- the header's rules come first; theirs has no place
 abbrev pub after_header : Verdict → Finding → Finding
-after_header Fine later = later
-after_header (Broken r) later = broken (without_place r)
+after_header (Ok tt) later = later
+after_header (Err r) later = broken (without_place r)
 
 -- "a table's first error ..: takes the lent length as table size and a memory length, and finds 13, 19, 14, 15 as the steps do"
 unfoldable pub table_finding : List ℕ → ℕ → Finding

@@ -1,8 +1,8 @@
 -- 01, "The unsliced rules": a whole submission over one memory. They "judge the opening, then all entries, then all packets,
 -- as lists, and know no steps or kept place".
-use Rattle.std.specs.Prelude.{List, [], ◌∷◌, ℕ, suc, ◌+◌, length}
+use Rattle.std.specs.Prelude.{List, [], ◌∷◌, ℕ, suc, ◌+◌, length, Err, Ok}
 use Rattle.machine.specs.Machine.{Out}
-use Rattle.rules.specs.Judging.{Finding, fault_at, without_place}
+use Rattle.rules.specs.Judging.{Finding, fault_at, without_place, Verdict}
 use Rattle.rules.specs.Judging.Finding.{fine, broken}
 use Rattle.rules.specs.Table.{Judged, entries_of, judge_entries}
 use Rattle.rules.specs.Stream.{Piece, packets_of}
@@ -15,8 +15,6 @@ use Rattle.rules.specs.Settle.{settled_keeping, ring_refused, found_no_work}
 use Rattle.rules.specs.declared.Entry.{Entry}
 use Rattle.rules.specs.declared.Job.{Job}
 use Rattle.rules.specs.declared.Opened.{Opened}
-use Rattle.rules.specs.declared.Verdict.{Verdict}
-use Rattle.rules.specs.declared.Verdict.TheVariants.{Fine, Broken}
 use Rattle.rules.specs.declared.Opening.{Opening}
 use Rattle.rules.specs.declared.Opening.TheVariants.{BadRing, NoWork, Refused, Started}
 
@@ -29,8 +27,8 @@ pub record Reckoned : Type 0 where
   pub count : ℕ
 
 abbrev pub one_further : ℕ → Verdict → Progress → Reckoned → Reckoned
-one_further at Fine h later = record { finding = later.finding; held = later.held; count = suc later.count }
-one_further at (Broken r) h later = record { finding = broken (fault_at at r); held = h; count = 1 }
+one_further at (Ok tt) h later = record { finding = later.finding; held = later.held; count = suc later.count }
+one_further at (Err r) h later = record { finding = broken (fault_at at r); held = h; count = 1 }
 
 -- "the packet's byte offset in the stream for packet errors" (02, wish 9)
 unfoldable pub judge_packets : List Entry → Progress → List Piece → Reckoned

@@ -171,13 +171,6 @@ pub struct ReleaseToken {
     pub token: u64,
 }
 
-// What the bytes left of a stream begin with: a whole packet, by opcode and size, or none.
-#[derive(Clone, Copy)]
-pub enum Frame {
-    Whole(u32, u32),
-    Misframed(Refusal),
-}
-
 // A packet that is framed well. One whose opcode we do not know is skipped. A viewport or clear with a NaN among its floats is a case of its
 // own, since no f32 is made of a NaN's bits.
 #[derive(Clone, Copy)]
@@ -196,13 +189,6 @@ pub enum Packet {
     Release(ReleaseToken),
     NotANumber,
     Unknown,
-}
-
-// Where a subresource of a texture starts: nowhere, for a bad shape or an index past the last.
-#[derive(Clone, Copy)]
-pub enum Start {
-    At(u64),
-    Nowhere,
 }
 
 // ---- Resources and records
@@ -259,13 +245,6 @@ pub struct Refusal {
 pub struct Fault {
     pub code: u32,
     pub place: u32,
-}
-
-// What a check comes to: no rule is broken, or this one.
-#[derive(Clone, Copy)]
-pub enum Verdict {
-    Fine,
-    Broken(Refusal),
 }
 
 // ---- A submission in work
@@ -363,15 +342,15 @@ pub enum FileCheck {
 
 // ---- What differs between two dumps (02, wish 8)
 
-// Both streams are valid; or one is refused, by the number of the rule that it breaks and which of the two it is, 1 or 2.
-#[derive(Clone, Copy)]
-pub enum Checked {
-    Valid,
-    Refused(u32, u32),
+// A stream that breaks a rule: the rule's number, and which of the two streams it is, 1 or 2.
+#[derive(Clone, Copy, Debug, PartialEq, Eq)]
+pub struct RefusedStream {
+    pub code: u32,
+    pub which: u32,
 }
 
 // How the packets with one index compare.
-#[derive(Clone, Copy)]
+#[derive(Clone, Copy, Debug, PartialEq, Eq)]
 pub enum Class {
     Equal,
     SameOpcode,
@@ -379,39 +358,6 @@ pub enum Class {
     OnlyFirst,
     OnlySecond,
     Neither,
-}
-
-// An offset in a packet, or none.
-#[derive(Clone, Copy)]
-pub enum Offset {
-    At(usize),
-    Nowhere,
-}
-
-// The first packet index that is not equal, or none.
-#[derive(Clone, Copy)]
-pub enum Parting {
-    At(usize),
-    Never,
-}
-
-// The answers of the questions: what was asked for, or the refusal.
-#[derive(Clone, Copy)]
-pub enum PartsAnswer {
-    Is(Parting),
-    Refused(u32, u32),
-}
-
-#[derive(Clone, Copy)]
-pub enum ClassAnswer {
-    Is(Class),
-    Refused(u32, u32),
-}
-
-#[derive(Clone, Copy)]
-pub enum OffsetAnswer {
-    Is(Offset),
-    Refused(u32, u32),
 }
 
 // A place in each of two streams: that of the packets with one index.
@@ -429,11 +375,4 @@ pub struct Pair {
     pub firstsize: usize,
     pub second: usize,
     pub secondsize: usize,
-}
-
-// A cursor at the first packets, or the refusal.
-#[derive(Clone, Copy)]
-pub enum StartAnswer {
-    Is(Cursor),
-    Refused(u32, u32),
 }

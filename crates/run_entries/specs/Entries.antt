@@ -1,18 +1,16 @@
 -- The phase of entries as a machine over the entries kept so far; and what its code asks. Assumes nothing.
-use Rattle.std.specs.Prelude.{◌≡◌, Bool, true, false, List, ℕ, ◌+◌, ◌-◌, ◌^◌, ◌≤◌, ◌<◌, ltb, length}
+use Rattle.std.specs.Prelude.{◌≡◌, Bool, true, false, List, ℕ, ◌+◌, ◌-◌, ◌^◌, ◌≤◌, ◌<◌, ltb, length, Err, Ok}
 use Rattle.std.proofs.Math.Path.{refl}
 use Rattle.std.proofs.Common.{sym, ap, arith, rules}
 use borrow.Author.Tests.{lt-ltb, le-ltb, ltb-true}
 use Rattle.machine.specs.Machine.{pick, Out, spent, run_while, loop-start, loop-out}
 use Rattle.rules.specs.Numbers.{most, bad_entry}
-use Rattle.rules.specs.Judging.{refusal}
+use Rattle.rules.specs.Judging.{refusal, Verdict}
 use Rattle.rules.specs.Layouts.{entry}
 use Rattle.rules.specs.Table.{Taken, entry_place, entry_rules, keep, in_reach, take_entry}
 use Rattle.rules.specs.declared.Entry.{Entry}
 use Rattle.rules.specs.declared.Table.{Table}
 use Rattle.rules.specs.declared.Refusal.{Refusal}
-use Rattle.rules.specs.declared.Verdict.{Verdict}
-use Rattle.rules.specs.declared.Verdict.TheVariants.{Fine, Broken as BrokenRule}
 use Rattle.rule_laws.specs.Fine.{both_left}
 use Rattle.rows.specs.Rows.{length-table}
 use Rattle.kept_entries.specs.Views.{entry_of, entries_of, taken_of}
@@ -29,8 +27,8 @@ abbrev pub reading_goes : Reading → Bool
 reading_goes s = onward s.ending
 
 abbrev pub read_on : ℕ → Verdict → List Entry → Reading
-read_on count Fine kept = record { kept = kept; ending = ending_at (length kept) count }
-read_on count (BrokenRule r) kept = record { kept = kept; ending = Broken r }
+read_on count (Ok tt) kept = record { kept = kept; ending = ending_at (length kept) count }
+read_on count (Err r) kept = record { kept = kept; ending = Broken r }
 
 unfoldable pub read_step : List ℕ → Table → Reading → Reading
 read_step m t s = read_on t.count (take_entry m t s.kept).verdict (take_entry m t s.kept).kept
@@ -57,25 +55,25 @@ pub record EntriesRan (m : List ℕ) (t : Table) (n : ℕ) (l : List ℕ) (allow
 -- ---- step_entry
 
 -- an entry that is fine had room
-fine-room : (m : List ℕ) (t : Table) (kept : List Entry) → (take_entry m t kept).verdict ≡ Fine → length kept < most
+fine-room : (m : List ℕ) (t : Table) (kept : List Entry) → (take_entry m t kept).verdict ≡ Ok tt → length kept < most
 unfolding take_entry
 fine-room m t kept h = by-reach (in_reach m t (length kept)) refl h
   where
     by-reach : (b : Bool) → in_reach m t (length kept) ≡ b
-        → (pick b (keep (entry_rules (length m) kept (entry m (entry_place t (length kept)))) kept (entry m (entry_place t (length kept)))) (record { verdict = BrokenRule (refusal bad_entry); kept = kept })).verdict ≡ Fine
+        → (pick b (keep (entry_rules (length m) kept (entry m (entry_place t (length kept)))) kept (entry m (entry_place t (length kept)))) (record { verdict = Err (refusal bad_entry); kept = kept })).verdict ≡ Ok tt
         → length kept < most
     by-reach true e f = ltb-true (length kept) most (both_left (ltb (length kept) most) _ e)
     by-reach false e f = absurd (let z : ◌≡◌ {A = ℕ} 0 1 = cc in omega arith)
 
 module _ (m : List ℕ) (t : Table) (p : EntriesPlace) (l l' : List ℕ) (v : Verdict) (took : taken_of v p.kept l' ≡ take_entry m t (entries_of p.kept l)) where
-  pub step-broken : (r : Refusal) → p.kept ≤ most → v ≡ BrokenRule r → EntryStepped m t p l (record { kept = p.kept; ending = 2; why = r.code }) l'
+  pub step-broken : (r : Refusal) → p.kept ≤ most → v ≡ Err r → EntryStepped m t p l (record { kept = p.kept; ending = 2; why = r.code }) l'
   unfolding read_step
   step-broken r h e =
-      let taken : taken_of (BrokenRule r) p.kept l' ≡ take_entry m t (entries_of p.kept l) = rw e at took in
+      let taken : taken_of (Err r) p.kept l' ≡ take_entry m t (entries_of p.kept l) = rw e at took in
       record { step = rw (is-broken 2 r.code (omega arith) (omega arith), ← taken); room = h }
 
-  module _ (e : v ≡ Fine) where
-    taken_fine : taken_of Fine p.kept l' ≡ take_entry m t (entries_of p.kept l)
+  module _ (e : v ≡ Ok tt) where
+    taken_fine : taken_of (Ok tt) p.kept l' ≡ take_entry m t (entries_of p.kept l)
     taken_fine = rw e at took
 
     pub step_room : p.kept < most

@@ -5,7 +5,7 @@ ghost use Rattle.run_entries.specs.Entries.{EntryStepped, EntriesRan};
 
 use crate::ending::{BROKEN, DONE, GOING};
 use kept_entries::Entries;
-use rules::{Table, Verdict};
+use rules::Table;
 
 // Where the entries stand: how many are kept, how the phase stands, and the number of a rule that is broken, 0 otherwise.
 #[derive(Clone, Copy)]
@@ -35,12 +35,12 @@ fn step_entry(mem: &[u8], t: Table, entries: &mut Entries, p: EntriesPlace) -> E
 {
     let kept = p.kept;
     match table_entries::entry::take_entry(mem, t, entries, kept) {
-        Verdict::Broken(why) => EntriesPlace {
+        Err(why) => EntriesPlace {
             kept,
             ending: BROKEN,
             why: why.code,
         },
-        Verdict::Fine => {
+        Ok(()) => {
             let next = kept + 1;
             if next < size(t.count) {
                 return EntriesPlace {

@@ -1,7 +1,7 @@
 -- The phase of packets as a machine over the place and what is held; and what its code asks. Assumes nothing.
 use Rattle.std.proofs.Math.Path.{◌≡◌, refl}
 use Rattle.std.proofs.Common.{ap, ◌∙◌, rules, length-drop, Fits}
-use Rattle.std.specs.Prelude.{Bool, List, [], ℕ, ◌+◌, ◌-◌, ◌^◌, ◌≤◌, ◌<◌, eqb, ltb, length, drop}
+use Rattle.std.specs.Prelude.{Bool, List, [], ℕ, ◌+◌, ◌-◌, ◌^◌, ◌≤◌, ◌<◌, eqb, ltb, length, drop, Err, Ok, Result}
 use Rattle.std.proofs.Math.Bool.{true, false}
 use native.Mathlib.Omega.{arith}
 use borrow.Author.Tests.{lt-ltb, le-ltb, eq-eqb, ne_eqb}
@@ -13,15 +13,10 @@ use Rattle.rules.specs.Steps.{next_place}
 use Rattle.rules.specs.declared.Entry.{Entry}
 use Rattle.rules.specs.declared.Packet.{Packet}
 use Rattle.rules.specs.declared.Token.{Token}
-use Rattle.rules.specs.declared.Frame.TheVariants.{Misframed}
 use Rattle.rules.specs.declared.Refusal.{Refusal}
-use Rattle.rules.specs.declared.Verdict.{Verdict}
-use Rattle.rules.specs.declared.Verdict.TheVariants.{Fine, Broken as BrokenRule}
 use Rattle.rule_laws.specs.Listed.{Listed, pass_listed}
 use Rattle.kept_entries.specs.Views.{entries_of}
 use Rattle.stream_packets.specs.Framing.{FrameFits, frame-sound, packet_read_at, WasWhole, was-whole, was-misframed, Passed as PassedOver}
-use Rattle.stream_packets.specs.declared.framing.PacketRead.{PacketRead}
-use Rattle.stream_packets.specs.declared.framing.PacketRead.TheVariants.{Whole as WholePacket, Misframed as NoPacket}
 use Rattle.packet_ranges.specs.Views.{RowsExist}
 use Rattle.packet_apply.specs.Apply.{Takes}
 use Rattle.packet_apply.specs.declared.apply.Taken.{Taken}
@@ -35,6 +30,7 @@ use Rattle.run_packets.specs.declared.PacketsPlace.{PacketsPlace}
 use Rattle.run_packets.specs.declared.PacketsRun.{PacketsRun}
 use Rattle.run_packets.specs.declared.Left.{Left}
 use Rattle.run_packets.specs.declared.Skipped.{Skipped}
+use Rattle.rules.specs.Judging.{Verdict}
 
 pub record Playing : Type 0 where
   pub at : ℕ
@@ -45,8 +41,8 @@ abbrev pub playing_goes : Playing → Bool
 playing_goes s = onward s.ending
 
 abbrev pub play_on : ℕ → ℕ → ℕ → Progress → Verdict → Playing
-play_on at next end h Fine = record { at = next; held = h; ending = ending_at next end }
-play_on at next end h (BrokenRule r) = record { at = at; held = h; ending = Broken r }
+play_on at next end h (Ok tt) = record { at = next; held = h; ending = ending_at next end }
+play_on at next end h (Err r) = record { at = at; held = h; ending = Broken r }
 
 -- the packet at the place, of the stream's bytes
 unfoldable pub play_step : List Entry → List ℕ → ℕ → Playing → Playing
@@ -137,8 +133,8 @@ module _ (at next end : ℕ) (x : Changed) (t : PacketTables) (ts : List Token) 
   after-plays o listed why held = by-verdict o.verdict listed why
     where
       by-verdict : (v : Verdict) → Listed v → x.why ≡ number_of v → playing (place_after at next end x) t ts ≡ play_on at next end o.held v
-      by-verdict Fine l w = rw (w, by_end (ltb next end)) (ap (λ (h : Progress). record { at = next; held = h; ending = ending_at next end }) held)
-      by-verdict (BrokenRule r) l w =
+      by-verdict (Ok tt) l w = rw (w, by_end (ltb next end)) (ap (λ (h : Progress). record { at = next; held = h; ending = ending_at next end }) held)
+      by-verdict (Err r) l w =
           let some : r.code ≡ 0 → ⊥ = λ z. absurd (let e : ◌≡◌ {A = ℕ} 0 1 = cc in omega arith) in
           rw (w, ne_eqb _ _ some, is-broken 2 r.code (omega arith) (omega arith)) (ap (λ (h : Progress). record { at = at; held = h; ending = Broken r }) held)
 
@@ -188,19 +184,19 @@ pub ruleset taking_packet = (took-done, took-left, rules)
 
 -- ---- step_packet
 
-module _ (b : List ℕ) (end n : ℕ) (e : List ℕ) (p : PacketsPlace) (r l c : List ℕ) (f : PacketRead) (read : f ≡ packet_read_at (drop p.at b)) where
-  pub step-misframed : (why : Refusal) (y : Left) → RowsExist n p.held.live p.held.made → f ≡ NoPacket why
+module _ (b : List ℕ) (end n : ℕ) (e : List ℕ) (p : PacketsPlace) (r l c : List ℕ) (f : Result (ℕ × Packet) Refusal) (read : f ≡ packet_read_at (drop p.at b)) where
+  pub step-misframed : (why : Refusal) (y : Left) → RowsExist n p.held.live p.held.made → f ≡ Err why
       → PacketStepped b end n (packet_tables e r l c) p (record { at = p.at; held = p.held; ending = 2; why = why.code }) y (packet_tables e r l c)
   unfolding play_step take_packet
   step-misframed why y room q =
-      let framed : frame_of (drop p.at b) ≡ Misframed why = was-misframed (drop p.at b) f read why q in
+      let framed : frame_of (drop p.at b) ≡ Err why = was-misframed (drop p.at b) f read why q in
       record {
         step = λ z ts. rw (is-broken 2 why.code (omega arith) (omega arith), framed);
         left = λ z. absurd (omega arith);
         room = room;
       }
 
-  module _ (size : ℕ) (k : Packet) (q : f ≡ WholePacket size k) where
+  module _ (size : ℕ) (k : Packet) (q : f ≡ Ok (size, k)) where
     whole : WasWhole (drop p.at b) size k
     whole = was-whole (drop p.at b) f read size k q
 

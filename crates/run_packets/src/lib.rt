@@ -13,7 +13,7 @@ use packet_apply::apply::{LEFT, UNKNOWN, apply_packet};
 use packet_held::held::{Changed, Held, SharedPacket};
 use rules::Packet;
 use run_entries::ending::{BROKEN, DONE, GOING};
-use stream_packets::framing::{PacketRead, packet_at, unknown_size};
+use stream_packets::framing::{packet_at, unknown_size};
 use widths::u32_to_usize;
 
 // How the phase stands where a packet is left: it needs tokens, and its unit is counted.
@@ -153,7 +153,7 @@ fn step_packet(
     let at = p.at;
     let held = p.held;
     match packet_at(stream, at) {
-        PacketRead::Misframed(why) => Stepped {
+        Err(why) => Stepped {
             place: PacketsPlace {
                 at,
                 held,
@@ -163,7 +163,7 @@ fn step_packet(
             unknown: false,
             left: nothing_left(),
         },
-        PacketRead::Whole(size, packet) => {
+        Ok((size, packet)) => {
             let next = at + u32_to_usize(size);
             take_packet(
                 entries, kept, resources, own, records, at, next, end, held, packet,

@@ -1,13 +1,13 @@
 -- The stream's part of the memory, and the phases as small machines within the large one. Assumes nothing.
 use Rattle.std.proofs.Math.Path.{◌≡◌, refl}
 use Rattle.std.proofs.Common.{sym, ◌∙◌, arith, rules, length-drop, drop_of_length-le, take_all, Fits}
-use Rattle.std.specs.Prelude.{Bool, List, [], ℕ, ◌+◌, ◌-◌, ◌^◌, ◌≤◌, ◌<◌, ltb, length, take, drop}
+use Rattle.std.specs.Prelude.{Bool, List, [], ℕ, ◌+◌, ◌-◌, ◌^◌, ◌≤◌, ◌<◌, ltb, length, take, drop, Err, Ok}
 use Rattle.std.proofs.Math.Bool.{true, false}
 use Rattle.std.proofs.Math.Seq.{take-nil}
 use Rattle.std.specs.Int.{w64}
 use Rattle.machine.specs.Machine.{pick}
 use Rattle.rules.specs.Numbers.{bad_entry}
-use Rattle.rules.specs.Judging.{refusal, at_place}
+use Rattle.rules.specs.Judging.{refusal, at_place, Verdict}
 use Rattle.rules.specs.Layouts.{entry, stream_header_size}
 use Rattle.rules.specs.Table.{entry_place, entry_rules, keep, in_reach, take_entry}
 use Rattle.rules.specs.Stream.{stream_bytes}
@@ -22,8 +22,6 @@ use Rattle.rules.specs.declared.Table.{Table}
 use Rattle.rules.specs.declared.Refusal.{Refusal}
 use Rattle.rules.specs.declared.Stream.{Stream}
 use Rattle.rules.specs.declared.Opened.{Opened}
-use Rattle.rules.specs.declared.Verdict.{Verdict}
-use Rattle.rules.specs.declared.Verdict.TheVariants.{Fine, Broken as BrokenRule}
 use Rattle.run_entries.specs.Ending.{Ending, onward}
 use Rattle.run_entries.specs.Ending.Ending.{Going, Done, Broken}
 use Rattle.run_entries.specs.Entries.{Reading, reading_goes, read_on, read_step}
@@ -71,15 +69,15 @@ pub ruleset playing = (played-part, rules)
 -- ---- the phases within the device
 
 -- an entry that is refused is not kept, so as many are kept as its index says
-refused-not-kept : (m : List ℕ) (t : Table) (kept : List Entry) (r : Refusal) → (take_entry m t kept).verdict ≡ BrokenRule r → length (take_entry m t kept).kept ≡ length kept
+refused-not-kept : (m : List ℕ) (t : Table) (kept : List Entry) (r : Refusal) → (take_entry m t kept).verdict ≡ Err r → length (take_entry m t kept).kept ≡ length kept
 unfolding take_entry
 refused-not-kept m t kept r = by_tests (in_reach m t (length kept)) (entry_rules (length m) kept (entry m (entry_place t (length kept))))
   where
     by_tests : (b : Bool) (v : Verdict)
-        → (pick b (keep v kept (entry m (entry_place t (length kept)))) (record { verdict = BrokenRule (refusal bad_entry); kept = kept })).verdict ≡ BrokenRule r
-        → length (pick b (keep v kept (entry m (entry_place t (length kept)))) (record { verdict = BrokenRule (refusal bad_entry); kept = kept })).kept ≡ length kept
-    by_tests true Fine h = absurd (let z : ◌≡◌ {A = ℕ} 0 1 = cc in omega arith)
-    by_tests true (BrokenRule x) h = refl
+        → (pick b (keep v kept (entry m (entry_place t (length kept)))) (record { verdict = Err (refusal bad_entry); kept = kept })).verdict ≡ Err r
+        → length (pick b (keep v kept (entry m (entry_place t (length kept)))) (record { verdict = Err (refusal bad_entry); kept = kept })).kept ≡ length kept
+    by_tests true (Ok tt) h = absurd (let z : ◌≡◌ {A = ℕ} 0 1 = cc in omega arith)
+    by_tests true (Err x) h = refl
     by_tests false v h = refl
 
 module _ (w : World) (on : w.state.regs.enabled ≡ true) (o : Opened) where
@@ -92,15 +90,15 @@ module _ (w : World) (on : w.state.regs.enabled ≡ true) (o : Opened) where
       by-ending Done h = absurd (let z : ◌≡◌ {A = ℕ} 0 1 = cc in omega arith)
       by-ending (Broken r) h = absurd (let z : ◌≡◌ {A = ℕ} 0 1 = cc in omega arith)
 
-  read-lays : (k : Work) (n : ℕ) (kept : List Entry) (v : Verdict) → ((r : Refusal) → v ≡ BrokenRule r → length kept ≡ n)
+  read-lays : (k : Work) (n : ℕ) (kept : List Entry) (v : Verdict) → ((r : Refusal) → v ≡ Err r → length kept ≡ n)
       → after_entry (working k w) o kept (at_place n v) ≡ laid w o (read_on o.table.count v kept)
   unfolding settled
-  read-lays k n kept Fine same = by_test (ltb (length kept) o.table.count)
+  read-lays k n kept (Ok tt) same = by_test (ltb (length kept) o.table.count)
     where
       by_test : (b : Bool) → working (pick b (entries o kept) (packets_at o.job o.stream stream_header_size kept (at_first w.state.belongings))) (working k w) ≡ laid_on w o kept (pick b Going Done)
       by_test true = refl
       by_test false = refl
-  read-lays k n kept (BrokenRule r) same = rw (same r refl)
+  read-lays k n kept (Err r) same = rw (same r refl)
 
   pub entries-step : (p : Reading) → reading_goes p ≡ true → step (laid w o p) ≡ laid w o (read_step w.mem o.table p)
   unfolding step entry_step read_step
@@ -126,13 +124,13 @@ module _ (w : World) (on : w.state.regs.enabled ≡ true) (j : Job) (t : Stream)
 
   play-lays : (k : Work) (at next : ℕ) (h : Progress) (v : Verdict) → after_packet (working k w) j t next es h (at_place at v) ≡ played w j t es (play_on at next t.size h v)
   unfolding settled
-  play-lays k at next h Fine = by_test (ltb next t.size)
+  play-lays k at next h (Ok tt) = by_test (ltb next t.size)
     where
       by_test : (b : Bool) → working (pick b (packets j t next es h) (waiting j es h)) (working k w)
           ≡ played_on w j t es (record { at = next; held = h; ending = pick b Going Done }) (pick b Going Done)
       by_test true = refl
       by_test false = refl
-  play-lays k at next h (BrokenRule r) = refl
+  play-lays k at next h (Err r) = refl
 
   -- what is left of the stream
   abbrev left_at : Playing → List ℕ

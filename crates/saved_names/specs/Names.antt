@@ -1,5 +1,5 @@
 -- The rules of section 3, one other name after the other, as the code judges them. Assumes nothing.
-use Rattle.std.specs.Prelude.{◌≡◌, Bool, true, false, ◌&&◌, List, [], ◌∷◌, ◌++◌, ℕ, zero, suc, ◌+◌, ◌-◌, ◌≤◌, ◌<◌, ltb, leb, length}
+use Rattle.std.specs.Prelude.{◌≡◌, Bool, true, false, ◌&&◌, List, [], ◌∷◌, ◌++◌, ℕ, zero, suc, ◌+◌, ◌-◌, ◌≤◌, ◌<◌, ltb, leb, length, None, Option, Some}
 use Rattle.std.proofs.Math.Path.{refl, sym, ap}
 use Rattle.std.proofs.Common.{◌∙◌, arith, rules, le-ltb, lt-ltb, le-leb, leb-true, leb-false}
 use Rattle.std.proofs.lemmas.Bool.{lt-leb}
@@ -15,8 +15,6 @@ use Rattle.rules.specs.declared.Resource.{Resource}
 use Rattle.saved_fields.specs.Judging.{judge_rule, judge_rules, rule, seen, same-rule, seen-there, once-bad}
 use Rattle.saved_fields.specs.Kept.{kept_there}
 use Rattle.saved_fields.specs.Items.{items-start, items-turn, items-end}
-use Rattle.saved_names.specs.declared.Place.{Place}
-use Rattle.saved_names.specs.declared.Place.TheVariants.{Nowhere, At}
 use Rattle.saved_names.specs.Scan.{stands, resources_of}
 
 -- section 3, its count with it
@@ -32,11 +30,11 @@ module _ (before name : ℕ) (v : Bool) where
   pub below : (w : Bool) → before < name → w ≡ v → w ≡ (ltb before name && v)
   below w h e = rw (lt-ltb before name h, e)
 
-module _ (b : List ℕ) (rs : List Resource) (before name : ℕ) (p : Place) (h : before < name) (is : lookup handle_of name rs ≡ stands b p) where
-  pub free-name : p ≡ Nowhere → true ≡ (ltb before name && is_free (lookup handle_of name rs))
+module _ (b : List ℕ) (rs : List Resource) (before name : ℕ) (p : Option ℕ) (h : before < name) (is : lookup handle_of name rs ≡ stands b p) where
+  pub free-name : p ≡ None → true ≡ (ltb before name && is_free (lookup handle_of name rs))
   free-name e = rw (lt-ltb before name h, is, e)
 
-  pub taken-name : (at : ℕ) → p ≡ At at → false ≡ (ltb before name && is_free (lookup handle_of name rs))
+  pub taken-name : (at : ℕ) → p ≡ Some at → false ≡ (ltb before name && is_free (lookup handle_of name rs))
   taken-name at e = rw (lt-ltb before name h, is, e)
 
 pub ruleset naming = (not-below, below, free-name, taken-name, rules)

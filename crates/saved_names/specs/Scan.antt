@@ -1,5 +1,5 @@
 -- The resources of section 2 as they stand in a file, looked up by name: what the scan asks. Assumes nothing.
-use Rattle.std.specs.Prelude.{◌≡◌, Bool, ◌&&◌, List, eqb, length}
+use Rattle.std.specs.Prelude.{◌≡◌, Bool, ◌&&◌, List, eqb, length, None, Option, Some}
 use Rattle.std.proofs.Math.Path.{refl}
 use Rattle.std.proofs.Common.{sym, subst, ◌∙◌, rules}
 use Rattle.std.proofs.Math.Bool.{true, false}
@@ -19,8 +19,6 @@ use Rattle.rules.specs.Loaded.{is_buffer, loaded_resource, loaded_resources, nam
 use Rattle.rules.specs.declared.Resource.{Resource}
 use Rattle.saved_fields.specs.Judging.{seen, seen-there}
 use Rattle.rules.specs.declared.Form.TheVariants.{Two}
-use Rattle.saved_names.specs.declared.Place.{Place}
-use Rattle.saved_names.specs.declared.Place.TheVariants.{Nowhere, At}
 
 -- so many resources, all of them there
 abbrev pub resources_of : List ℕ → ℕ → List Resource
@@ -40,13 +38,13 @@ furthest_name = 3684
 abbrev pub WholeAt : List ℕ → ℕ → Type 0
 WholeAt b at = (at ≤ furthest_first) × (at + 48 ≤ length b)
 
-abbrev pub stands : List ℕ → Place → Found Resource
-stands b Nowhere = none
-stands b (At at) = found (loaded_resource b at)
+abbrev pub stands : List ℕ → Option ℕ → Found Resource
+stands b None = none
+stands b (Some at) = found (loaded_resource b at)
 
-abbrev pub StandsWhole : List ℕ → Place → Type 0
-StandsWhole b Nowhere = 0 ≤ 0
-StandsWhole b (At at) = WholeAt b at
+abbrev pub StandsWhole : List ℕ → Option ℕ → Type 0
+StandsWhole b None = 0 ≤ 0
+StandsWhole b (Some at) = WholeAt b at
 
 -- ---- place_of
 
@@ -114,14 +112,14 @@ pub ruleset sharing = (shares-no-buffer, shares-one-mip, shares-one-layer, rules
 
 -- ---- may_be_shared
 
-module _ (b : List ℕ) (rs : List Resource) (name : ℕ) (p : Place) (is : lookup handle_of name rs ≡ stands b p) where
-  pub shares-nothing : p ≡ Nowhere → false ≡ may_be_shared (lookup handle_of name rs)
+module _ (b : List ℕ) (rs : List Resource) (name : ℕ) (p : Option ℕ) (is : lookup handle_of name rs ≡ stands b p) where
+  pub shares-nothing : p ≡ None → false ≡ may_be_shared (lookup handle_of name rs)
   shares-nothing e = rw (is, e)
 
-  pub shares-found : (at : ℕ) (v : Bool) → p ≡ At at → v ≡ shareable (loaded_resource b at).kind → v ≡ may_be_shared (lookup handle_of name rs)
+  pub shares-found : (at : ℕ) (v : Bool) → p ≡ Some at → v ≡ shareable (loaded_resource b at).kind → v ≡ may_be_shared (lookup handle_of name rs)
   shares-found at v e f = rw (is, e, f)
 
-  pub stands-there : (at : ℕ) → p ≡ At at → StandsWhole b p → WholeAt b at
+  pub stands-there : (at : ℕ) → p ≡ Some at → StandsWhole b p → WholeAt b at
   stands-there at e w = subst (StandsWhole b) e w
 
 pub ruleset asking_shared = (shares-nothing, shares-found, stands-there, rules)

@@ -30,15 +30,8 @@ pub const COUNT_BYTES: u32 = 4;
 // At most so many names in all.
 pub const MOST_NAMES: u32 = 64;
 
-// Where a resource of section 2 stands that has a name, if there is one.
-#[derive(Clone, Copy)]
-pub enum Place {
-    Nowhere,
-    At(u32),
-}
-
 // The resource of section 2 with this name.
-fn place_of(file: &[u8], count: u32, name: u32) -> Place
+fn place_of(file: &[u8], count: u32, name: u32) -> Option<u32>
     requires { Standing file.now count }
     ensures { (lookup handle_of name (resources_of file.now count) ≡ stands file.now result) × StandsWhole file.now result }
 {
@@ -46,12 +39,12 @@ fn place_of(file: &[u8], count: u32, name: u32) -> Place
     let mut i: u32 = 0;
     while i < count {
         if field_at(file, at) == name {
-            return Place::At(at);
+            return Some(at);
         }
         at += RESOURCE_BYTES;
         i += 1;
     }
-    Place::Nowhere
+    None
 }
 
 // Whether the resource that stands there is a texture of one mip and one layer.
@@ -74,8 +67,8 @@ pub fn may_be_shared(file: &[u8], count: u32, name: u32) -> bool
     ensures { result ≡ may_be_shared (lookup handle_of name (resources_of file.now count)) }
 {
     match place_of(file, count, name) {
-        Place::Nowhere => false,
-        Place::At(at) => shareable_at(file, at),
+        None => false,
+        Some(at) => shareable_at(file, at),
     }
 }
 
@@ -88,8 +81,8 @@ fn good_name(file: &[u8], count: u32, before: u32, name: u32) -> bool
         return false;
     }
     match place_of(file, count, name) {
-        Place::Nowhere => true,
-        Place::At(_) => false,
+        None => true,
+        Some(_) => false,
     }
 }
 

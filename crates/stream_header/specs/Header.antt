@@ -1,25 +1,21 @@
 -- What the check of a stream's header gives, and the laws that the check asks for. Assumes nothing.
-use Rattle.std.specs.Prelude.{◌≡◌, refl, ℕ, ◌+◌, ◌≤◌, ◌<◌, Bool, true, false, List, length}
+use Rattle.std.specs.Prelude.{◌≡◌, refl, ℕ, ◌+◌, ◌≤◌, ◌<◌, Bool, true, false, List, length, Err, Ok, Result}
 use Rattle.std.proofs.Common.{arith, rules, lt-ltb}
 use Rattle.rules.specs.Numbers.{bad_stream, stream_magic}
-use Rattle.rules.specs.Judging.{refusal}
+use Rattle.rules.specs.Judging.{refusal, Verdict}
 use Rattle.rules.specs.Layouts.{word, stream_header, stream_header_size}
 use Rattle.rules.specs.Headers.{wrong_header}
 use Rattle.rules.specs.Stream.{stream_rules, stream_of}
 use Rattle.rules.specs.declared.Refusal.{Refusal}
 use Rattle.rules.specs.declared.Stream.{Stream}
 use Rattle.rules.specs.declared.StreamHeader.{StreamHeader}
-use Rattle.rules.specs.declared.Verdict.{Verdict}
-use Rattle.rules.specs.declared.Verdict.TheVariants.{Fine, Broken}
 use Rattle.rule_laws.specs.Fine.{kept_rule}
 use Rattle.headers.specs.Header.{GoodHeader, header-good}
-use Rattle.stream_header.specs.declared.header.CheckedStream.{CheckedStream}
-use Rattle.stream_header.specs.declared.header.CheckedStream.TheVariants.{Good, Bad}
 
 -- the stream where its header is fine, and the broken rule where it is not
-abbrev pub begun : Verdict → Stream → CheckedStream
-begun Fine s = Good s
-begun (Broken r) s = Bad r
+abbrev pub begun : Verdict → Stream → Result Stream Refusal
+begun (Ok tt) s = Ok s
+begun (Err r) s = Err r
 
 -- ---- header_at
 
@@ -31,31 +27,31 @@ header_is m at k v s p q r = rw (p, q, r)
 -- ---- header_verdict
 
 module _ (cmdsize : ℕ) (h : StreamHeader) where
-  pub range-short : cmdsize < stream_header_size → Broken (refusal bad_stream) ≡ stream_rules cmdsize h
+  pub range-short : cmdsize < stream_header_size → Err (refusal bad_stream) ≡ stream_rules cmdsize h
   unfolding stream_rules wrong_header
   range-short p = rw (lt-ltb cmdsize stream_header_size p)
 
   module _ (wrong : Bool) (front : wrong ≡ wrong_header stream_magic stream_header_size cmdsize h.magic h.version h.size) where
-    pub stream-wrong : wrong ≡ true → Broken (refusal bad_stream) ≡ stream_rules cmdsize h
+    pub stream-wrong : wrong ≡ true → Err (refusal bad_stream) ≡ stream_rules cmdsize h
     unfolding stream_rules
     stream-wrong p = rw (← front, p)
 
-    pub stream-good : wrong ≡ false → Fine ≡ stream_rules cmdsize h
+    pub stream-good : wrong ≡ false → Ok tt ≡ stream_rules cmdsize h
     unfolding stream_rules
     stream-good p = rw (← front, p)
 
 -- ---- check_header
 
 module _ (cmdsize : ℕ) (s : Stream) where
-  pub begins-short : (h : StreamHeader) → cmdsize < stream_header_size → Bad (refusal bad_stream) ≡ begun (stream_rules cmdsize h) s
+  pub begins-short : (h : StreamHeader) → cmdsize < stream_header_size → Err (refusal bad_stream) ≡ begun (stream_rules cmdsize h) s
   begins-short h p = rw (← range-short cmdsize h p)
 
-pub begins-good : (cmdsize at gpa : ℕ) (v : Verdict) (h h' : StreamHeader) → h ≡ h' → gpa ≡ at → v ≡ stream_rules cmdsize h → v ≡ Fine
-    → Good (record { gpa = gpa; size = h.size }) ≡ begun (stream_rules cmdsize h') (stream_of at h')
+pub begins-good : (cmdsize at gpa : ℕ) (v : Verdict) (h h' : StreamHeader) → h ≡ h' → gpa ≡ at → v ≡ stream_rules cmdsize h → v ≡ Ok tt
+    → Ok (record { gpa = gpa; size = h.size }) ≡ begun (stream_rules cmdsize h') (stream_of at h')
 begins-good cmdsize at gpa v h h' e g r f = rw (← e, ← r, f, g)
 
-pub begins-bad : (cmdsize : ℕ) (s : Stream) (v : Verdict) (q : Refusal) (h h' : StreamHeader) → h ≡ h' → v ≡ stream_rules cmdsize h → v ≡ Broken q
-    → Bad q ≡ begun (stream_rules cmdsize h') s
+pub begins-bad : (cmdsize : ℕ) (s : Stream) (v : Verdict) (q : Refusal) (h h' : StreamHeader) → h ≡ h' → v ≡ stream_rules cmdsize h → v ≡ Err q
+    → Err q ≡ begun (stream_rules cmdsize h') s
 begins-bad cmdsize s v q h h' e r f = rw (← e, ← r, f)
 
 pub ruleset heading = (header_is, stream-wrong, stream-good, begins-short, begins-good, begins-bad, rules)
@@ -65,17 +61,17 @@ pub ruleset heading = (header_is, stream-wrong, stream-good, begins-short, begin
 abbrev pub GoodStreamHeader : ℕ → StreamHeader → Type 0
 GoodStreamHeader cmdsize h = GoodHeader stream_magic stream_header_size cmdsize h.magic h.version h.size
 
-pub stream-sound : (cmdsize : ℕ) (h : StreamHeader) → stream_rules cmdsize h ≡ Fine → GoodStreamHeader cmdsize h
+pub stream-sound : (cmdsize : ℕ) (h : StreamHeader) → stream_rules cmdsize h ≡ Ok tt → GoodStreamHeader cmdsize h
 unfolding stream_rules
 stream-sound cmdsize h e = header-good stream_magic stream_header_size cmdsize h.magic h.version h.size (kept_rule bad_stream _ e)
 
-begun-good : (v : Verdict) (s s' : Stream) → begun v s ≡ Good s' → (v ≡ Fine) × (s ≡ s')
-begun-good Fine s s' e = (refl, cc)
-begun-good (Broken r) s s' e = let z : ◌≡◌ {A = ℕ} 0 1 = cc in absurd (omega arith)
+begun-good : (v : Verdict) (s s' : Stream) → begun v s ≡ Ok s' → (v ≡ Ok tt) × (s ≡ s')
+begun-good (Ok tt) s s' e = (refl, cc)
+begun-good (Err r) s s' e = let z : ◌≡◌ {A = ℕ} 0 1 = cc in absurd (omega arith)
 
 -- a stream that was begun lies in memory, header and all, where the command range does
 module _ (m : List ℕ) (at cmdsize : ℕ) (s : Stream) (room : at + cmdsize ≤ length m)
-    (good : begun (stream_rules cmdsize (stream_header m at)) (stream_of at (stream_header m at)) ≡ Good s) where
+    (good : begun (stream_rules cmdsize (stream_header m at)) (stream_of at (stream_header m at)) ≡ Ok s) where
   pub begun-inside : s.gpa + s.size ≤ length m
   begun-inside =
       let g = begun-good (stream_rules cmdsize (stream_header m at)) (stream_of at (stream_header m at)) s good in

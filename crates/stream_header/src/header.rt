@@ -7,18 +7,11 @@ ghost use Rattle.stream_header.specs.Header.{begun};
 
 use headers::wrong_header;
 use rules::numbers::{BAD_STREAM, STREAM_MAGIC};
-use rules::{Refusal, Stream, StreamHeader, Verdict};
+use rules::{Refusal, Stream, StreamHeader};
 use widths::usize_to_word;
 use words::u32_at;
 
 const STREAM_HEADER_SIZE: u64 = rules::numbers::STREAM_HEADER_SIZE as u64;
-
-// What the check of a header gives: the numbers to keep, or the rule that is broken.
-#[derive(Clone, Copy)]
-pub enum CheckedStream {
-    Good(Stream),
-    Bad(Refusal),
-}
 
 // The header's fields, each read once.
 fn header_at(mem: &[u8], at: usize) -> StreamHeader
@@ -33,7 +26,7 @@ fn header_at(mem: &[u8], at: usize) -> StreamHeader
 }
 
 // Judges a header that was read, for a command range of so many bytes.
-pub fn header_verdict(cmdsize: u64, h: StreamHeader) -> Verdict
+pub fn header_verdict(cmdsize: u64, h: StreamHeader) -> Result<(), Refusal>
     ensures { result ≡ stream_rules cmdsize h }
 {
     if wrong_header(
@@ -44,24 +37,24 @@ pub fn header_verdict(cmdsize: u64, h: StreamHeader) -> Verdict
         h.version,
         h.size,
     ) {
-        return Verdict::Broken(Refusal { code: BAD_STREAM });
+        return Err(Refusal { code: BAD_STREAM });
     }
-    Verdict::Fine
+    Ok(())
 }
 
 // Checks the header at the start of the command range. Too short a range is not read.
-pub fn check_header(mem: &[u8], at: usize, cmdsize: u64) -> CheckedStream
+pub fn check_header(mem: &[u8], at: usize, cmdsize: u64) -> Result<Stream, Refusal>
     requires { at + cmdsize ≤ length mem.now }
     ensures { result ≡ begun (stream_rules cmdsize (stream_header mem.now at)) (stream_of at (stream_header mem.now at)) }
 {
     if cmdsize < STREAM_HEADER_SIZE {
-        return CheckedStream::Bad(Refusal { code: BAD_STREAM });
+        return Err(Refusal { code: BAD_STREAM });
     }
     let h = header_at(mem, at);
     let gpa = usize_to_word(at);
     let size = h.size;
     match header_verdict(cmdsize, h) {
-        Verdict::Fine => CheckedStream::Good(Stream { gpa, size }),
-        Verdict::Broken(r) => CheckedStream::Bad(r),
+        Ok(()) => Ok(Stream { gpa, size }),
+        Err(r) => Err(r),
     }
 }

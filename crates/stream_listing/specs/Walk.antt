@@ -1,17 +1,15 @@
 -- The packets of a stream from a place on: none at its end, else the packet there and those after it, or how they end. Assumes nothing.
-use Rattle.std.specs.Prelude.{◌≡◌, Bool, true, false, List, take, drop}
+use Rattle.std.specs.Prelude.{◌≡◌, Bool, true, false, List, take, drop, Err, Ok}
 use Rattle.std.proofs.Math.Path.{refl, ap}
 use Rattle.std.proofs.Common.{◌∙◌, ⊎_elim, eq-eqb, ne_eqb, drop-drop}
 use Prim.Native.Nat.{ℕ, zero, suc, ◌+◌, ◌-◌, ◌≤◌, ◌<◌}
 use native.Mathlib.Omega.{arith}
 use Rattle.std.proofs.Math.ListN.{length, length-drop}
 use Rattle.words.specs.Over.{below_or_not}
-use Rattle.rules.specs.Stream.{frame_of, size_of, packet_of}
+use Rattle.rules.specs.Stream.{frame_of, size_of, packet_of, Frame}
 use Rattle.rules.specs.Dump.{Dump, ends, first_then, stops, listed_at, listed_before, listed}
 use Rattle.rules.specs.Dump.Ending.{complete, stopped, refused}
 use Rattle.rules.specs.declared.Refusal.{Refusal}
-use Rattle.rules.specs.declared.Frame.{Frame}
-use Rattle.rules.specs.declared.Frame.TheVariants.{Whole, Misframed}
 use Rattle.stream_packets.specs.Framing.{frame-sound}
 
 module _ (strict : Bool) where
@@ -28,9 +26,9 @@ module _ (strict : Bool) where
   listed-packet k at b h = rw (ne_eqb (length b) 0 (λ z. omega arith))
 
   -- what is after a packet counts only where the packet is whole
-  before_same : (at : ℕ) (f : Frame) (b : List ℕ) (x y : Dump) → ((op size : ℕ) → f ≡ Whole op size → x ≡ y) → listed_before strict at f b x ≡ listed_before strict at f b y
-  before_same at (Whole op size) b x y h = rw (h op size refl)
-  before_same at (Misframed r) b x y h = refl
+  before_same : (at : ℕ) (f : Frame) (b : List ℕ) (x y : Dump) → ((op size : ℕ) → f ≡ Ok (op, size) → x ≡ y) → listed_before strict at f b x ≡ listed_before strict at f b y
+  before_same at (Ok (op, size)) b x y h = rw (h op size refl)
+  before_same at (Err r) b x y h = refl
 
   -- its first number does not matter where it is no less than the number of bytes
   pub listed-fuel : (k k' at : ℕ) (b : List ℕ) → length b ≤ k → length b ≤ k' → listed strict k at b ≡ listed strict k' at b
@@ -65,10 +63,10 @@ module _ (strict : Bool) where
           ap (λ n. listed strict n at (drop at s)) k
           ∙ (listed-packet (length s - at - 1) at (drop at s) (rw length-drop (omega arith)) ∙ rw drop-drop)
 
-      pub from-bad : (r : Refusal) → frame_of (drop at s) ≡ Misframed r → listed_from s at ≡ ends (refused r)
+      pub from-bad : (r : Refusal) → frame_of (drop at s) ≡ Err r → listed_from s at ≡ ends (refused r)
       from-bad r e = from_is ∙ rw e
 
-      module _ (op size : ℕ) (e : frame_of (drop at s) ≡ Whole op size) where
+      module _ (op size : ℕ) (e : frame_of (drop at s) ≡ Ok (op, size)) where
         pub further : at < at + size
         further = omega (arith, (frame-sound (drop at s) op size e).header)
 

@@ -7,7 +7,7 @@ ghost use Rattle.rules.specs.Dump.{is_unknown};
 ghost use Rattle.stream_listing.specs.Seen.{seen};
 
 use rules::Packet;
-use stream_packets::framing::{PacketRead, packet_at};
+use stream_packets::framing::packet_at;
 use words::u32_at;
 
 // A packet by its opcode and its size, whose opcode is in the table or is not; or no packet, by the number of the rule that is broken.
@@ -44,8 +44,8 @@ pub fn seen_at(stream: &[u8], at: usize) -> Seen
     ensures { result ≡ seen (drop at stream.now) }
 {
     match packet_at(stream, at) {
-        PacketRead::Misframed(r) => Seen::Bad(r.code),
-        PacketRead::Whole(size, packet) => {
+        Err(r) => Seen::Bad(r.code),
+        Ok((size, packet)) => {
             let op = u32_at(stream, at);
             if unknown(packet) {
                 return Seen::Unknown(op, size);

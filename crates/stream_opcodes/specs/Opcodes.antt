@@ -1,7 +1,7 @@
 -- The table of opcodes by its rows, and what reading by it asks for. Assumes nothing.
 use Rattle.std.proofs.Math.Path.{◌≡◌, refl}
 use Rattle.std.proofs.Common.{sym, ◌∙◌, arith, rules}
-use Rattle.std.specs.Prelude.{Bool, List, ℕ, ◌≤◌, ◌<◌, ltb, length}
+use Rattle.std.specs.Prelude.{Bool, List, ℕ, ◌≤◌, ◌<◌, ltb, length, None, Option, Some}
 use Rattle.std.proofs.Math.Bool.{true, false}
 use borrow.Author.Tests.{ne_eqb, lt-ltb, le-ltb}
 use Rattle.machine.specs.Machine.{pick}
@@ -19,16 +19,14 @@ use Rattle.rules.specs.declared.SetScissor.{SetScissor}
 use Rattle.rules.specs.declared.ExportSurface.{ExportSurface}
 use Rattle.rules.specs.declared.ImportSurface.{ImportSurface}
 use Rattle.rules.specs.declared.ReleaseToken.{ReleaseToken}
-use Rattle.stream_opcodes.specs.declared.Reading.{Reading}
-use Rattle.stream_opcodes.specs.declared.Reading.TheVariants.{TooShort, Says}
 use Rattle.rules.specs.declared.Packet.{Packet}
 use Rattle.rules.specs.declared.Packet.TheVariants.{Buffer, Texture, Destroy, Dirty, Copy, Target, Viewport, Scissor, Clear, Export, Import, Release, Unknown}
 
 -- ---- the table of opcodes
 
 -- what a packet's own bytes say, if they are no fewer than its opcode asks for
-unfoldable pub reading : ℕ → List ℕ → Reading
-reading op b = pick (ltb (length b) (least_size op)) TooShort (Says (packet_of op b))
+unfoldable pub reading : ℕ → List ℕ → Option Packet
+reading op b = pick (ltb (length b) (least_size op)) None (Some (packet_of op b))
 
 -- an opcode that is in none of its rows
 module _ (op : ℕ) (n₁ : op ≡ create_buffer → ⊥) (n₂ : op ≡ create_texture → ⊥) (n₃ : op ≡ destroy → ⊥) (n₄ : op ≡ dirty_range → ⊥)
@@ -160,15 +158,15 @@ module _ (op : ℕ) where
     says-release p f q = rw (p, q)
 
     -- a known packet that is too short says nothing; one from its own size upward, and an unknown one, say what stands there
-    pub short-part : (size : ℕ) → size ≡ least_size op → length b < size → TooShort ≡ reading op b
+    pub short-part : (size : ℕ) → size ≡ least_size op → length b < size → None ≡ reading op b
     unfolding reading
     short-part size is short = rw (← is, lt-ltb (length b) size short)
 
-    pub long-part : (size : ℕ) → size ≡ least_size op → size ≤ length b → (p : Packet) → p ≡ packet_of op b → Says p ≡ reading op b
+    pub long-part : (size : ℕ) → size ≡ least_size op → size ≤ length b → (p : Packet) → p ≡ packet_of op b → Some p ≡ reading op b
     unfolding reading
     long-part size is long p says = rw (← is, le-ltb (length b) size long, says)
 
-    pub any_part : 0 ≡ least_size op → (p : Packet) → p ≡ packet_of op b → Says p ≡ reading op b
+    pub any_part : 0 ≡ least_size op → (p : Packet) → p ≡ packet_of op b → Some p ≡ reading op b
     any_part is p says = long-part 0 is (omega arith) p says
 
 pub ruleset reading_part = (
@@ -207,20 +205,20 @@ pub ruleset reading_part = (
 
 -- ---- what a reading says of the size
 
-module _ (op : ℕ) (b : List ℕ) (x : Reading) (is : x ≡ reading op b) where
-  abbrev by_size : Bool → Reading
-  by_size w = pick w TooShort (Says (packet_of op b))
+module _ (op : ℕ) (b : List ℕ) (x : Option Packet) (is : x ≡ reading op b) where
+  abbrev by_size : Bool → Option Packet
+  by_size w = pick w None (Some (packet_of op b))
 
-  pub part-short : x ≡ TooShort → ltb (length b) (least_size op) ≡ true
+  pub part-short : x ≡ None → ltb (length b) (least_size op) ≡ true
   unfolding reading
   part-short e = by_test (ltb (length b) (least_size op)) (sym is ∙ e)
     where
-      by_test : (w : Bool) → by_size w ≡ TooShort → w ≡ true
+      by_test : (w : Bool) → by_size w ≡ None → w ≡ true
       by_test true h = refl
       by_test false h = absurd (let z : ◌≡◌ {A = ℕ} 0 1 = cc in omega arith)
 
-  module _ (p : Packet) (e : x ≡ Says p) where
-    right : (w : Bool) → by_size w ≡ Says p → (w ≡ false) × (p ≡ packet_of op b)
+  module _ (p : Packet) (e : x ≡ Some p) where
+    right : (w : Bool) → by_size w ≡ Some p → (w ≡ false) × (p ≡ packet_of op b)
     right true h = absurd (let z : ◌≡◌ {A = ℕ} 0 1 = cc in omega arith)
     right false h = let same : p ≡ packet_of op b = cc in (refl, same)
 

@@ -39,92 +39,85 @@ const IMPORT_SURFACE_SIZE: usize = rules::numbers::IMPORT_SURFACE_SIZE as usize;
 
 const RELEASE_TOKEN_SIZE: usize = rules::numbers::RELEASE_TOKEN_SIZE as usize;
 
-// What a packet says: nothing, if we know its opcode and it is shorter than the table of opcodes has it.
-#[derive(Clone, Copy)]
-pub enum Reading {
-    TooShort,
-    Says(Packet),
-}
-
 // The table of opcodes: what a packet with an opcode says, from the beginning of its own part of the stream. Newer drivers append
 // fields, which are not read. A packet whose opcode we do not know is skipped, whatever its size.
-pub fn read_part(op: u32, part: &[u8]) -> Reading
+pub fn read_part(op: u32, part: &[u8]) -> Option<Packet>
     ensures { result ≡ reading op part.now }
 {
     let size = part.len();
     match op {
         CREATE_BUFFER => {
             if size < CREATE_BUFFER_SIZE {
-                return Reading::TooShort;
+                return None;
             }
-            Reading::Says(Packet::Buffer(buffer_fields(part)))
+            Some(Packet::Buffer(buffer_fields(part)))
         }
         CREATE_TEXTURE => {
             if size < CREATE_TEXTURE_SIZE {
-                return Reading::TooShort;
+                return None;
             }
-            Reading::Says(Packet::Texture(texture_fields(part)))
+            Some(Packet::Texture(texture_fields(part)))
         }
         DESTROY => {
             if size < DESTROY_SIZE {
-                return Reading::TooShort;
+                return None;
             }
-            Reading::Says(Packet::Destroy(destroy_fields(part)))
+            Some(Packet::Destroy(destroy_fields(part)))
         }
         DIRTY_RANGE => {
             if size < DIRTY_RANGE_SIZE {
-                return Reading::TooShort;
+                return None;
             }
-            Reading::Says(Packet::Dirty(dirty_fields(part)))
+            Some(Packet::Dirty(dirty_fields(part)))
         }
         COPY_BUFFER => {
             if size < COPY_BUFFER_SIZE {
-                return Reading::TooShort;
+                return None;
             }
-            Reading::Says(Packet::Copy(copy_fields(part)))
+            Some(Packet::Copy(copy_fields(part)))
         }
         SET_TARGET => {
             if size < SET_TARGET_SIZE {
-                return Reading::TooShort;
+                return None;
             }
-            Reading::Says(Packet::Target(target_fields(part)))
+            Some(Packet::Target(target_fields(part)))
         }
         SET_VIEWPORT => {
             if size < SET_VIEWPORT_SIZE {
-                return Reading::TooShort;
+                return None;
             }
-            Reading::Says(viewport_packet(part))
+            Some(viewport_packet(part))
         }
         SET_SCISSOR => {
             if size < SET_SCISSOR_SIZE {
-                return Reading::TooShort;
+                return None;
             }
-            Reading::Says(Packet::Scissor(scissor_fields(part)))
+            Some(Packet::Scissor(scissor_fields(part)))
         }
         CLEAR => {
             if size < CLEAR_SIZE {
-                return Reading::TooShort;
+                return None;
             }
-            Reading::Says(clear_packet(part))
+            Some(clear_packet(part))
         }
         EXPORT_SURFACE => {
             if size < EXPORT_SURFACE_SIZE {
-                return Reading::TooShort;
+                return None;
             }
-            Reading::Says(Packet::Export(export_fields(part)))
+            Some(Packet::Export(export_fields(part)))
         }
         IMPORT_SURFACE => {
             if size < IMPORT_SURFACE_SIZE {
-                return Reading::TooShort;
+                return None;
             }
-            Reading::Says(Packet::Import(import_fields(part)))
+            Some(Packet::Import(import_fields(part)))
         }
         RELEASE_TOKEN => {
             if size < RELEASE_TOKEN_SIZE {
-                return Reading::TooShort;
+                return None;
             }
-            Reading::Says(Packet::Release(release_fields(part)))
+            Some(Packet::Release(release_fields(part)))
         }
-        _ => Reading::Says(Packet::Unknown),
+        _ => Some(Packet::Unknown),
     }
 }

@@ -1,5 +1,5 @@
 -- A packet of the stream: what the reader asks for, and what a whole packet is known by. Assumes nothing.
-use Rattle.std.specs.Prelude.{◌≡◌, Bool, true, not, ◌||◌, List, ℕ, ◌+◌, ◌-◌, ◌/◌, ◌%◌, ◌≤◌, ◌<◌, eqb, length, take, drop}
+use Rattle.std.specs.Prelude.{◌≡◌, Bool, true, not, ◌||◌, List, ℕ, ◌+◌, ◌-◌, ◌/◌, ◌%◌, ◌≤◌, ◌<◌, eqb, length, take, drop, Err, None, Ok, Option, Result, Some}
 use Rattle.std.proofs.Math.Path.{refl}
 use Rattle.std.proofs.Common.{sym, ap, ◌∙◌, arith, rules, length-drop, length-take-le}
 use Rattle.std.proofs.Math.Bool.{false}
@@ -9,21 +9,13 @@ use Rattle.std.proofs.Math.Seq.{drop-drop}
 use Rattle.stream_opcodes.specs.Opcodes.{reading, none-known, known-none, says_nothing, part-short, part_says}
 use Rattle.rules.specs.Numbers.{bad_packet}
 use Rattle.rule_laws.specs.Fine.{all-kept}
-use Rattle.rules.specs.Judging.{refusal, rule, ◌▹◌}
+use Rattle.rules.specs.Judging.{refusal, rule, ◌▹◌, Verdict}
 use Rattle.rules.specs.Layouts.{word, packet_header_size}
 use Rattle.rules.specs.Lists.Found.{none}
-use Rattle.rules.specs.Stream.{known, least_size, frame_rules, framed, frame_of, packet_of}
+use Rattle.rules.specs.Stream.{known, least_size, frame_rules, framed, frame_of, packet_of, Frame}
 use Rattle.rules.specs.declared.Refusal.{Refusal}
-use Rattle.rules.specs.declared.Verdict.{Verdict}
-use Rattle.rules.specs.declared.Verdict.TheVariants.{Fine, Broken}
 use Rattle.rules.specs.declared.Packet.{Packet}
 use Rattle.rules.specs.declared.Packet.TheVariants.{Unknown}
-use Rattle.rules.specs.declared.Frame.{Frame}
-use Rattle.rules.specs.declared.Frame.TheVariants.{Whole, Misframed}
-use Rattle.stream_opcodes.specs.declared.Reading.{Reading}
-use Rattle.stream_opcodes.specs.declared.Reading.TheVariants.{TooShort, Says}
-use Rattle.stream_packets.specs.declared.framing.PacketRead.{PacketRead}
-use Rattle.stream_packets.specs.declared.framing.PacketRead.TheVariants.{Whole as WholePacket, Misframed as NoPacket}
 
 -- the frame of a packet whose header is there, from the number of bytes left and what the header says
 unfoldable pub frame_by : ℕ → ℕ → ℕ → Frame
@@ -61,13 +53,13 @@ pub ruleset judging_size = (past_end, small_size, odd-size, rules)
 -- the frame, by that test and by the opcode's
 module _ (left op size : ℕ) where
   by_tests : (a b c w : Bool) → b || (a || c) ≡ true
-      → framed (rule bad_packet a ▹ rule bad_packet c ▹ rule bad_packet b ▹ rule bad_packet w) op size ≡ Misframed (refusal bad_packet)
+      → framed (rule bad_packet a ▹ rule bad_packet c ▹ rule bad_packet b ▹ rule bad_packet w) op size ≡ Err (refusal bad_packet)
   by_tests true b c w h = refl
   by_tests false b true w h = refl
   by_tests false true false w h = refl
   by_tests false false false w h = absurd (let z : ◌≡◌ {A = ℕ} 0 1 = cc in omega arith)
 
-  pub frame-bad : misframed left size ≡ true → frame_by left op size ≡ Misframed (refusal bad_packet)
+  pub frame-bad : misframed left size ≡ true → frame_by left op size ≡ Err (refusal bad_packet)
   unfolding misframed frame_by
   frame-bad h = by_tests (ltb size packet_header_size) (ltb left size) (not (eqb (size % 4) 0)) (ltb size (least_size op)) h
 
@@ -94,7 +86,7 @@ module _ (left op size : ℕ) where
 -- ---- the frame of a packet whose header is there
 
 module _ (m : List ℕ) (at : ℕ) where
-  few : length m - at < packet_header_size → frame_of (drop at m) ≡ Misframed (refusal bad_packet)
+  few : length m - at < packet_header_size → frame_of (drop at m) ≡ Err (refusal bad_packet)
   unfolding frame_of frame_rules
   few h = rw (length-drop, lt-ltb (length m - at) packet_header_size h)
 
@@ -104,9 +96,9 @@ module _ (m : List ℕ) (at : ℕ) where
 
 -- ---- what a whole packet is known by
 
-framed-fine : (v : Verdict) (o s op size : ℕ) → framed v o s ≡ Whole op size → (v ≡ Fine) × ((o ≡ op) × (s ≡ size))
-framed-fine Fine o s op size e = (refl, (cc, cc))
-framed-fine (Broken r) o s op size e = let z : ◌≡◌ {A = ℕ} 0 1 = cc in absurd (omega arith)
+framed-fine : (v : Verdict) (o s op size : ℕ) → framed v o s ≡ Ok (op, size) → (v ≡ Ok tt) × ((o ≡ op) × (s ≡ size))
+framed-fine (Ok tt) o s op size e = (refl, (cc, cc))
+framed-fine (Err r) o s op size e = let z : ◌≡◌ {A = ℕ} 0 1 = cc in absurd (omega arith)
 
 pub record FrameFits (b : List ℕ) (op size : ℕ) : Type 0 where
   pub opcode : op ≡ word b 0
@@ -118,7 +110,7 @@ pub record FrameFits (b : List ℕ) (op size : ℕ) : Type 0 where
   pub known : least_size op ≤ size
 
 -- a whole packet has a header, ends within the bytes left, and has room for the fields of its opcode
-pub frame-sound : (b : List ℕ) (op size : ℕ) → frame_of b ≡ Whole op size → FrameFits b op size
+pub frame-sound : (b : List ℕ) (op size : ℕ) → frame_of b ≡ Ok (op, size) → FrameFits b op size
 unfolding frame_of frame_rules
 frame-sound b op size e =
     let f = framed-fine (frame_rules b) (word b 0) (word b 4) op size e in
@@ -144,23 +136,23 @@ pub part-is : (at size : ℕ) (m : List ℕ) → take (at + size - at) (drop at 
 part-is at size m = let n : at + size - at ≡ size = omega arith in rw n
 
 -- what the packet that some bytes begin with says
-abbrev pub packet_in : Frame → List ℕ → PacketRead
-packet_in (Whole op size) b = WholePacket size (packet_of op (take size b))
-packet_in (Misframed r) b = NoPacket r
+abbrev pub packet_in : Frame → List ℕ → Result (ℕ × Packet) Refusal
+packet_in (Ok (op, size)) b = Ok (size, (packet_of op (take size b)))
+packet_in (Err r) b = Err r
 
-unfoldable pub packet_read_at : List ℕ → PacketRead
+unfoldable pub packet_read_at : List ℕ → Result (ℕ × Packet) Refusal
 packet_read_at b = packet_in (frame_of b) b
 
 module _ (m : List ℕ) (at : ℕ) where
-  no-packet : (r : Refusal) → frame_of (drop at m) ≡ Misframed r → NoPacket r ≡ packet_read_at (drop at m)
+  no-packet : (r : Refusal) → frame_of (drop at m) ≡ Err r → Err r ≡ packet_read_at (drop at m)
   unfolding packet_read_at
   no-packet r h = rw h
 
-  pub short-stream : length m < packet_header_size → NoPacket (refusal bad_packet) ≡ packet_read_at (drop at m)
+  pub short-stream : length m < packet_header_size → Err (refusal bad_packet) ≡ packet_read_at (drop at m)
   short-stream h = no-packet (refusal bad_packet) (few m at (omega arith))
 
   module _ (long : packet_header_size ≤ length m) where
-    pub last-bytes : length m - packet_header_size < at → NoPacket (refusal bad_packet) ≡ packet_read_at (drop at m)
+    pub last-bytes : length m - packet_header_size < at → Err (refusal bad_packet) ≡ packet_read_at (drop at m)
     last-bytes h = no-packet (refusal bad_packet) (few m at (omega arith))
 
     module _ (here : at ≤ length m - packet_header_size) (op size : ℕ) (po : op ≡ word m at) (ps : size ≡ word m (at + 4)) (bad : Bool)
@@ -168,7 +160,7 @@ module _ (m : List ℕ) (at : ℕ) where
       header : frame_of (drop at m) ≡ frame_by (length m - at) op size
       header = frame-read m at op size (omega arith) po ps
 
-      pub bad-size : bad ≡ true → NoPacket (refusal bad_packet) ≡ packet_read_at (drop at m)
+      pub bad-size : bad ≡ true → Err (refusal bad_packet) ≡ packet_read_at (drop at m)
       bad-size h = no-packet (refusal bad_packet) (header ∙ frame-bad (length m - at) op size (sym is ∙ h))
 
       module _ (good : bad ≡ false) (room : ℕ) (same : room ≡ size) where
@@ -178,24 +170,24 @@ module _ (m : List ℕ) (at : ℕ) where
         pub part_room : at + room ≤ length m
         part_room = omega (arith, inside)
 
-        module _ (p : List ℕ) (own : p ≡ take room (drop at m)) (x : Reading) (says : x ≡ reading op p) where
+        module _ (p : List ℕ) (own : p ≡ take room (drop at m)) (x : Option Packet) (says : x ≡ reading op p) where
           long_as : length p ≡ size
           long_as = rw own (length-take-le room (drop at m) (rw length-drop (omega (arith, inside)))) ∙ same
 
           frame : frame_of (drop at m) ≡ framed (rule bad_packet (ltb size (least_size op))) op size
           frame = header ∙ frame-rest (length m - at) op size (sym is ∙ good)
 
-          pub short-packet : x ≡ TooShort → NoPacket (refusal bad_packet) ≡ packet_read_at (drop at m)
+          pub short-packet : x ≡ None → Err (refusal bad_packet) ≡ packet_read_at (drop at m)
           short-packet h =
               let short : ltb size (least_size op) ≡ true = rw long_as at (part-short op p x says h) in
               no-packet (refusal bad_packet) (rw short at frame)
 
-          pub whole-packet : (k : Packet) → x ≡ Says k → WholePacket size k ≡ packet_read_at (drop at m)
+          pub whole-packet : (k : Packet) → x ≡ Some k → Ok (size, k) ≡ packet_read_at (drop at m)
           unfolding packet_read_at
           whole-packet k h =
               let r : (ltb (length p) (least_size op) ≡ false) × (k ≡ packet_of op p) = part_says op p x says k h in
               let right : ltb size (least_size op) ≡ false = rw long_as at r.0 in
-              let whole : frame_of (drop at m) ≡ Whole op size = rw right at frame in
+              let whole : frame_of (drop at m) ≡ Ok (op, size) = rw right at frame in
               rw (whole, r.1, own, same)
 
 pub ruleset packet_reading = (part-is, short-stream, last-bytes, bad-size, part_room, short-packet, whole-packet, rules)
@@ -205,25 +197,25 @@ pub ruleset packet_reading = (part-is, short-stream, last-bytes, bad-size, part_
 module _ (b : List ℕ) where
   pub record WasWhole (size : ℕ) (k : Packet) : Type 0 where
     pub opcode : ℕ
-    pub frame : frame_of b ≡ Whole opcode size
+    pub frame : frame_of b ≡ Ok (opcode, size)
     pub says : k ≡ packet_of opcode (take size b)
 
-  by_whole : (f : Frame) → frame_of b ≡ f → (size : ℕ) (k : Packet) → packet_in f b ≡ WholePacket size k → WasWhole size k
-  by_whole (Whole op n) e size k h =
+  by_whole : (f : Frame) → frame_of b ≡ f → (size : ℕ) (k : Packet) → packet_in f b ≡ Ok (size, k) → WasWhole size k
+  by_whole (Ok (op, n)) e size k h =
       let same : n ≡ size = cc in
       let is : packet_of op (take n b) ≡ k = cc in
       record { opcode = op; frame = rw same at e; says = rw same at (sym is) }
-  by_whole (Misframed r) e size k h = absurd (let z : ◌≡◌ {A = ℕ} 0 1 = cc in omega arith)
+  by_whole (Err r) e size k h = absurd (let z : ◌≡◌ {A = ℕ} 0 1 = cc in omega arith)
 
-  pub was-whole : (x : PacketRead) → x ≡ packet_read_at b → (size : ℕ) (k : Packet) → x ≡ WholePacket size k → WasWhole size k
+  pub was-whole : (x : Result (ℕ × Packet) Refusal) → x ≡ packet_read_at b → (size : ℕ) (k : Packet) → x ≡ Ok (size, k) → WasWhole size k
   unfolding packet_read_at
   was-whole x is size k e = by_whole (frame_of b) refl size k (sym is ∙ e)
 
-  by-bad : (f : Frame) (r : Refusal) → packet_in f b ≡ NoPacket r → f ≡ Misframed r
-  by-bad (Whole op n) r h = absurd (let z : ◌≡◌ {A = ℕ} 0 1 = cc in omega arith)
-  by-bad (Misframed q) r h = let same : q ≡ r = cc in rw same
+  by-bad : (f : Frame) (r : Refusal) → packet_in f b ≡ Err r → f ≡ Err r
+  by-bad (Ok (op, n)) r h = absurd (let z : ◌≡◌ {A = ℕ} 0 1 = cc in omega arith)
+  by-bad (Err q) r h = let same : q ≡ r = cc in rw same
 
-  pub was-misframed : (x : PacketRead) → x ≡ packet_read_at b → (r : Refusal) → x ≡ NoPacket r → frame_of b ≡ Misframed r
+  pub was-misframed : (x : Result (ℕ × Packet) Refusal) → x ≡ packet_read_at b → (r : Refusal) → x ≡ Err r → frame_of b ≡ Err r
   unfolding packet_read_at
   was-misframed x is r e = by-bad (frame_of b) r (sym is ∙ e)
 
@@ -266,7 +258,7 @@ pub ruleset finding_block = (before-all, behind-all, in-first, in-second, in-thi
 
 -- a size that is not 0 is of a whole packet of an unknown opcode, smaller than the room
 pub record Passed (b : List ℕ) (at room size : ℕ) : Type 0 where
-  pub whole : (size ≡ 0 → ⊥) → frame_of (drop at b) ≡ Whole (word b at) size
+  pub whole : (size ≡ 0 → ⊥) → frame_of (drop at b) ≡ Ok ((word b at), size)
   pub nothing : (size ≡ 0 → ⊥) → Unknown ≡ packet_of (word b at) (take size (drop at b))
   pub within : (size ≡ 0 → ⊥) → size < room
 

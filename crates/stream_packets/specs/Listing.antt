@@ -1,14 +1,12 @@
 -- A reader that goes on by the frame's size meets the rule book's list of packets, and the part of memory that it is lent
 -- is the stream's own bytes. Assumes nothing.
-use Rattle.std.specs.Prelude.{◌≡◌, refl, List, [], ℕ, zero, suc, ◌+◌, ◌-◌, ◌≤◌, ◌<◌, ltb, length, take, drop}
+use Rattle.std.specs.Prelude.{◌≡◌, refl, List, [], ℕ, zero, suc, ◌+◌, ◌-◌, ◌≤◌, ◌<◌, ltb, length, take, drop, Err, Ok}
 use Rattle.std.proofs.Common.{◌∙◌, ⊎_elim, arith, eq-eqb, ne_eqb, lt-ltb, le-ltb, length-drop, drop-drop, length-take-le}
 use Rattle.machine.specs.Machine.{pick}
 use Rattle.words.specs.Over.{below_or_not}
 use Rattle.rules.specs.Layouts.{stream_header_size}
-use Rattle.rules.specs.Stream.{frame_of, Piece, size_of, before, cut, stream_bytes, left, packets_of}
+use Rattle.rules.specs.Stream.{frame_of, Piece, size_of, before, cut, stream_bytes, left, packets_of, Frame}
 use Rattle.rules.specs.declared.Stream.{Stream}
-use Rattle.rules.specs.declared.Frame.{Frame}
-use Rattle.rules.specs.declared.Frame.TheVariants.{Whole, Misframed}
 use Rattle.stream_packets.specs.Framing.{frame-sound}
 
 -- ---- the list of packets, one packet at a time
@@ -34,9 +32,9 @@ pub cut-none : (k : ℕ) (b : List ℕ) (at : ℕ) → length b ≤ at → cut k
 cut-none k b at h = cut-end k at (drop at b) (rw length-drop (omega arith))
 
 -- what is after a packet counts only where the packet is whole
-before_same : (at : ℕ) (f : Frame) (b : List ℕ) (x y : List Piece) → ((op size : ℕ) → f ≡ Whole op size → x ≡ y) → before at f b x ≡ before at f b y
-before_same at (Whole op size) b x y h = rw (h op size refl)
-before_same at (Misframed r) b x y h = refl
+before_same : (at : ℕ) (f : Frame) (b : List ℕ) (x y : List Piece) → ((op size : ℕ) → f ≡ Ok (op, size) → x ≡ y) → before at f b x ≡ before at f b y
+before_same at (Ok (op, size)) b x y h = rw (h op size refl)
+before_same at (Err r) b x y h = refl
 
 -- the first number does not matter where it is no less than the bytes
 pub cut-fuel : (k k' at : ℕ) (b : List ℕ) → length b ≤ k → length b ≤ k' → cut k at b ≡ cut k' at b

@@ -5,7 +5,7 @@ ghost use Rattle.stream_packets.specs.Framing.{misframed, in_blocks, packet_read
 
 use rules::numbers::{BAD_PACKET, CLEAR, CREATE_BUFFER, EXPORT_SURFACE, SET_TARGET};
 use rules::{Packet, Refusal};
-use stream_opcodes::{Reading, read_part};
+use stream_opcodes::read_part;
 use widths::u32_to_usize;
 use words::u32_at;
 
@@ -13,13 +13,6 @@ const PACKET_HEADER_SIZE: usize = rules::numbers::PACKET_HEADER_SIZE as usize;
 
 // The opcodes that we know stand in blocks of so many: resources', state's, the clear's and tokens'.
 const OPCODES_BLOCK: u32 = 8;
-
-// A packet of the stream: its size and what it says; or that no packet stands there.
-#[derive(Clone, Copy)]
-pub enum PacketRead {
-    Whole(u32, Packet),
-    Misframed(Refusal),
-}
 
 // Whether a packet of this size is none, whatever its opcode, where so many bytes are left.
 fn misframed(left: usize, size: u32) -> bool
@@ -94,24 +87,24 @@ pub fn packet_part(stream: &[u8], at: usize, size: usize) -> &[u8]
 
 // The packet at a place of the stream, whatever the bytes and the place are. Past the end no byte is left. Of the stream's length alone a
 // reader's loop asks once.
-pub fn packet_at(stream: &[u8], at: usize) -> PacketRead
+pub fn packet_at(stream: &[u8], at: usize) -> Result<(u32, Packet), Refusal>
     ensures { result ≡ packet_read_at (drop at stream.now) }
 {
     let end = stream.len();
     if end < PACKET_HEADER_SIZE {
-        return PacketRead::Misframed(Refusal { code: BAD_PACKET });
+        return Err(Refusal { code: BAD_PACKET });
     }
     if at > end - PACKET_HEADER_SIZE {
-        return PacketRead::Misframed(Refusal { code: BAD_PACKET }); // the last 1 to 7 bytes
+        return Err(Refusal { code: BAD_PACKET }); // the last 1 to 7 bytes
     }
     let left = end - at;
     let op = u32_at(stream, at);
     let size = u32_at(stream, at + 4);
     if misframed(left, size) {
-        return PacketRead::Misframed(Refusal { code: BAD_PACKET });
+        return Err(Refusal { code: BAD_PACKET });
     }
     match read_part(op, packet_part(stream, at, u32_to_usize(size))) {
-        Reading::TooShort => PacketRead::Misframed(Refusal { code: BAD_PACKET }),
-        Reading::Says(packet) => PacketRead::Whole(size, packet),
+        None => Err(Refusal { code: BAD_PACKET }),
+        Some(packet) => Ok((size, packet)),
     }
 }

@@ -10,7 +10,7 @@ ghost use Rattle.table_entries.specs.Entry.{sound as sound-entry};
 
 use kept_entries::{Entries, WORDS, entry_at, find_entry};
 use rules::numbers::{BAD_ENTRY, MOST_ROWS, TWICE_IN_TABLE};
-use rules::{Entry, Refusal, Table, Verdict};
+use rules::{Entry, Refusal, Table};
 use table_header::header::{ENTRY_SIZE, entry_offset};
 use widths::{beyond, u32_to_word};
 
@@ -28,20 +28,20 @@ pub fn sound(memory: u64, e: Entry) -> bool
 }
 
 // Judges an entry that was read, after `kept` that were kept.
-pub fn judge_entry(memory: u64, e: Entry, entries: &Entries, kept: usize) -> Verdict
+pub fn judge_entry(memory: u64, e: Entry, entries: &Entries, kept: usize) -> Result<(), Refusal>
     requires { kept ≤ most }
     ensures { result ≡ entry_rules memory (entries_of kept entries.now) e }
 {
     if !sound(memory, e) {
-        return Verdict::Broken(Refusal { code: BAD_ENTRY });
+        return Err(Refusal { code: BAD_ENTRY });
     }
     let place = find_entry(entries, kept, e.id);
     if place < kept {
-        return Verdict::Broken(Refusal {
+        return Err(Refusal {
             code: TWICE_IN_TABLE,
         });
     }
-    Verdict::Fine
+    Ok(())
 }
 
 // Keeps an entry after `kept` others.
@@ -59,25 +59,25 @@ fn push_entry(entries: &mut Entries, kept: usize, e: Entry)
 }
 
 // One step: judges the entry after the `kept` kept ones, over the memory lent at this step, and keeps it if it is fine.
-pub fn take_entry(mem: &[u8], t: Table, entries: &mut Entries, kept: usize) -> Verdict
+pub fn take_entry(mem: &[u8], t: Table, entries: &mut Entries, kept: usize) -> Result<(), Refusal>
     requires { kept ≤ most }
     ensures { taken_of result kept entries.new ≡ take_entry mem.now t (entries_of kept entries.old) }
 {
     let memory = mem.len() as u64;
     if kept >= MOST_ROWS {
-        return Verdict::Broken(Refusal { code: BAD_ENTRY });
+        return Err(Refusal { code: BAD_ENTRY });
     }
     let offset = entry_offset(t.stride, kept as u32);
     if beyond(t.gpa, offset + ENTRY_SIZE, memory) {
-        return Verdict::Broken(Refusal { code: BAD_ENTRY });
+        return Err(Refusal { code: BAD_ENTRY });
     }
     let e = entry_at(mem, (t.gpa + offset) as usize);
     let verdict = judge_entry(memory, e, entries, kept);
     match verdict {
-        Verdict::Fine => {
+        Ok(()) => {
             push_entry(entries, kept, e);
-            Verdict::Fine
+            Ok(())
         }
-        Verdict::Broken(why) => Verdict::Broken(why),
+        Err(why) => Err(why),
     }
 }

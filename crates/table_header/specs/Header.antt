@@ -1,9 +1,9 @@
 -- A table's header: what its reading and its judging ask, and what a fine one says. Assumes nothing.
-use Rattle.std.specs.Prelude.{◌≡◌, Bool, true, false, List, ℕ, ◌+◌, ◌*◌, ◌≤◌, ◌<◌, ltb}
+use Rattle.std.specs.Prelude.{◌≡◌, Bool, true, false, List, ℕ, ◌+◌, ◌*◌, ◌≤◌, ◌<◌, ltb, Err, Ok, Result}
 use Rattle.std.proofs.Common.{le_trans, rules}
 use borrow.Author.Tests.{lt-ltb, le-ltb, ltb-false}
 use Rattle.rules.specs.Numbers.{bad_table, too_many, most, table_magic}
-use Rattle.rules.specs.Judging.{refusal, rule}
+use Rattle.rules.specs.Judging.{refusal, rule, Verdict}
 use Rattle.rules.specs.Layouts.{word, table_header, table_header_size, entry_size}
 use Rattle.rules.specs.Headers.{wrong_header}
 use Rattle.rules.specs.Table.{header_rules, checked_table}
@@ -11,16 +11,12 @@ use Rattle.headers.specs.Header.{header-good}
 use Rattle.rules.specs.declared.Refusal.{Refusal}
 use Rattle.rules.specs.declared.Table.{Table}
 use Rattle.rules.specs.declared.TableHeader.{TableHeader}
-use Rattle.rules.specs.declared.Verdict.{Verdict}
-use Rattle.rules.specs.declared.Verdict.TheVariants.{Fine, Broken}
 use Rattle.rule_laws.specs.Fine.{fine-first, fine-later, kept_rule}
-use Rattle.table_header.specs.declared.header.CheckedTable.{CheckedTable}
-use Rattle.table_header.specs.declared.header.CheckedTable.TheVariants.{Good, Bad}
 
 -- the numbers of a good header are kept
-abbrev pub headed : Verdict → Table → CheckedTable
-headed Fine t = Good t
-headed (Broken r) t = Bad r
+abbrev pub headed : Verdict → Table → Result Table Refusal
+headed (Ok tt) t = Ok t
+headed (Err r) t = Err r
 
 -- ---- header_at
 
@@ -34,31 +30,31 @@ pub ruleset reading_header = (header_read, rules)
 -- ---- header_verdict
 
 module _ (tablesize : ℕ) (h : TableHeader) where
-  pub header-short : tablesize < table_header_size → Broken (refusal bad_table) ≡ header_rules tablesize h
+  pub header-short : tablesize < table_header_size → Err (refusal bad_table) ≡ header_rules tablesize h
   unfolding header_rules wrong_header
   header-short p = rw (lt-ltb _ _ p)
 
   module _ (wrong : Bool) (front : wrong ≡ wrong_header table_magic table_header_size tablesize h.magic h.version h.size) where
-    pub header-wrong : wrong ≡ true → Broken (refusal bad_table) ≡ header_rules tablesize h
+    pub header-wrong : wrong ≡ true → Err (refusal bad_table) ≡ header_rules tablesize h
     unfolding header_rules
     header-wrong p = rw (← front, p)
 
     module _ (right : wrong ≡ false) where
-      pub header-narrow : h.stride < entry_size → Broken (refusal bad_table) ≡ header_rules tablesize h
+      pub header-narrow : h.stride < entry_size → Err (refusal bad_table) ≡ header_rules tablesize h
       unfolding header_rules
       header-narrow p = rw (← front, right, lt-ltb _ _ p)
 
       module _ (wide : entry_size ≤ h.stride) (end : ℕ) (at : (end ≡ table_header_size + h.count * h.stride) × (end + 4294967296 ≤ 18446744073709551616)) where
-        pub header-crowded : h.size < end → Broken (refusal bad_table) ≡ header_rules tablesize h
+        pub header-crowded : h.size < end → Err (refusal bad_table) ≡ header_rules tablesize h
         unfolding header_rules
         header-crowded p = rw (← front, right, le-ltb _ _ wide, ← at.0, lt-ltb _ _ p)
 
         module _ (room : end ≤ h.size) where
-          pub header-many : most < h.count → Broken (refusal too_many) ≡ header_rules tablesize h
+          pub header-many : most < h.count → Err (refusal too_many) ≡ header_rules tablesize h
           unfolding header_rules
           header-many p = rw (← front, right, le-ltb _ _ wide, ← at.0, le-ltb _ _ room, lt-ltb _ _ p)
 
-          pub header-fine : h.count ≤ most → Fine ≡ header_rules tablesize h
+          pub header-fine : h.count ≤ most → Ok tt ≡ header_rules tablesize h
           unfolding header_rules
           header-fine p = rw (← front, right, le-ltb _ _ wide, ← at.0, le-ltb _ _ room, le-ltb _ _ p)
 
@@ -67,15 +63,15 @@ pub ruleset judging_header = (header-wrong, header-narrow, header-crowded, heade
 -- ---- check_header
 
 module _ (m : List ℕ) (at tablesize : ℕ) where
-  pub headed-short : tablesize < table_header_size → Bad (refusal bad_table) ≡ headed (header_rules tablesize (table_header m at)) (checked_table at (table_header m at))
+  pub headed-short : tablesize < table_header_size → Err (refusal bad_table) ≡ headed (header_rules tablesize (table_header m at)) (checked_table at (table_header m at))
   headed-short p = rw (← header-short tablesize (table_header m at) p)
 
   module _ (h : TableHeader) (read : h ≡ table_header m at) (v : Verdict) (judged : v ≡ header_rules tablesize h) where
-    pub headed-good : v ≡ Fine
-        → Good (record { gpa = at; count = h.count; stride = h.stride }) ≡ headed (header_rules tablesize (table_header m at)) (checked_table at (table_header m at))
+    pub headed-good : v ≡ Ok tt
+        → Ok (record { gpa = at; count = h.count; stride = h.stride }) ≡ headed (header_rules tablesize (table_header m at)) (checked_table at (table_header m at))
     headed-good told = rw (← read, ← judged, told)
 
-    pub headed-bad : (r : Refusal) → v ≡ Broken r → Bad r ≡ headed (header_rules tablesize (table_header m at)) (checked_table at (table_header m at))
+    pub headed-bad : (r : Refusal) → v ≡ Err r → Err r ≡ headed (header_rules tablesize (table_header m at)) (checked_table at (table_header m at))
     headed-bad r told = rw (← read, ← judged, told)
 
 pub ruleset checking_header = (headed-short, headed-good, headed-bad, rules)
@@ -87,7 +83,7 @@ pub record Sized (tablesize : ℕ) (h : TableHeader) : Type 0 where
   pub wide : entry_size ≤ h.stride
   pub room : table_header_size + h.count * h.stride ≤ tablesize
 
-pub fine-sized : (tablesize : ℕ) (h : TableHeader) → header_rules tablesize h ≡ Fine → Sized tablesize h
+pub fine-sized : (tablesize : ℕ) (h : TableHeader) → header_rules tablesize h ≡ Ok tt → Sized tablesize h
 unfolding header_rules
 fine-sized tablesize h fine =
     let front = wrong_header table_magic table_header_size tablesize h.magic h.version h.size in

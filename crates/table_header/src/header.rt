@@ -7,19 +7,12 @@ ghost use Rattle.table_header.specs.Header.{headed};
 
 use headers::wrong_header;
 use rules::numbers::{BAD_TABLE, MOST_ROWS, TABLE_HEADER_SIZE, TABLE_MAGIC, TOO_MANY};
-use rules::{Refusal, Table, TableHeader, Verdict};
+use rules::{Refusal, Table, TableHeader};
 
 // The bytes of a table's header and of an entry that are named; more may follow them.
 pub const HEADER_SIZE: u64 = TABLE_HEADER_SIZE as u64;
 
 pub const ENTRY_SIZE: u64 = rules::numbers::ENTRY_SIZE as u64;
-
-// How the check of a header ends: the numbers kept, or the rule broken.
-#[derive(Clone, Copy)]
-pub enum CheckedTable {
-    Good(Table),
-    Bad(Refusal),
-}
 
 // Reads each field once: what is judged is what is kept.
 fn header_at(mem: &[u8], at: usize) -> TableHeader
@@ -43,7 +36,7 @@ pub fn entry_offset(stride: u32, i: u32) -> u64
 }
 
 // Judges a header that was read, for a table of so many bytes.
-pub fn header_verdict(tablesize: u64, h: TableHeader) -> Verdict
+pub fn header_verdict(tablesize: u64, h: TableHeader) -> Result<(), Refusal>
     ensures { result ≡ header_rules tablesize h }
 {
     if wrong_header(
@@ -54,36 +47,36 @@ pub fn header_verdict(tablesize: u64, h: TableHeader) -> Verdict
         h.version,
         h.size,
     ) {
-        return Verdict::Broken(Refusal { code: BAD_TABLE });
+        return Err(Refusal { code: BAD_TABLE });
     }
     if (h.stride as u64) < ENTRY_SIZE {
-        return Verdict::Broken(Refusal { code: BAD_TABLE });
+        return Err(Refusal { code: BAD_TABLE });
     }
     let end = entry_offset(h.stride, h.count);
     if (h.size as u64) < end {
-        return Verdict::Broken(Refusal { code: BAD_TABLE });
+        return Err(Refusal { code: BAD_TABLE });
     }
     if (MOST_ROWS as u64) < h.count as u64 {
-        return Verdict::Broken(Refusal { code: TOO_MANY });
+        return Err(Refusal { code: TOO_MANY });
     }
-    Verdict::Fine
+    Ok(())
 }
 
 // Reads and judges the header of a table that lies within memory. A table too short for one is not read.
-pub fn check_header(mem: &[u8], at: usize, tablesize: u64) -> CheckedTable
+pub fn check_header(mem: &[u8], at: usize, tablesize: u64) -> Result<Table, Refusal>
     requires { at + tablesize ≤ length mem.now }
     ensures { result ≡ headed (header_rules tablesize (table_header mem.now at)) (checked_table at (table_header mem.now at)) }
 {
     if tablesize < HEADER_SIZE {
-        return CheckedTable::Bad(Refusal { code: BAD_TABLE });
+        return Err(Refusal { code: BAD_TABLE });
     }
     let h = header_at(mem, at);
     match header_verdict(tablesize, h) {
-        Verdict::Fine => CheckedTable::Good(Table {
+        Ok(()) => Ok(Table {
             gpa: at as u64,
             count: h.count,
             stride: h.stride,
         }),
-        Verdict::Broken(why) => CheckedTable::Bad(why),
+        Err(why) => Err(why),
     }
 }

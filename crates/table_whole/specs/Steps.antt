@@ -1,6 +1,6 @@
 -- Steps over still memory find in a table what the list of its entries says, at the same entry; and what the table's
 -- first error says of its bytes alone. Assumes nothing.
-use Rattle.std.specs.Prelude.{◌≡◌, true, List, [], ◌∷◌, length, take, drop}
+use Rattle.std.specs.Prelude.{◌≡◌, true, List, [], ◌∷◌, length, take, drop, Err, Ok}
 use Rattle.std.proofs.Math.Path.{refl}
 use Rattle.std.proofs.Common.{◌∙◌, ⊎_elim, zero-add, add_assoc, mul-le-mul_right, suc-mul, add-one, arith, lt-ltb, le-leb, length-append, length-drop, length-take-le}
 use Prim.Native.Nat.{ℕ, zero, suc, ◌+◌, ◌*◌, ◌≤◌, ◌<◌}
@@ -13,12 +13,11 @@ use Rattle.rules.specs.Table.{Judged, keep, entry_rules, entry_place, take_entry
 use Rattle.rules.specs.declared.Entry.{Entry}
 use Rattle.rules.specs.declared.Table.{Table}
 use Rattle.rules.specs.declared.TableHeader.{TableHeader}
-use Rattle.rules.specs.declared.Verdict.{Verdict}
-use Rattle.rules.specs.declared.Verdict.TheVariants.{Fine, Broken}
 use Rattle.words.specs.Over.{below_or_not}
 use Rattle.words.specs.Fields.{field-part}
 use Rattle.table_header.specs.Header.{Sized, fine-sized, header-short}
 use Rattle.table_whole.specs.Whole.{entries-more, length-entries}
+use Rattle.rules.specs.Judging.{Verdict}
 
 -- steps one after the other, n at most: the first broken rule with its place, and how many were taken up to and with it
 unfoldable pub stepped : List ℕ → Table → ℕ → List Entry → Judged
@@ -30,8 +29,8 @@ stepped m t (suc n) kept = stop_or_go (length kept) (take_entry m t kept).verdic
 -- whatever the verdict on an entry, the list goes on with what is kept
 go_on : (memory : ℕ) (kept : List Entry) (e : Entry) (es : List Entry) (v : Verdict)
     → stop_or_go (length kept) v (judge_entries memory (pushed kept e) es) ≡ stop_or_go (length kept) (keep v kept e).verdict (judge_entries memory (keep v kept e).kept es)
-go_on memory kept e es Fine = refl
-go_on memory kept e es (Broken r) = refl
+go_on memory kept e es (Ok tt) = refl
+go_on memory kept e es (Err r) = refl
 
 -- a step judges what the list judges next, and keeps what the list goes on with
 pub step-agrees : (m : List ℕ) (t : Table) (kept : List Entry) (n : ℕ) → in_reach m t (length kept) ≡ true
@@ -48,8 +47,8 @@ module _ (m : List ℕ) (t : Table) (n : ℕ) (kept : List Entry) (e : Entry)
     (later : stepped m t n (pushed kept e) ≡ judge_entries (length m) (pushed kept e) (entries_from m t (suc (length kept)) n)) where
   by-verdict : (v : Verdict) → stop_or_go (length kept) (keep v kept e).verdict (stepped m t n (keep v kept e).kept)
       ≡ stop_or_go (length kept) v (judge_entries (length m) (pushed kept e) (entries_from m t (suc (length kept)) n))
-  by-verdict Fine = rw later
-  by-verdict (Broken r) = refl
+  by-verdict (Ok tt) = rw later
+  by-verdict (Err r) = refl
 
 -- steps find the broken rule that the list of the entries has first, and spend its count
 pub steps-agree : (m : List ℕ) (t : Table) (n : ℕ) (kept : List Entry)
@@ -66,11 +65,11 @@ steps-agree m t (suc n) kept reach =
 
 -- as long as all is fine, what is kept are the table's first entries
 module _ (m : List ℕ) (t : Table) (i : ℕ) (reach : in_reach m t i ≡ true) where
-  keeps-one : (kept : List Entry) (e : Entry) (v : Verdict) → (keep v kept e).verdict ≡ Fine → (keep v kept e).kept ≡ pushed kept e
-  keeps-one kept e Fine h = refl
-  keeps-one kept e (Broken r) h = let z : ◌≡◌ {A = ℕ} 0 1 = cc in absurd (omega arith)
+  keeps-one : (kept : List Entry) (e : Entry) (v : Verdict) → (keep v kept e).verdict ≡ Ok tt → (keep v kept e).kept ≡ pushed kept e
+  keeps-one kept e (Ok tt) h = refl
+  keeps-one kept e (Err r) h = let z : ◌≡◌ {A = ℕ} 0 1 = cc in absurd (omega arith)
 
-  pub steps-keep : (take_entry m t (entries_from m t 0 i)).verdict ≡ Fine → (take_entry m t (entries_from m t 0 i)).kept ≡ entries_from m t 0 (i + 1)
+  pub steps-keep : (take_entry m t (entries_from m t 0 i)).verdict ≡ Ok tt → (take_entry m t (entries_from m t 0 i)).kept ≡ entries_from m t 0 (i + 1)
   unfolding take_entry
   steps-keep h =
       rw (length-entries m t 0 i, reach, entries-more m t i)
@@ -84,7 +83,7 @@ sized-room : (tablesize : ℕ) (h : TableHeader) (i : ℕ) → Sized tablesize h
 sized-room tablesize h i s p = omega (arith, s.room, s.wide, mul-le-mul_right h.stride p, suc-mul i h.stride)
 
 -- and each is in reach of the steps
-pub checked-in-reach : (m : List ℕ) (at tablesize : ℕ) (h : TableHeader) → header_rules tablesize h ≡ Fine → at + tablesize ≤ length m
+pub checked-in-reach : (m : List ℕ) (at tablesize : ℕ) (h : TableHeader) → header_rules tablesize h ≡ Ok tt → at + tablesize ≤ length m
     → (i : ℕ) → i < h.count → in_reach m (checked_table at h) i ≡ true
 checked-in-reach m at tablesize h good room i p =
     let s : Sized tablesize h = fine-sized tablesize h good in
@@ -135,8 +134,8 @@ module _ (m : List ℕ) (at tablesize : ℕ) (room : at + tablesize ≤ length m
   module _ (h : TableHeader) where
     judged-same : (v : Verdict) → header_rules tablesize h ≡ v
         → after_header v (judge_entries (length m) [] (entries_of bytes (checked_table 0 h))).finding ≡ after_header v (stepped m (checked_table at h) h.count []).finding
-    judged-same (Broken r) e = refl
-    judged-same Fine e =
+    judged-same (Err r) e = refl
+    judged-same (Ok tt) e =
         rw (
           steps-agree m (checked_table at h) h.count [] (λ k p q. checked-in-reach m at tablesize h e room k (omega arith)),
           entries-same h (fine-sized tablesize h e) 0 h.count (omega arith),

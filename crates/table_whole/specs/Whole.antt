@@ -1,5 +1,5 @@
 -- The table as a list: its entries one after the other, and what the scan of the whole asks. Assumes nothing.
-use Rattle.std.specs.Prelude.{◌≡◌, Bool, true, false, not, length}
+use Rattle.std.specs.Prelude.{◌≡◌, Bool, true, false, not, length, Err, Ok, Result}
 use Rattle.std.proofs.Math.Path.{refl, sym, ap}
 use Rattle.std.proofs.Common.{◌∙◌, zero-add, mul-le-mul_right, suc-mul, mod-eq_of_lt, add-one, arith, rules}
 use mathlib.Core.List.{List, [], ◌∷◌}
@@ -8,21 +8,17 @@ use Rattle.std.proofs.Math.Nat.{sub-zero}
 use Rattle.std.proofs.lemmas.Bool.{not-true, not-false}
 use Rattle.rules.specs.Numbers.{bad_entry, twice_in_table, most, no_place}
 use Rattle.rules.specs.Lists.{pushed}
-use Rattle.rules.specs.Judging.{Finding, rule, number, place_of}
+use Rattle.rules.specs.Judging.{Finding, rule, number, place_of, Verdict}
 use Rattle.rules.specs.Layouts.{word, entry, entry_size, table_header, table_header_size}
 use Rattle.rules.specs.Table.{entry_id, matching, is_found, entry_rules, entry_place, entries_from, entries_of, stop_or_go, judge_entries, header_rules, checked_table, table_finding}
 use Rattle.rules.specs.declared.Entry.{Entry}
 use Rattle.rules.specs.declared.Refusal.{Refusal}
 use Rattle.rules.specs.declared.Fault.{Fault}
 use Rattle.rules.specs.declared.Table.{Table}
-use Rattle.rules.specs.declared.Verdict.{Verdict}
-use Rattle.rules.specs.declared.Verdict.TheVariants.{Fine, Broken}
 use Rattle.rows.specs.Rows.{tab, tab-first, tab-none, tab-snoc}
 use Rattle.rows.specs.Keys.{lookup-here, lookup-later, lookup-nil}
 use Rattle.table_header.specs.Header.{headed, Sized, fine-sized}
 use Rattle.table_entries.specs.Entry.{sound, unsound, sound-once}
-use Rattle.table_header.specs.declared.header.CheckedTable.{CheckedTable}
-use Rattle.table_header.specs.declared.header.CheckedTable.TheVariants.{Good, Bad}
 
 -- what was found, as a host is shown it: number and place
 abbrev pub shown : Finding → Fault
@@ -142,24 +138,24 @@ pub ruleset scanning = (entry-room, id-room, scan-start, scan-end, sought_start,
 -- ---- first_fault
 
 -- what the end of a header's check says of its rules
-bad-rules : (v : Verdict) (t : Table) (why : Refusal) → headed v t ≡ Bad why → v ≡ Broken why
-bad-rules Fine t why e = let z : ◌≡◌ {A = ℕ} 0 1 = cc in absurd (omega arith)
-bad-rules (Broken x) t why e = cc
+bad-rules : (v : Verdict) (t : Table) (why : Refusal) → headed v t ≡ Err why → v ≡ Err why
+bad-rules (Ok tt) t why e = let z : ◌≡◌ {A = ℕ} 0 1 = cc in absurd (omega arith)
+bad-rules (Err x) t why e = cc
 
-good-rules : (v : Verdict) (t t' : Table) → headed v t ≡ Good t' → (v ≡ Fine) × (t' ≡ t)
-good-rules Fine t t' e = (refl, cc)
-good-rules (Broken x) t t' e = let z : ◌≡◌ {A = ℕ} 0 1 = cc in absurd (omega arith)
+good-rules : (v : Verdict) (t t' : Table) → headed v t ≡ Ok t' → (v ≡ Ok tt) × (t' ≡ t)
+good-rules (Ok tt) t t' e = (refl, cc)
+good-rules (Err x) t t' e = let z : ◌≡◌ {A = ℕ} 0 1 = cc in absurd (omega arith)
 
-module _ (b : List ℕ) (memory : ℕ) (r : CheckedTable) (checked : r ≡ headed (header_rules (length b) (table_header b 0)) (checked_table 0 (table_header b 0))) where
-  pub first-in-header : (why : Refusal) → r ≡ Bad why → record { code = why.code; place = no_place } ≡ shown (table_finding b memory)
+module _ (b : List ℕ) (memory : ℕ) (r : Result Table Refusal) (checked : r ≡ headed (header_rules (length b) (table_header b 0)) (checked_table 0 (table_header b 0))) where
+  pub first-in-header : (why : Refusal) → r ≡ Err why → record { code = why.code; place = no_place } ≡ shown (table_finding b memory)
   unfolding table_finding
   first-in-header why told =
-      let e : header_rules (length b) (table_header b 0) ≡ Broken why =
+      let e : header_rules (length b) (table_header b 0) ≡ Err why =
       bad-rules (header_rules (length b) (table_header b 0)) (checked_table 0 (table_header b 0)) why (sym checked ∙ told) in
       rw e
 
-  module _ (t : Table) (told : r ≡ Good t) where
-    both : (header_rules (length b) (table_header b 0) ≡ Fine) × (t ≡ checked_table 0 (table_header b 0))
+  module _ (t : Table) (told : r ≡ Ok t) where
+    both : (header_rules (length b) (table_header b 0) ≡ Ok tt) × (t ≡ checked_table 0 (table_header b 0))
     both = good-rules (header_rules (length b) (table_header b 0)) (checked_table 0 (table_header b 0)) t (sym checked ∙ told)
 
     pub within-bytes : Within b t

@@ -8,7 +8,7 @@ use kept_entries::entry_at;
 use rules::numbers::{BAD_ENTRY, TWICE_IN_TABLE};
 use rules::{Fault, Table};
 use table_entries::entry::sound;
-use table_header::header::{CheckedTable, check_header, entry_offset};
+use table_header::header::{check_header, entry_offset};
 
 // The first fault among the entries of a checked table that stands at the front of `table`: number and index, both 0 for none.
 fn entries_fault(table: &[u8], memory: u64, t: Table) -> Fault
@@ -51,8 +51,8 @@ pub fn first_fault(table: &[u8], memory: u64) -> Fault
     ensures { result ≡ shown (table_finding table.now memory) }
 {
     match check_header(table, 0, table.len() as u64) {
-        CheckedTable::Good(t) => entries_fault(table, memory, t),
-        CheckedTable::Bad(why) => Fault {
+        Ok(t) => entries_fault(table, memory, t),
+        Err(why) => Fault {
             code: why.code,
             place: 0,
         },

@@ -1,11 +1,10 @@
 -- Whole layers and the mips after them, as the code works them out: the texture's bytes, and the start of a part.
 -- Assumes nothing.
-use Rattle.std.specs.Prelude.{◌≡◌, Bool, false, not, ℕ, ◌+◌, ◌*◌, ◌/◌, ◌%◌, ◌<◌}
+use Rattle.std.specs.Prelude.{◌≡◌, Bool, false, not, ℕ, ◌+◌, ◌*◌, ◌/◌, ◌%◌, ◌<◌, Some}
 use Rattle.std.proofs.Common.{sym, ap, ◌∙◌, le_refl, le_of_lt, mul_comm, div-add-mod', rules}
 use borrow.Author.Tests.{not-false, lt-ltb}
 use Rattle.rules.specs.Shapes.{offset_of, subresources, good_backed, start_of}
 use Rattle.rules.specs.declared.Shape.{Shape}
-use Rattle.rules.specs.declared.Start.TheVariants.{At}
 use Rattle.texture_sizes.specs.Layers.{offset-of-mip}
 use Rattle.texture_sizes.specs.Places.{bad-is-nowhere, count_fits, good-limits, layer_fits, layers-before-fit, mip-within, past-is-nowhere, some-mips, start_fits}
 
@@ -16,7 +15,7 @@ module _ (s : Shape) (p : ℕ) where
   module _ (b : Bool) (e : b ≡ good_backed s p) where
     module _ (n : not b ≡ false) where
       module _ (o : ℕ) (f : o ≡ offset_of s p s.mips) where
-        pub start-found : (i q : ℕ) → q ≡ offset_of s p (i % s.mips) → i < subresources s → At (o * (i / s.mips) + q) ≡ start_of s p i
+        pub start-found : (i q : ℕ) → q ≡ offset_of s p (i % s.mips) → i < subresources s → Some (o * (i / s.mips) + q) ≡ start_of s p i
         unfolding start_of
         start-found i q g k = rw (← e, not-false b n, lt-ltb i (subresources s) k, split-place i o q f g)
 

@@ -1,6 +1,6 @@
 -- Whole layers and the mips after them, as the code works them out: the texture's bytes, and the start of a part.
 -- Assumes nothing.
-use Rattle.std.specs.Prelude.{◌≡◌, Bool, true, false, not, ℕ, ◌+◌, ◌*◌, ◌/◌, ◌%◌, ◌^◌, ◌≤◌, ◌<◌}
+use Rattle.std.specs.Prelude.{◌≡◌, Bool, true, false, not, ℕ, ◌+◌, ◌*◌, ◌/◌, ◌%◌, ◌^◌, ◌≤◌, ◌<◌, None}
 use Rattle.std.proofs.Common.{sym, ◌∙◌, le_refl, le_trans, mul-le-mul, mul_comm, mod-lt, div-le_self, arith, rules}
 use Rattle.std.proofs.Math.Bool.{and-false}
 use Rattle.std.proofs.Math.Nat.{div-le_of_le-mul}
@@ -8,13 +8,12 @@ use borrow.Author.Tests.{not-true, not-false, le-ltb}
 use Rattle.rules.specs.Numbers.{most_layers}
 use Rattle.rules.specs.Shapes.{offset_of, subresources, good_backed, texture_bytes, packed_size, start_of}
 use Rattle.rules.specs.declared.Shape.{Shape}
-use Rattle.rules.specs.declared.Start.TheVariants.{Nowhere}
 use Rattle.texture_shapes.specs.Bounds.{Bounded, longest_chain, most_of_mip, few-subresources}
 use Rattle.texture_sizes.specs.Layers.{offset-of-layer}
 use Rattle.texture_sizes.specs.Packed.{backed-limits, packed-bad, packed-good}
 
 module _ (s : Shape) (p : ℕ) where
-  pub past-is-nowhere : (i : ℕ) → subresources s ≤ i → Nowhere ≡ start_of s p i
+  pub past-is-nowhere : (i : ℕ) → subresources s ≤ i → None ≡ start_of s p i
   unfolding start_of
   past-is-nowhere i h = rw (le-ltb i (subresources s) h, and-false)
 
@@ -22,7 +21,7 @@ module _ (s : Shape) (p : ℕ) where
     pub bad-is-nothing : not b ≡ true → 0 ≡ packed_size s p
     bad-is-nothing n = sym (packed-bad s p (sym e ∙ not-true b n))
 
-    pub bad-is-nowhere : (i : ℕ) → not b ≡ true → Nowhere ≡ start_of s p i
+    pub bad-is-nowhere : (i : ℕ) → not b ≡ true → None ≡ start_of s p i
     unfolding start_of
     bad-is-nowhere i n = rw (← e, not-true b n)
 

@@ -6,7 +6,7 @@ ghost use Rattle.std.specs.Prelude.{◌≡◌, ◌*◌, ◌≤◌, ◌<◌};
 ghost use Rattle.rules.specs.Shapes.{mip_bytes, offset_of, packed_size, start_of};
 ghost use Rattle.texture_shapes.specs.Bounds.{Bounded, most_of_mip};
 
-use rules::{Shape, Start};
+use rules::Shape;
 use texture_shapes::formats::{blocks_of, side_at, tight_row};
 use texture_shapes::good_backed;
 
@@ -61,17 +61,17 @@ pub fn packed_size(format: u32, width: u32, height: u32, mips: u32, layers: u32,
 }
 
 // Where a subresource starts in its texture's bytes; the mips of a layer follow each other, then the next layer.
-pub fn subresource_start(s: Shape, pitch: u32, index: u32) -> Start
+pub fn subresource_start(s: Shape, pitch: u32, index: u32) -> Option<u64>
     ensures { result ≡ start_of s pitch index }
 {
     if !good_backed(s, pitch) {
-        return Start::Nowhere;
+        return None;
     }
     if index >= s.layers * s.mips {
-        return Start::Nowhere;
+        return None;
     }
     let layer = index / s.mips;
     let mip = index % s.mips;
     let layers_before = bytes_below(s, pitch, s.mips) * (layer as u64);
-    Start::At(layers_before + bytes_below(s, pitch, mip))
+    Some(layers_before + bytes_below(s, pitch, mip))
 }

@@ -2,8 +2,8 @@
 use Rattle.diff_calls.specs.Calls.{asking_class}
 use Rattle.diff_calls.proofs.class_of.Goals as goal
 
-pub returns-in-Refused : goal.returns-in-Refused
-returns-in-Refused c = search asking_class
+pub returns-in-Err : goal.returns-in-Err
+returns-in-Err c = search asking_class
 
-pub returns-in-Valid : goal.returns-in-Valid
-returns-in-Valid c = search asking_class
+pub returns-in-Ok : goal.returns-in-Ok
+returns-in-Ok c = search asking_class

@@ -5,8 +5,8 @@ use Rattle.diff_pairs.proofs.compare.Goals as goal
 pub returns-then-u32_at : goal.returns-then-u32_at
 returns-then-u32_at c = search comparing
 
-pub returns-in-At : goal.returns-in-At
-returns-in-At c = search comparing
+pub returns-in-Some : goal.returns-in-Some
+returns-in-Some c = search comparing
 
-pub returns-in-Nowhere : goal.returns-in-Nowhere
-returns-in-Nowhere c = search comparing
+pub returns-in-None : goal.returns-in-None
+returns-in-None c = search comparing

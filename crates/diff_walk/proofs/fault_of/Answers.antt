@@ -5,8 +5,8 @@ use Rattle.diff_walk.proofs.fault_of.Goals as goal
 pub slice_bounds-packets_fault-end : goal.slice_bounds-packets_fault-end
 slice_bounds-packets_fault-end c = search heading
 
-pub returns-in-Bad : goal.returns-in-Bad
-returns-in-Bad c = search heading
+pub returns-in-Err : goal.returns-in-Err
+returns-in-Err c = search heading
 
-pub returns-in-Good : goal.returns-in-Good
-returns-in-Good c = search heading
+pub returns-in-Ok : goal.returns-in-Ok
+returns-in-Ok c = search heading

@@ -2,8 +2,8 @@
 use Rattle.diff_walk.specs.Walk.{sizing}
 use Rattle.diff_walk.proofs.size_at.Goals as goal
 
-pub returns-in-Misframed : goal.returns-in-Misframed
-returns-in-Misframed c = search sizing
+pub returns-in-Err : goal.returns-in-Err
+returns-in-Err c = search sizing
 
-pub returns-in-Whole : goal.returns-in-Whole
-returns-in-Whole c = search sizing
+pub returns-in-Ok : goal.returns-in-Ok
+returns-in-Ok c = search sizing

@@ -12,8 +12,8 @@ slice_bounds-put_packets-end c = search going_dump
 pub put_packets-requires : goal.put_packets-requires
 put_packets-requires c = search going_dump
 
-pub returns-in-Bad : goal.returns-in-Bad
-returns-in-Bad c = search going_dump
+pub returns-in-Err : goal.returns-in-Err
+returns-in-Err c = search going_dump
 
-pub returns-in-Good : goal.returns-in-Good
-returns-in-Good c = search (good-put, rules)
+pub returns-in-Ok : goal.returns-in-Ok
+returns-in-Ok c = search (good-put, rules)

@@ -8,11 +8,11 @@ returns-then-ample c = search fitting
 pub put_error-requires : goal.put_error-requires
 put_error-requires c = search fitting
 
-pub slice_bounds-packets_fit-end-in-Good : goal.slice_bounds-packets_fit-end-in-Good
-slice_bounds-packets_fit-end-in-Good c = search fitting
+pub slice_bounds-packets_fit-end-in-Ok : goal.slice_bounds-packets_fit-end-in-Ok
+slice_bounds-packets_fit-end-in-Ok c = search fitting
 
-pub returns-in-Bad : goal.returns-in-Bad
-returns-in-Bad c = search fitting
+pub returns-in-Err : goal.returns-in-Err
+returns-in-Err c = search fitting
 
-pub returns-in-Good : goal.returns-in-Good
-returns-in-Good c = search fitting
+pub returns-in-Ok : goal.returns-in-Ok
+returns-in-Ok c = search fitting

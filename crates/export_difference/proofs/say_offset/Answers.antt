@@ -2,8 +2,8 @@
 use Rattle.export_difference.specs.Saying.{saying_offset}
 use Rattle.export_difference.proofs.say_offset.Goals as goal
 
-pub returns-in-At : goal.returns-in-At
-returns-in-At c = search saying_offset
+pub returns-in-Some : goal.returns-in-Some
+returns-in-Some c = search saying_offset
 
-pub returns-in-Nowhere : goal.returns-in-Nowhere
-returns-in-Nowhere c = search saying_offset
+pub returns-in-None : goal.returns-in-None
+returns-in-None c = search saying_offset

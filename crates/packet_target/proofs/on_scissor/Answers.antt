@@ -2,8 +2,8 @@
 use Rattle.packet_target.specs.Target.{cutting}
 use Rattle.packet_target.proofs.on_scissor.Goals as goal
 
-pub returns-in-Nothing : goal.returns-in-Nothing
-returns-in-Nothing c = search cutting
+pub returns-in-None : goal.returns-in-None
+returns-in-None c = search cutting
 
-pub returns-in-At : goal.returns-in-At
-returns-in-At c = search cutting
+pub returns-in-Some : goal.returns-in-Some
+returns-in-Some c = search cutting

@@ -2,8 +2,8 @@
 use Rattle.packet_target.specs.Target.{targeting}
 use Rattle.packet_target.proofs.on_target.Goals as goal
 
-pub returns-in-Nothing : goal.returns-in-Nothing
-returns-in-Nothing c = search targeting
+pub returns-in-None : goal.returns-in-None
+returns-in-None c = search targeting
 
-pub returns-in-At : goal.returns-in-At
-returns-in-At c = search targeting
+pub returns-in-Some : goal.returns-in-Some
+returns-in-Some c = search targeting

@@ -5,8 +5,8 @@ use Rattle.run_packets.proofs.step_packet.Goals as goal
 pub overflow_add-next : goal.overflow_add-next
 overflow_add-next c = search stepping_packet
 
-pub returns-in-Misframed : goal.returns-in-Misframed
-returns-in-Misframed c = search stepping_packet
+pub returns-in-Err : goal.returns-in-Err
+returns-in-Err c = search stepping_packet
 
-pub returns-in-Whole : goal.returns-in-Whole
-returns-in-Whole c = search stepping_packet
+pub returns-in-Ok : goal.returns-in-Ok
+returns-in-Ok c = search stepping_packet

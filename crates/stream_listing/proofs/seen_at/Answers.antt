@@ -8,8 +8,8 @@ u32_at-op-requires c = search seeing
 pub returns-then-unknown : goal.returns-then-unknown
 returns-then-unknown c = search seeing
 
-pub returns-in-Misframed : goal.returns-in-Misframed
-returns-in-Misframed c = search seeing
+pub returns-in-Err : goal.returns-in-Err
+returns-in-Err c = search seeing
 
 pub returns-else-unknown : goal.returns-else-unknown
 returns-else-unknown c = search seeing

@@ -14,8 +14,8 @@ returns-then-misframed c = search packet_reading
 pub packet_part-requires : goal.packet_part-requires
 packet_part-requires c = search packet_reading
 
-pub returns-in-TooShort : goal.returns-in-TooShort
-returns-in-TooShort c = search packet_reading
+pub returns-in-None : goal.returns-in-None
+returns-in-None c = search packet_reading
 
-pub returns-in-Says : goal.returns-in-Says
-returns-in-Says c = search packet_reading
+pub returns-in-Some : goal.returns-in-Some
+returns-in-Some c = search packet_reading

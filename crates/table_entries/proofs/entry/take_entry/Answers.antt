@@ -17,8 +17,8 @@ entry_at-e-requires c = search taking
 pub push_entry-requires : goal.push_entry-requires
 push_entry-requires c = search taking
 
-pub returns-in-Fine : goal.returns-in-Fine
-returns-in-Fine c = search taking
+pub returns-in-Ok : goal.returns-in-Ok
+returns-in-Ok c = search taking
 
-pub returns-in-Broken : goal.returns-in-Broken
-returns-in-Broken c = search taking
+pub returns-in-Err : goal.returns-in-Err
+returns-in-Err c = search taking

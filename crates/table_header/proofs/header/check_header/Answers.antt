@@ -5,8 +5,8 @@ use Rattle.table_header.proofs.header.check_header.Goals as goal
 pub returns-then-tablesize-lt-HEADER_SIZE : goal.returns-then-tablesize-lt-HEADER_SIZE
 returns-then-tablesize-lt-HEADER_SIZE c = search checking_header
 
-pub returns-in-Fine : goal.returns-in-Fine
-returns-in-Fine c = search checking_header
+pub returns-in-Ok : goal.returns-in-Ok
+returns-in-Ok c = search checking_header
 
-pub returns-in-Broken : goal.returns-in-Broken
-returns-in-Broken c = search checking_header
+pub returns-in-Err : goal.returns-in-Err
+returns-in-Err c = search checking_header

@@ -5,8 +5,8 @@ use Rattle.table_whole.proofs.whole.first_fault.Goals as goal
 pub entries_fault-requires : goal.entries_fault-requires
 entries_fault-requires c = search first_fault_of
 
-pub returns-in-Good : goal.returns-in-Good
-returns-in-Good c = search first_fault_of
+pub returns-in-Ok : goal.returns-in-Ok
+returns-in-Ok c = search first_fault_of
 
-pub returns-in-Bad : goal.returns-in-Bad
-returns-in-Bad c = search first_fault_of
+pub returns-in-Err : goal.returns-in-Err
+returns-in-Err c = search first_fault_of
