@@ -5,7 +5,6 @@ ghost use Rattle.std.specs.Prelude.{◌≡◌, ◌+◌, ◌≤◌, min, max, len
 ghost use Rattle.rules.specs.Difference.{differing, next_from};
 ghost use Rattle.diff_bytes.specs.Differing.{differs_at, from_offset, SameEight};
 
-use rules::Option<usize>;
 use words::u64_at;
 
 fn longer(a: &[u8], b: &[u8]) -> usize

@@ -12,19 +12,21 @@ use Rattle.rules.specs.declared.Pair.{Pair}
 use Rattle.diff_walk.specs.Walk.{packets_from, some-packet}
 use Rattle.diff_walk.specs.Own.{own-packets}
 use Rattle.rules.specs.declared.RefusedStream.{RefusedStream}
+use Rattle.rules.specs.Judging.{Verdict}
+use Rattle.rules.specs.declared.Refusal.{Refusal}
 
 -- ---- check
 
-module _ (m n x : ℕ) (p : x ≡ m) where
-  pub refused-first : (x ≡ 0 → ⊥) → Err (refused_stream x 1) ≡ checked m n
-  refused-first k = rw (← p, ne_eqb x 0 k)
+module _ (m n x : Verdict) (p : x ≡ m) where
+  pub refused-first : (r : Refusal) → x ≡ Err r → Err (refused_stream r 1) ≡ checked m n
+  refused-first r k = rw (← p, k)
 
-  module _ (e : x ≡ 0) (y : ℕ) (q : y ≡ n) where
-    pub refused-second : (y ≡ 0 → ⊥) → Err (refused_stream y 2) ≡ checked m n
-    refused-second k = rw (← p, ← q, eq-eqb x 0 e, ne_eqb y 0 k)
+  module _ (e : x ≡ Ok tt) (y : Verdict) (q : y ≡ n) where
+    pub refused-second : (r : Refusal) → y ≡ Err r → Err (refused_stream r 2) ≡ checked m n
+    refused-second r k = rw (← p, ← q, e, k)
 
-    pub valid : y ≡ 0 → Ok tt ≡ checked m n
-    valid f = rw (← p, ← q, eq-eqb x 0 e, eq-eqb y 0 f)
+    pub valid : y ≡ Ok tt → Ok tt ≡ checked m n
+    valid f = rw (← p, ← q, e, f)
 
 pub ruleset checking = (refused-first, refused-second, valid, rules)
 

@@ -15,13 +15,11 @@ const STREAM_HEADER_SIZE: usize = rules::numbers::STREAM_HEADER_SIZE as usize;
 pub fn check(first: &[u8], second: &[u8]) -> Result<(), RefusedStream>
     ensures { result ≡ check first.now second.now }
 {
-    let a = fault_of(first);
-    if a != 0 {
-        return Err(RefusedStream { code: a, which: 1 });
+    if let Err(why) = fault_of(first) {
+        return Err(RefusedStream { why, which: 1 });
     }
-    let b = fault_of(second);
-    if b != 0 {
-        return Err(RefusedStream { code: b, which: 2 });
+    if let Err(why) = fault_of(second) {
+        return Err(RefusedStream { why, which: 2 });
     }
     Ok(())
 }

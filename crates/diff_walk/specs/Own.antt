@@ -18,11 +18,11 @@ use Rattle.rules.specs.Judging.{Verdict}
 
 module _ (b : List ℕ) (n : ℕ) (all_of : n ≡ length b) (x : Result Stream Refusal) (is : x ≡ begun (stream_rules n (stream_header b 0)) (stream_of 0 (stream_header b 0))) where
   by-bad : (v : Verdict) (st : Stream) (r : Refusal) → begun v st ≡ Err r → v ≡ Err r
-  by-bad (Ok tt) st r e = absurd (let z : ◌≡◌ {A = ℕ} 0 1 = cc in omega arith)
+  by-bad (Ok _) st r e = absurd (let z : ◌≡◌ {A = ℕ} 0 1 = cc in omega arith)
   by-bad (Err q) st r e = let p : q ≡ r = cc in rw p
 
   by_good : (v : Verdict) (st st' : Stream) → begun v st ≡ Ok st' → (v ≡ Ok tt) × (st ≡ st')
-  by_good (Ok tt) st st' e = (refl, cc)
+  by_good (Ok _) st st' e = (refl, cc)
   by_good (Err r) st st' e = absurd (let z : ◌≡◌ {A = ℕ} 0 1 = cc in omega arith)
 
   module _ (r : Refusal) (e : x ≡ Err r) where
@@ -32,7 +32,7 @@ module _ (b : List ℕ) (n : ℕ) (all_of : n ≡ length b) (x : Result Stream R
         let v : stream_rules (length b) (stream_header b 0) ≡ Err r = rw all_of at (by-bad (stream_rules n (stream_header b 0)) (stream_of 0 (stream_header b 0)) r (sym is ∙ e)) in
         rw v
 
-    pub fault-header : r.code ≡ fault b
+    pub fault-header : Err r ≡ fault b
     fault-header = rw (begins-bad false b n all_of x is r e)
 
   module _ (st : Stream) (e : x ≡ Ok st) (size : ℕ) (z : size ≡ st.size) where
@@ -50,8 +50,8 @@ module _ (b : List ℕ) (n : ℕ) (all_of : n ≡ length b) (x : Result Stream R
         let kept : (stream_header b 0).size ≡ size = ap (λ (t : Stream). t.size) g.1 ∙ sym z in
         rw (fine, kept)
 
-    pub fault-packets : (code : ℕ) → code ≡ broken_by (ending_from (take size b) stream_header_size) → code ≡ fault b
-    fault-packets code h = rw (begins-good false b n all_of x is st e size z) h
+    pub fault-packets : (v : Verdict) → v ≡ broken_by (ending_from (take size b) stream_header_size) → v ≡ fault b
+    fault-packets v h = rw (begins-good false b n all_of x is st e size z) h
 
 pub ruleset heading = (own-none, fault-header, own-inside, own-there, own_is, fault-packets, rules)
 
@@ -59,7 +59,7 @@ pub ruleset heading = (own-none, fault-header, own-inside, own-there, own_is, fa
 
 own-by : (b : List ℕ) (size : ℕ) (v : Verdict) → (v ≡ Ok tt → size ≤ length b) → packets_from (own_in v size b) stream_header_size ≡ (dump_in false b v size).packets
 unfolding listed_from
-own-by b size (Ok tt) h =
+own-by b size (Ok _) h =
     let t : length (take size b) ≡ size = length-take-le size b (h refl) in
     ap (λ k. (listed false (k - 24) 24 (drop 24 (take size b))).packets) t
     ∙ ap (λ (d : Dump). d.packets) (listed-fuel false (size - 24) size 24 (drop 24 (take size b)) (rw (length-drop, t) (omega arith)) (rw (length-drop, t) (omega arith)))

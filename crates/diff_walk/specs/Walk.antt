@@ -6,7 +6,6 @@ use Rattle.std.proofs.Math.Nat.{sub-zero}
 use native.Mathlib.Omega.{arith}
 use Rattle.std.specs.Int.{w64}
 use Rattle.words.specs.Over.{below_or_not}
-use Rattle.rules.specs.Numbers.{bad_packet}
 use Rattle.rules.specs.Judging.{rule, ◌▹◌}
 use Rattle.rules.specs.Layouts.{word, stream_header_size, packet_header_size}
 use Rattle.rules.specs.Lists.{Found, nth}
@@ -18,6 +17,7 @@ use Rattle.rules.specs.declared.Packet.{Packet}
 use Rattle.stream_packets.specs.Framing.{packet_read_at, was-whole, was-misframed, frame-sound}
 use Rattle.stream_listing.specs.Walk.{listed_from, from-none, from-bad, from_on}
 use Rattle.rules.specs.Difference.{broken_by, framed_at, packet_at, size_at, behind}
+use Rattle.rules.specs.declared.Refusal.TheVariants.{BadPacket}
 
 -- the packets of a stream from a place on, and how they end
 abbrev pub packets_from : List ℕ → ℕ → List Listed
@@ -150,7 +150,7 @@ pub ruleset placing = (left_start, place_here, place_none, place-fits, place_on,
 
 module _ (op size : ℕ) (r : Refusal) where
   broken-in : (a b c d e : Bool)
-      → framed (rule bad_packet a ▹ rule bad_packet b ▹ rule bad_packet c ▹ rule bad_packet d ▹ rule bad_packet e) op size ≡ Err r → r.code ≡ bad_packet
+      → framed (rule BadPacket a ▹ rule BadPacket b ▹ rule BadPacket c ▹ rule BadPacket d ▹ rule BadPacket e) op size ≡ Err r → r ≡ BadPacket
   broken-in true b c d e h = cc
   broken-in false true c d e h = cc
   broken-in false false true d e h = cc
@@ -159,22 +159,22 @@ module _ (op size : ℕ) (r : Refusal) where
   broken-in false false false false false h = absurd (let z : ◌≡◌ {A = ℕ} 0 1 = cc in omega arith)
 
 -- a packet breaks no rule but 17
-pub misframed-code : (b : List ℕ) (r : Refusal) → frame_of b ≡ Err r → r.code ≡ bad_packet
+pub misframed-code : (b : List ℕ) (r : Refusal) → frame_of b ≡ Err r → r ≡ BadPacket
 unfolding frame_of frame_rules
 misframed-code b r e =
     broken-in (word b 0) (word b 4) r (ltb (length b) packet_header_size) (ltb (word b 4) packet_header_size) (not (eqb (word b 4 % 4) 0)) (ltb (length b) (word b 4))
     (ltb (word b 4) (least_size (word b 0))) e
 
 module _ (s : List ℕ) (at : ℕ) (w : broken_by (ending_from s stream_header_size) ≡ broken_by (ending_from s at)) where
-  pub fault-none : length s ≤ at → 0 ≡ broken_by (ending_from s stream_header_size)
+  pub fault-none : length s ≤ at → Ok tt ≡ broken_by (ending_from s stream_header_size)
   fault-none h = sym (w ∙ ap (λ (d : Dump). broken_by d.ending) (from-none false s at h))
 
   module _ (here : at < length s) (size : ℕ) (is : size ≡ size_at s at) where
-    by-fault : (f : Frame) → frame_of (drop at s) ≡ f → size_of f ≡ 0 → bad_packet ≡ broken_by (ending_from s at)
+    by-fault : (f : Frame) → frame_of (drop at s) ≡ f → size_of f ≡ 0 → Err BadPacket ≡ broken_by (ending_from s at)
     by-fault (Ok (op, n)) e z = absurd (omega (arith, (frame-sound (drop at s) op n e).header))
-    by-fault (Err r) e z = sym (ap (λ (d : Dump). broken_by d.ending) (from-bad false s at here r e) ∙ misframed-code (drop at s) r e)
+    by-fault (Err r) e z = sym (ap (λ (d : Dump). broken_by d.ending) (from-bad false s at here r e) ∙ ap Err (misframed-code (drop at s) r e))
 
-    pub fault-here : size ≡ 0 → 17 ≡ broken_by (ending_from s stream_header_size)
+    pub fault-here : size ≡ 0 → Err BadPacket ≡ broken_by (ending_from s stream_header_size)
     fault-here z = by-fault (frame_of (drop at s)) refl (sym is ∙ z) ∙ sym w
 
     module _ (n : size ≡ 0 → ⊥) where

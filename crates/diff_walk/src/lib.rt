@@ -7,7 +7,7 @@ ghost use Rattle.rules.specs.Lists.{nth};
 ghost use Rattle.rules.specs.Difference.{own, fault, broken_by, packet_at, size_at};
 ghost use Rattle.diff_walk.specs.Walk.{packets_from, ending_from};
 
-use rules::numbers::BAD_PACKET;
+use rules::Refusal;
 use stream_header::header::check_header;
 use stream_packets::framing::packet_at;
 use widths::{u32_to_usize, usize_to_word};
@@ -54,27 +54,27 @@ pub fn place_of(stream: &[u8], index: usize) -> usize
     at
 }
 
-// The number of the first rule that the packets of a stream's own bytes break, or 0.
-fn packets_fault(stream: &[u8]) -> u32
+// The first rule that the packets of a stream's own bytes break.
+fn packets_fault(stream: &[u8]) -> Result<(), Refusal>
     ensures { result ≡ broken_by (ending_from stream.now stream_header_size) }
 {
     let mut at = STREAM_HEADER_SIZE;
     while at < stream.len() {
         let size = size_at(stream, at);
         if size == 0 {
-            return BAD_PACKET;
+            return Err(Refusal::BadPacket);
         }
         at += size;
     }
-    0
+    Ok(())
 }
 
-// The number of the rule that a stream breaks, 16 or 17, or 0.
-pub fn fault_of(stream: &[u8]) -> u32
+// The rule that a stream breaks, 16 or 17.
+pub fn fault_of(stream: &[u8]) -> Result<(), Refusal>
     ensures { result ≡ fault stream.now }
 {
     match check_header(stream, 0, usize_to_word(stream.len())) {
-        Err(r) => r.code,
+        Err(why) => Err(why),
         Ok(s) => {
             let size = u32_to_usize(s.size);
             packets_fault(&stream[..size])

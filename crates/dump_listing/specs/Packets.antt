@@ -8,7 +8,6 @@ use Rattle.std.proofs.Math.Dec.{ltb}
 use Rattle.std.proofs.Math.ListN.{length}
 use Rattle.machine.specs.Machine.{pick}
 use Rattle.rules.specs.Numbers.{done, too_short}
-use Rattle.rules.specs.Judging.{refusal}
 use Rattle.rules.specs.Lists.{over}
 use Rattle.rules.specs.Layouts.{stream_header, stream_header_size}
 use Rattle.rules.specs.Stream.{stream_rules, stream_of}
@@ -75,18 +74,18 @@ pub ruleset Going-less = (goes-less, rules)
 module _ (strict : Bool) (s : List ℕ) (n : ℕ) (all_of : n ≡ length s) (x : Result Stream Refusal)
     (is : x ≡ begun (stream_rules n (stream_header s 0)) (stream_of 0 (stream_header s 0))) (b : List ℕ) where
   module _ (r : Refusal) (e : x ≡ Err r) where
-    error-is : text_of (dump_of strict s) ≡ ending_text (refused (refusal r.code))
+    error-is : text_of (dump_of strict s) ≡ ending_text (refused r)
     unfolding text_of lines_of
     error-is = rw (begins-bad strict s n all_of x is r e)
 
-    pub error-room : length (text_of (dump_of strict s)) ≤ length b → 0 + length (ending_text (refused (refusal r.code))) ≤ length b
+    pub error-room : length (text_of (dump_of strict s)) ≤ length b → 0 + length (ending_text (refused r)) ≤ length b
     error-room h = rw zero-add (rw error-is at h)
 
-    pub error-put : (end : ℕ) (m : List ℕ) → Puts 0 (ending_text (refused (refusal r.code))) b end m → PutsDump strict s b end m
+    pub error-put : (end : ℕ) (m : List ℕ) → Puts 0 (ending_text (refused r)) b end m → PutsDump strict s b end m
     error-put end m p =
         record {
           puts = rw error-is p;
-          small = omega (arith, p.place, error-bound (refusal r.code));
+          small = omega (arith, p.place, error-bound r);
         }
 
   module _ (st : Stream) (e : x ≡ Ok st) (size : ℕ) (z : size ≡ st.size) where

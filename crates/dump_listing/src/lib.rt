@@ -53,7 +53,7 @@ fn put_dump(out: &mut [u8], dump: &[u8], strict: bool) -> usize
     ensures { PutsDump strict dump.now out.old result out.new }
 {
     match check_header(dump, 0, usize_to_word(dump.len())) {
-        Err(r) => put_error(out, 0, r.code),
+        Err(why) => put_error(out, 0, why),
         Ok(s) => {
             let size = u32_to_usize(s.size);
             put_packets(out, &dump[..size], strict)

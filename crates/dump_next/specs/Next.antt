@@ -2,7 +2,6 @@
 use Rattle.std.specs.Prelude.{◌≡◌, refl, Bool, true, false, ◌&&◌, List, [], ◌∷◌, ◌++◌, ℕ, ◌+◌, ◌-◌, ◌≤◌, ◌<◌, ◌^◌, length, take, drop, Ok}
 use Rattle.std.proofs.Common.{sym, arith, rules, Fits, length-drop, length-take-le}
 use Rattle.std.specs.Int.{w64}
-use Rattle.rules.specs.Judging.{refusal}
 use Rattle.rules.specs.Stream.{frame_of, packet_of, least_size}
 use Rattle.rules.specs.PacketRows.{packet_row}
 use Rattle.rules.specs.Text.{ascii}
@@ -19,6 +18,8 @@ use Rattle.dump_lines.specs.Lines.{same-room, same-put}
 use Rattle.dump_next.specs.Rest.{next_line, rest_from, line-bad, rest-bad, line-stopped, rest-stopped, line_on, rest-on}
 use Rattle.dump_next.specs.declared.Going.{Going}
 use Rattle.dump_next.specs.declared.Going.TheVariants.{On, Ended}
+use Rattle.rules.specs.Judging.{error_number}
+use Rattle.rules.specs.declared.Refusal.{Refusal}
 
 -- the next line is written, and the text goes on behind it
 pub record GoesOn (strict : Bool) (s : List ℕ) (at end : ℕ) (m : List ℕ) (at' end' : ℕ) (m' : List ℕ) : Type 0 where
@@ -38,9 +39,9 @@ Goes strict s at end m (Ended end') m' = GoesNot strict s at end m end' m'
 
 -- ---- put_error
 
-pub error-line : (code n : ℕ) → n ≡ code → filled (ascii "error=%\n") (n ∷ []) ≡ ending_text (refused (refusal code))
+pub error-line : (why : Refusal) (n : ℕ) → n ≡ error_number why → filled (ascii "error=%\n") (n ∷ []) ≡ ending_text (refused why)
 unfolding filled piece takes ending_text
-error-line code n e = rw e
+error-line why n e = rw e
 
 pub ruleset writing_error = (same-room, same-put, error-line, rules)
 
@@ -70,15 +71,15 @@ pub ruleset writing_packet = (same-room, same-put, part-there, known-there, pack
 -- ---- put_next
 
 module _ (strict : Bool) (s : List ℕ) (at : ℕ) (here : at < length s) (x : Seen) (sees : x ≡ seen (drop at s)) (end : ℕ) (m : List ℕ) where
-  module _ (code : ℕ) (e : x ≡ Bad code) where
-    bad : next_line strict s at ≡ ending_text (refused (refusal code))
-    bad = line-bad strict s at here (refusal code) (was-bad (drop at s) x sees code e)
+  module _ (why : Refusal) (e : x ≡ Bad why) where
+    bad : next_line strict s at ≡ ending_text (refused why)
+    bad = line-bad strict s at here why (was-bad (drop at s) x sees why e)
 
-    pub bad-room : end + length (next_line strict s at) ≤ length m → end + length (ending_text (refused (refusal code))) ≤ length m
+    pub bad-room : end + length (next_line strict s at) ≤ length m → end + length (ending_text (refused why)) ≤ length m
     bad-room h = rw bad at h
 
-    pub goes-bad : (end' : ℕ) (m' : List ℕ) → Puts end (ending_text (refused (refusal code))) m end' m' → Goes strict s at end m (Ended end') m'
-    goes-bad end' m' p = record { whole = rest-bad strict s at here (refusal code) (was-bad (drop at s) x sees code e); puts = rw bad p }
+    pub goes-bad : (end' : ℕ) (m' : List ℕ) → Puts end (ending_text (refused why)) m end' m' → Goes strict s at end m (Ended end') m'
+    goes-bad end' m' p = record { whole = rest-bad strict s at here why (was-bad (drop at s) x sees why e); puts = rw bad p }
 
   module _ (op size : ℕ) where
     module _ (u : Bool) (p : SeenPacket (drop at s) op size u) (h : stops strict (packet_of op (take size (drop at s))) ≡ false) where

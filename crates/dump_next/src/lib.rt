@@ -2,7 +2,6 @@
 #![tactic(auto)]
 
 ghost use Rattle.std.specs.Prelude.{◌≡◌, ◌+◌, ◌≤◌, ◌<◌, length, take, drop, Ok};
-ghost use Rattle.rules.specs.Judging.{refusal};
 ghost use Rattle.rules.specs.Stream.{frame_of};
 ghost use Rattle.rules.specs.PacketRows.{packet_row};
 ghost use Rattle.rules.specs.Dump.{line_in, ending_text};
@@ -14,6 +13,7 @@ ghost use Rattle.dump_next.specs.Next.{Goes};
 use dump_lines::put_stopped;
 use dump_packets::put_line;
 use dump_reader::seen_by_reader;
+use rules::Refusal;
 use stream_listing::Seen;
 use stream_packets::framing::packet_part;
 use text_filling::fill;
@@ -27,11 +27,11 @@ pub enum Going {
 }
 
 // Writes the line of a broken rule, and gives the place behind it.
-pub fn put_error(out: &mut [u8], end: usize, code: u32) -> usize
-    requires { end + length (ending_text (refused (refusal code))) ≤ length out.old }
-    ensures { Puts end (ending_text (refused (refusal code))) out.old result out.new }
+pub fn put_error(out: &mut [u8], end: usize, why: Refusal) -> usize
+    requires { end + length (ending_text (refused why)) ≤ length out.old }
+    ensures { Puts end (ending_text (refused why)) out.old result out.new }
 {
-    let numbers: [u64; 1] = [u32_to_word(code)];
+    let numbers: [u64; 1] = [u32_to_word(why as u32)];
     fill(out, end, b"error=%\n", &numbers)
 }
 
@@ -52,7 +52,7 @@ pub fn put_next(out: &mut [u8], end: usize, dump: &[u8], at: usize, strict: bool
     ensures { Goes strict dump.now at end out.old result out.new }
 {
     match seen_by_reader(dump, at) {
-        Seen::Bad(code) => Going::Ended(put_error(out, end, code)),
+        Seen::Bad(why) => Going::Ended(put_error(out, end, why)),
         Seen::Known(op, size) => {
             let last = put_packet(out, end, dump, at, op, size);
             Going::On(at + u32_to_usize(size), last)

@@ -6,7 +6,6 @@ use Rattle.std.proofs.Math.Bool.{not}
 use Rattle.std.proofs.Math.Nat.{zero-add}
 use native.Mathlib.Omega.{arith}
 use Rattle.std.proofs.Math.ListN.{length}
-use Rattle.rules.specs.Judging.{refusal}
 use Rattle.rules.specs.Layouts.{stream_header, stream_header_size}
 use Rattle.rules.specs.Stream.{stream_rules, stream_of}
 use Rattle.rules.specs.Dump.{ending_text, lines_of, text_of, dump_of}
@@ -141,15 +140,15 @@ fits-ample strict s room t tells h =
     let k : length (text_of (dump_of strict s)) ≤ room = omega (arith, dump-bound strict s, not_beyond room (10 * length s + 90) (sym tells ∙ h)) in
     rw (le-ltb room (length (text_of (dump_of strict s))) k)
 
-pub line-there : (r : Refusal) (line : List ℕ) → 326 ≡ length line → 0 + length (ending_text (refused (refusal r.code))) ≤ length line
-line-there r line e = omega (arith, error-bound (refusal r.code))
+pub line-there : (r : Refusal) (line : List ℕ) → 326 ≡ length line → 0 + length (ending_text (refused r)) ≤ length line
+line-there r line e = omega (arith, error-bound r)
 
 pub line-enough : (line : List ℕ) → 326 ≡ length line → longest_line ≤ length line
 line-enough line e = omega arith
 
 module _ (strict : Bool) (s : List ℕ) (n : ℕ) (all_of : n ≡ length s) (x : Result Stream Refusal)
     (is : x ≡ begun (stream_rules n (stream_header s 0)) (stream_of 0 (stream_header s 0))) (room : ℕ) where
-  pub fits-bad : (r : Refusal) → x ≡ Err r → (last : ℕ) (b m : List ℕ) → Puts 0 (ending_text (refused (refusal r.code))) b last m
+  pub fits-bad : (r : Refusal) → x ≡ Err r → (last : ℕ) (b m : List ℕ) → Puts 0 (ending_text (refused r)) b last m
       → (t : Bool) → t ≡ not (ltb room last) → t ≡ fits (text_of (dump_of strict s)) room
   unfolding fits text_of lines_of
   fits-bad r e last b m p t tells =

@@ -23,6 +23,7 @@ use Rattle.stream_opcodes.specs.Opcodes.{none-known}
 use Rattle.text_numbers.specs.Numbers.{hex-length}
 use Rattle.text_numbers.specs.Digits.{decimal-length}
 use Rattle.dump_next.specs.Rest.{line_by, next_line}
+use Rattle.rules.specs.Judging.{error_number}
 
 -- ---- a line
 
@@ -116,7 +117,7 @@ stopped-bound at op size = line-bound at "STOPPED" size (opcode_text op) 30 (opc
 
 pub error-bound : (r : Refusal) → length (ending_text (refused r)) ≤ 27
 unfolding ending_text
-error-bound r = simp length-append (omega (arith, decimal-length r.code))
+error-bound r = simp length-append (omega (arith, decimal-length (error_number r)))
 
 -- ---- the next line
 

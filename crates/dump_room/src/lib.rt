@@ -78,7 +78,7 @@ pub fn dump_fits(dump: &[u8], strict: bool, room: usize) -> bool
     }
     let mut line = line_room();
     match check_header(dump, 0, usize_to_word(dump.len())) {
-        Err(r) => within(put_error(&mut line, 0, r.code), room),
+        Err(why) => within(put_error(&mut line, 0, why), room),
         Ok(s) => {
             let size = u32_to_usize(s.size);
             packets_fit(&mut line, &dump[..size], strict, room)

@@ -5,6 +5,7 @@ use Rattle.rules.specs.declared.Class.TheVariants.{Equal, SameOpcode, OtherOpcod
 use Rattle.rules.specs.declared.Cursor.{Cursor}
 use Rattle.rules.specs.declared.Pair.{Pair}
 use Rattle.rules.specs.declared.RefusedStream.{RefusedStream}
+use Rattle.rules.specs.Judging.{error_number}
 
 abbrev pub class_number : Class → ℕ
 class_number Equal = 0
@@ -33,8 +34,8 @@ abbrev pub said_refused : ℕ → ℕ → Answered
 said_refused code which = record { answer = code; value = which }
 
 abbrev pub checked_said : Result ⊤ RefusedStream → Answered
-checked_said (Ok tt) = said_is 0
-checked_said (Err r) = said_refused r.code r.which
+checked_said (Ok _) = said_is 0
+checked_said (Err r) = said_refused (error_number r.why) r.which
 
 abbrev pub parting_said : Option ℕ → Answered
 parting_said (Some i) = said_is i
@@ -42,11 +43,11 @@ parting_said None = said_none
 
 abbrev pub parts_said : Result (Option ℕ) RefusedStream → Answered
 parts_said (Ok x) = parting_said x
-parts_said (Err r) = said_refused r.code r.which
+parts_said (Err r) = said_refused (error_number r.why) r.which
 
 abbrev pub class_said : Result Class RefusedStream → Answered
 class_said (Ok x) = said_is (class_number x)
-class_said (Err r) = said_refused r.code r.which
+class_said (Err r) = said_refused (error_number r.why) r.which
 
 abbrev pub offset_said : Option ℕ → Answered
 offset_said (Some i) = said_is i
@@ -54,7 +55,7 @@ offset_said None = said_none
 
 abbrev pub next_said : Result (Option ℕ) RefusedStream → Answered
 next_said (Ok x) = offset_said x
-next_said (Err r) = said_refused r.code r.which
+next_said (Err r) = said_refused (error_number r.why) r.which
 
 -- the answer is the call's, and the value is in the one word lent
 pub record Says (x : Answered) (r : ℕ) (said : List ℕ) : Type 0 where
@@ -75,7 +76,7 @@ pair_words x = class_number x.class ∷ x.first ∷ x.firstsize ∷ x.second ∷
 -- how a walk begins; a refusal leaves the cursor's words
 abbrev pub start_said : Result Cursor RefusedStream → Answered
 start_said (Ok k) = said_is 0
-start_said (Err r) = said_refused r.code r.which
+start_said (Err r) = said_refused (error_number r.why) r.which
 
 abbrev pub start_words : Result Cursor RefusedStream → List ℕ → List ℕ
 start_words (Ok k) l = cursor_words k

@@ -7,6 +7,7 @@ use Rattle.rules.specs.declared.Cursor.{Cursor}
 use Rattle.rules.specs.declared.Pair.{Pair}
 use Rattle.export_difference.specs.Numbers.{class_number, said_is, said_none, said_refused, checked_said, parting_said, parts_said, class_said, offset_said, next_said, Says, cursor_in, cursor_words, pair_words, SaysStart}
 use Rattle.rules.specs.declared.RefusedStream.{RefusedStream}
+use Rattle.rules.specs.Judging.{error_number}
 
 -- ---- say, say_none, say_number, say_refused
 
@@ -43,7 +44,7 @@ module _ (r : ℕ) (said : List ℕ) where
   pub checked-valid : (x : Result ⊤ RefusedStream) → x ≡ Ok tt → Says (said_is 0) r said → Says (checked_said x) r said
   checked-valid x e s = rw e s
 
-  pub checked_refused : (x : Result ⊤ RefusedStream) (e : RefusedStream) → x ≡ Err e → Says (said_refused e.code e.which) r said → Says (checked_said x) r said
+  pub checked_refused : (x : Result ⊤ RefusedStream) (e : RefusedStream) → x ≡ Err e → Says (said_refused (error_number e.why) e.which) r said → Says (checked_said x) r said
   checked_refused x r' e s = rw e s
 
   pub parting-at : (x : Option ℕ) (i : ℕ) → x ≡ Some i → Says (said_is i) r said → Says (parting_said x) r said
@@ -55,13 +56,13 @@ module _ (r : ℕ) (said : List ℕ) where
   pub parts_is : (x : Result (Option ℕ) RefusedStream) (p : Option ℕ) → x ≡ Ok p → Says (parting_said p) r said → Says (parts_said x) r said
   parts_is x p e s = rw e s
 
-  pub parts-refused : (x : Result (Option ℕ) RefusedStream) (e : RefusedStream) → x ≡ Err e → Says (said_refused e.code e.which) r said → Says (parts_said x) r said
+  pub parts-refused : (x : Result (Option ℕ) RefusedStream) (e : RefusedStream) → x ≡ Err e → Says (said_refused (error_number e.why) e.which) r said → Says (parts_said x) r said
   parts-refused x r' e s = rw e s
 
   pub class-is : (x : Result Class RefusedStream) (k : Class) → x ≡ Ok k → Says (said_is (class_number k)) r said → Says (class_said x) r said
   class-is x k e s = rw e s
 
-  pub class-refused : (x : Result Class RefusedStream) (e : RefusedStream) → x ≡ Err e → Says (said_refused e.code e.which) r said → Says (class_said x) r said
+  pub class-refused : (x : Result Class RefusedStream) (e : RefusedStream) → x ≡ Err e → Says (said_refused (error_number e.why) e.which) r said → Says (class_said x) r said
   class-refused x r' e s = rw e s
 
   pub offset_at : (x : Option ℕ) (i : ℕ) → x ≡ Some i → Says (said_is i) r said → Says (offset_said x) r said
@@ -73,13 +74,13 @@ module _ (r : ℕ) (said : List ℕ) where
   pub next-is : (x : Result (Option ℕ) RefusedStream) (o : Option ℕ) → x ≡ Ok o → Says (offset_said o) r said → Says (next_said x) r said
   next-is x o e s = rw e s
 
-  pub next-refused : (x : Result (Option ℕ) RefusedStream) (e : RefusedStream) → x ≡ Err e → Says (said_refused e.code e.which) r said → Says (next_said x) r said
+  pub next-refused : (x : Result (Option ℕ) RefusedStream) (e : RefusedStream) → x ≡ Err e → Says (said_refused (error_number e.why) e.which) r said → Says (next_said x) r said
   next-refused x r' e s = rw e s
 
   pub start_is : (l l' : List ℕ) (x : Result Cursor RefusedStream) (k : Cursor) → x ≡ Ok k → l' ≡ cursor_words k → Says (said_is 0) r said → SaysStart x l r l' said
   start_is l l' x k e p s = rw e (record { says = s; cursor = p })
 
-  pub start-refused : (l : List ℕ) (x : Result Cursor RefusedStream) (e : RefusedStream) → x ≡ Err e → Says (said_refused e.code e.which) r said → SaysStart x l r l said
+  pub start-refused : (l : List ℕ) (x : Result Cursor RefusedStream) (e : RefusedStream) → x ≡ Err e → Says (said_refused (error_number e.why) e.which) r said → SaysStart x l r l said
   start-refused l x r' e s = rw e (record { says = s; cursor = refl })
 
 pub ruleset saying_checked = (checked-valid, checked_refused, rules)

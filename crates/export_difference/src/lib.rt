@@ -63,7 +63,7 @@ pub fn say_checked(said: &mut [u64; 1], x: Result<(), RefusedStream>) -> u32
 {
     match x {
         Ok(()) => say_number(said, 0),
-        Err(e) => say_refused(said, e.code, e.which),
+        Err(e) => say_refused(said, e.why as u32, e.which),
     }
 }
 
@@ -82,7 +82,7 @@ pub fn say_parts(said: &mut [u64; 1], x: Result<Option<usize>, RefusedStream>) -
 {
     match x {
         Ok(p) => say_parting(said, p),
-        Err(e) => say_refused(said, e.code, e.which),
+        Err(e) => say_refused(said, e.why as u32, e.which),
     }
 }
 
@@ -99,7 +99,7 @@ pub fn say_class(said: &mut [u64; 1], x: Result<Class, RefusedStream>) -> u32
 {
     match x {
         Ok(class) => say_class_number(said, class),
-        Err(e) => say_refused(said, e.code, e.which),
+        Err(e) => say_refused(said, e.why as u32, e.which),
     }
 }
 
@@ -119,7 +119,7 @@ pub fn say_next(said: &mut [u64; 1], x: Result<Option<usize>, RefusedStream>) ->
 {
     match x {
         Ok(o) => say_offset(said, o),
-        Err(e) => say_refused(said, e.code, e.which),
+        Err(e) => say_refused(said, e.why as u32, e.which),
     }
 }
 
@@ -145,7 +145,11 @@ pub fn put_cursor(words: &mut [u64; 2], cursor: Cursor)
 }
 
 // Says how a walk begins; a refusal leaves the cursor's words.
-pub fn say_start(cursor: &mut [u64; 2], said: &mut [u64; 1], x: Result<Cursor, RefusedStream>) -> u32
+pub fn say_start(
+    cursor: &mut [u64; 2],
+    said: &mut [u64; 1],
+    x: Result<Cursor, RefusedStream>,
+) -> u32
     ensures { SaysStart x cursor.old result cursor.new said.new }
 {
     match x {
@@ -153,7 +157,7 @@ pub fn say_start(cursor: &mut [u64; 2], said: &mut [u64; 1], x: Result<Cursor, R
             put_cursor(cursor, k);
             say_number(said, 0)
         }
-        Err(e) => say_refused(said, e.code, e.which),
+        Err(e) => say_refused(said, e.why as u32, e.which),
     }
 }
 

@@ -20,7 +20,7 @@ entries_of n l = table entry_of 4 n l
 
 -- how many are kept after a verdict
 abbrev pub grown : Verdict → ℕ → ℕ
-grown (Ok tt) n = n + 1
+grown (Ok _) n = n + 1
 grown (Err r) n = n
 
 abbrev pub taken_of : Verdict → ℕ → List ℕ → Taken

@@ -5,7 +5,7 @@ use Rattle.std.proofs.Math.Path.{refl, sym, ap}
 use Rattle.std.proofs.Common.{subst, ◌∙◌, arith, rules}
 use mathlib.Core.List.{List}
 use Rattle.machine.specs.Machine.{pick}
-use Rattle.rules.specs.Numbers.{bad_state, most}
+use Rattle.rules.specs.Numbers.{most}
 use Rattle.rules.specs.Packets.{Holdings, Outcome, Passed, if-fine, passed, on_buffer_packet, on_texture_packet, on_destroy_packet, on_dirty_packet, on_copy_packet, on_target_packet, on_viewport_packet, on_scissor_packet, on_clear_packet, apply, target_after, tokens_after, pass}
 use Rattle.rules.specs.declared.Entry.{Entry}
 use Rattle.rules.specs.declared.CreateBuffer.{CreateBuffer}
@@ -23,6 +23,7 @@ use Rattle.rules.specs.declared.ReleaseToken.{ReleaseToken}
 use Rattle.rules.specs.declared.Token.{Token}
 use Rattle.rules.specs.declared.Packet.{Packet}
 use Rattle.rules.specs.declared.Packet.TheVariants.{Buffer, Texture, Destroy, Dirty, Copy, Target, Viewport, Scissor, Clear, Export, Import, Release, NotANumber, Unknown}
+use Rattle.rules.specs.declared.Refusal.TheVariants.{BadState}
 use Rattle.kept_entries.specs.Views.{entries_of}
 use Rattle.kept_resources.specs.Views.{resources_of, holdings_of}
 use Rattle.packet_ranges.specs.Views.{Applies, RowsExist, refused_with, rebind-same}
@@ -242,7 +243,7 @@ module _ (n : ℕ) (e r h c : List ℕ) (k : Held) (p : Packet) (a : Applied) (y
       rw (q, is)
       (leaves-passed (entries_of n e) (Clear b) k r h c h c (holdings_held k r h c) refl (λ w. on_clear_packet w b) k.target y (λ ts. refl) (applied-leaves _ a k.copied k.target r h (pick (own_in k.copied) h r) c y was refl (d.applies (pick (own_in k.copied) h r) c)) refl (λ ts. refl))
 
-  pub nan-applied : RowsExist n k.live k.made → p ≡ NotANumber → a ≡ refused_with bad_state k.live k.made → Takes (entries_of n e) k r h c p x h c
+  pub nan-applied : RowsExist n k.live k.made → p ≡ NotANumber → a ≡ refused_with BadState k.live k.made → Takes (entries_of n e) k r h c p x h c
   unfolding pass apply target_after tokens_after
   nan-applied room q j =
       rw (q, is, was, j)

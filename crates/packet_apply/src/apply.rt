@@ -21,10 +21,9 @@ use packet_held::held::{
 use packet_ranges::applied::refuse;
 use packet_state::values::{on_clear, on_viewport};
 use packet_target::{on_scissor, on_target};
-use rules::numbers::BAD_STATE;
 use rules::{
-    CopyBuffer, CreateBuffer, CreateTexture, DestroyResource, DirtyRange, Packet, SetScissor,
-    SetTarget,
+    CopyBuffer, CreateBuffer, CreateTexture, DestroyResource, DirtyRange, Packet, Refusal,
+    SetScissor, SetTarget,
 };
 
 // What there is to say of a packet beside what it came to: nothing, that nobody knows it, or that it is left.
@@ -232,7 +231,7 @@ pub fn apply_packet(
         Packet::Import(c) => leave(h, SharedPacket::Import(c)),
         Packet::Release(c) => leave(h, SharedPacket::Release(c)),
         Packet::NotANumber => plain(with_own(
-            refuse(BAD_STATE, h.live, h.made),
+            refuse(Refusal::BadState, h.live, h.made),
             h.copied,
             h.target,
         )),

@@ -3,7 +3,7 @@ use Rattle.std.specs.Prelude.{◌≡◌, refl, Bool, true, false, ◌||◌, List
 use Rattle.std.proofs.Common.{sym, ap, ◌∙◌, arith, rules}
 use borrow.Author.Tests.{eq-eqb, ne_eqb, lt-ltb, le-ltb}
 use Rattle.machine.specs.Machine.{pick}
-use Rattle.rules.specs.Numbers.{bad_handle, not_in_table, past_entry, read_only, past_resource, host_backed, bad_copy, writes}
+use Rattle.rules.specs.Numbers.{writes}
 use Rattle.rules.specs.Lists.{Found, index_of, lookup}
 use Rattle.rules.specs.Lists.Found.{none, found}
 use Rattle.rules.specs.Table.{matching}
@@ -15,6 +15,7 @@ use Rattle.rules.specs.declared.Record.{Record}
 use Rattle.rules.specs.declared.CopyBuffer.{CopyBuffer}
 use Rattle.rules.specs.declared.Kind.{Kind}
 use Rattle.rules.specs.declared.Kind.TheVariants.{Buffer, Texture}
+use Rattle.rules.specs.declared.Refusal.TheVariants.{BadHandle, NotInTable, PastEntry, ReadOnly, PastResource, HostBacked, BadCopy}
 use Rattle.rows.specs.Rows.{row_at}
 use Rattle.kept_entries.specs.Views.{entries_of}
 use Rattle.kept_resources.specs.Views.{resource_of_row, resources_of, holdings_of}
@@ -59,11 +60,11 @@ live-not-none : (r : Resource) → None ≡ Some r → ⊥
 live-not-none r e = let z : ◌≡◌ {A = ℕ} 0 1 = cc in omega arith
 
 -- "18 .. not a live buffer"
-kind-refused : (r : Resource) (k : Kind) (h : Holdings) (later : Outcome) → kind_sought r k ≡ None → on_kind k h later ≡ refused bad_handle h
+kind-refused : (r : Resource) (k : Kind) (h : Holdings) (later : Outcome) → kind_sought r k ≡ None → on_kind k h later ≡ refused BadHandle h
 kind-refused r Buffer h later e = absurd (live-not-none r (sym e))
 kind-refused r (Texture s) h later e = refl
 
-no_buffer : (f : Found Resource) (h : Holdings) (later : Resource → Outcome) → buffer_of f ≡ None → on_buffer f h later ≡ refused bad_handle h
+no_buffer : (f : Found Resource) (h : Holdings) (later : Resource → Outcome) → buffer_of f ≡ None → on_buffer f h later ≡ refused BadHandle h
 unfolding buffer_of
 no_buffer none h later e = refl
 no_buffer (found r) h later e = kind-refused r r.kind h (later r) e
@@ -84,13 +85,13 @@ unfoldable pub written_back : List Entry → CopyBuffer → Resource → Holding
 written_back es c d h = write_back es h c d
 
 module _ (n : ℕ) (entries : List ℕ) (live made : ℕ) (records : List ℕ) (c : CopyBuffer) (d : Resource) (room : RowsExist n live made) where
-  pub writes-hosted : (a : Applied) → d.backing ≡ 0 → a ≡ refused_with host_backed live made → HandsOut (written_back (entries_of n entries) c d) live made records a records
+  pub writes-hosted : (a : Applied) → d.backing ≡ 0 → a ≡ refused_with HostBacked live made → HandsOut (written_back (entries_of n entries) c d) live made records a records
   unfolding written_back write_back
-  writes-hosted a q e = refused-hands host_backed n live made records a room e _ (λ h. rw (eq-eqb _ _ q))
+  writes-hosted a q e = refused-hands HostBacked n live made records a room e _ (λ h. rw (eq-eqb _ _ q))
 
   module _ (q : d.backing ≡ 0 → ⊥) (x : Resolved) (resolved : x ≡ resolved_of writes d c.dstoffset c.size (matching d.backing (entries_of n entries))) where
     abbrev then : Holdings → ℕ → Record → Outcome
-    then h flags range = refuse read_only (eqb (flags % 2) 1) h (hand_out range h)
+    then h flags range = refuse ReadOnly (eqb (flags % 2) 1) h (hand_out range h)
 
     judges : (h : Holdings) → written_back (entries_of n entries) c d h ≡ judged x h (then h)
     unfolding written_back write_back
@@ -98,15 +99,15 @@ module _ (n : ℕ) (entries : List ℕ) (live made : ℕ) (records : List ℕ) (
         rw (ne_eqb _ _ q, resolved)
         (entry-judged writes d c.dstoffset c.size (matching d.backing (entries_of n entries)) h (then h))
 
-    pub writes-missing : (a : Applied) → x ≡ Missing → a ≡ refused_with not_in_table live made → HandsOut (written_back (entries_of n entries) c d) live made records a records
-    writes-missing a told e = refused-hands not_in_table n live made records a room e _ (λ h. judges h ∙ rw told)
+    pub writes-missing : (a : Applied) → x ≡ Missing → a ≡ refused_with NotInTable live made → HandsOut (written_back (entries_of n entries) c d) live made records a records
+    writes-missing a told e = refused-hands NotInTable n live made records a room e _ (λ h. judges h ∙ rw told)
 
-    pub writes-past : (a : Applied) → x ≡ Past → a ≡ refused_with past_entry live made → HandsOut (written_back (entries_of n entries) c d) live made records a records
-    writes-past a told e = refused-hands past_entry n live made records a room e _ (λ h. judges h ∙ rw told)
+    pub writes-past : (a : Applied) → x ≡ Past → a ≡ refused_with PastEntry live made → HandsOut (written_back (entries_of n entries) c d) live made records a records
+    writes-past a told e = refused-hands PastEntry n live made records a room e _ (λ h. judges h ∙ rw told)
 
     module _ (flags : ℕ) (range : Record) (told : x ≡ Inside flags range) where
-      pub writes-read-only : (a : Applied) → flags % 2 ≡ 1 → a ≡ refused_with read_only live made → HandsOut (written_back (entries_of n entries) c d) live made records a records
-      writes-read-only a t e = refused-hands read_only n live made records a room e _ (λ h. judges h ∙ rw (told, eq-eqb _ _ t))
+      pub writes-read-only : (a : Applied) → flags % 2 ≡ 1 → a ≡ refused_with ReadOnly live made → HandsOut (written_back (entries_of n entries) c d) live made records a records
+      writes-read-only a t e = refused-hands ReadOnly n live made records a room e _ (λ h. judges h ∙ rw (told, eq-eqb _ _ t))
 
       pub writes-range : (a : Applied) (after : List ℕ) → (flags % 2 ≡ 1 → ⊥) → HandsOut (hand_out range) live made records a after
           → HandsOut (written_back (entries_of n entries) c d) live made records a after
@@ -121,30 +122,30 @@ pub ruleset writing_back =
 -- "26 same handle, or flags above 1; 24 dst, then src; with writeback on dst: .."
 unfoldable pub between : List Entry → CopyBuffer → Resource → Resource → Holdings → Outcome
 between es c d s h =
-    refuse bad_copy (eqb c.dst c.src || ltb 1 c.flags) h
-    (refuse past_resource (ltb d.bytes (c.dstoffset + c.size)) h
-    (refuse past_resource (ltb s.bytes (c.srcoffset + c.size)) h
+    refuse BadCopy (eqb c.dst c.src || ltb 1 c.flags) h
+    (refuse PastResource (ltb d.bytes (c.dstoffset + c.size)) h
+    (refuse PastResource (ltb s.bytes (c.srcoffset + c.size)) h
     (pick (eqb c.flags 1) (write_back es h c d) (accepted h))))
 
 module _ (n : ℕ) (entries : List ℕ) (live made : ℕ) (records : List ℕ) (c : CopyBuffer) (d s : Resource) (room : RowsExist n live made) where
-  pub copies-onto-itself : (a : Applied) → c.dst ≡ c.src → a ≡ refused_with bad_copy live made → HandsOut (between (entries_of n entries) c d s) live made records a records
+  pub copies-onto-itself : (a : Applied) → c.dst ≡ c.src → a ≡ refused_with BadCopy live made → HandsOut (between (entries_of n entries) c d s) live made records a records
   unfolding between
-  copies-onto-itself a p e = refused-hands bad_copy n live made records a room e _ (λ h. rw (eq-eqb _ _ p))
+  copies-onto-itself a p e = refused-hands BadCopy n live made records a room e _ (λ h. rw (eq-eqb _ _ p))
 
   module _ (p : c.dst ≡ c.src → ⊥) where
-    pub copies-other-flags : (a : Applied) → 1 < c.flags → a ≡ refused_with bad_copy live made → HandsOut (between (entries_of n entries) c d s) live made records a records
+    pub copies-other-flags : (a : Applied) → 1 < c.flags → a ≡ refused_with BadCopy live made → HandsOut (between (entries_of n entries) c d s) live made records a records
     unfolding between
-    copies-other-flags a q e = refused-hands bad_copy n live made records a room e _ (λ h. rw (ne_eqb _ _ p, lt-ltb _ _ q))
+    copies-other-flags a q e = refused-hands BadCopy n live made records a room e _ (λ h. rw (ne_eqb _ _ p, lt-ltb _ _ q))
 
     module _ (q : c.flags ≤ 1) (b : Bool) (is : b ≡ ltb d.bytes (c.dstoffset + c.size)) where
-      pub copies-past-dst : (a : Applied) → b ≡ true → a ≡ refused_with past_resource live made → HandsOut (between (entries_of n entries) c d s) live made records a records
+      pub copies-past-dst : (a : Applied) → b ≡ true → a ≡ refused_with PastResource live made → HandsOut (between (entries_of n entries) c d s) live made records a records
       unfolding between
-      copies-past-dst a t e = refused-hands past_resource n live made records a room e _ (λ h. rw (ne_eqb _ _ p, le-ltb _ _ q, ← is, t))
+      copies-past-dst a t e = refused-hands PastResource n live made records a room e _ (λ h. rw (ne_eqb _ _ p, le-ltb _ _ q, ← is, t))
 
       module _ (t : b ≡ false) (b' : Bool) (is' : b' ≡ ltb s.bytes (c.srcoffset + c.size)) where
-        pub copies-past-src : (a : Applied) → b' ≡ true → a ≡ refused_with past_resource live made → HandsOut (between (entries_of n entries) c d s) live made records a records
+        pub copies-past-src : (a : Applied) → b' ≡ true → a ≡ refused_with PastResource live made → HandsOut (between (entries_of n entries) c d s) live made records a records
         unfolding between
-        copies-past-src a u e = refused-hands past_resource n live made records a room e _ (λ h. rw (ne_eqb _ _ p, le-ltb _ _ q, ← is, t, ← is', u))
+        copies-past-src a u e = refused-hands PastResource n live made records a room e _ (λ h. rw (ne_eqb _ _ p, le-ltb _ _ q, ← is, t, ← is', u))
 
         module _ (u : b' ≡ false) where
           passes : (h : Holdings) → between (entries_of n entries) c d s h ≡ pick (eqb c.flags 1) (written_back (entries_of n entries) c d h) (accepted h)
@@ -171,16 +172,16 @@ Copies n entries live resources made records c a after =
 
 module _ (n : ℕ) (entries : List ℕ) (live : ℕ) (resources : List ℕ) (made : ℕ) (records : List ℕ) (c : CopyBuffer) (room : RowsExist n live made)
     (x : Option Resource) (dst : x ≡ buffer_of (lookup handle_of c.dst (resources_of live resources))) where
-  pub copies-no-dst : (a : Applied) → x ≡ None → a ≡ refused_with bad_handle live made → Copies n entries live resources made records c a records
+  pub copies-no-dst : (a : Applied) → x ≡ None → a ≡ refused_with BadHandle live made → Copies n entries live resources made records c a records
   unfolding on_copy_packet
   copies-no-dst a told e =
-      refused-applies bad_handle n live made records a room e _ resources (no_buffer _ _ _ (sym dst ∙ told))
+      refused-applies BadHandle n live made records a room e _ resources (no_buffer _ _ _ (sym dst ∙ told))
 
   module _ (d : Resource) (told : x ≡ Some d) (y : Option Resource) (src : y ≡ buffer_of (lookup handle_of c.src (resources_of live resources))) where
-    pub copies-no-src : (a : Applied) → y ≡ None → a ≡ refused_with bad_handle live made → Copies n entries live resources made records c a records
+    pub copies-no-src : (a : Applied) → y ≡ None → a ≡ refused_with BadHandle live made → Copies n entries live resources made records c a records
     unfolding on_copy_packet
     copies-no-src a gone e =
-        refused-applies bad_handle n live made records a room e _ resources (buffer-then _ d _ _ (sym dst ∙ told) ∙ no_buffer _ _ _ (sym src ∙ gone))
+        refused-applies BadHandle n live made records a room e _ resources (buffer-then _ d _ _ (sym dst ∙ told) ∙ no_buffer _ _ _ (sym src ∙ gone))
 
     module _ (s : Resource) (some : y ≡ Some s) where
       both-live : on_copy_packet (entries_of n entries) (holdings_of live resources made records) c

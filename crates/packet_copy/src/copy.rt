@@ -14,10 +14,8 @@ use kept_records::Records;
 use kept_resources::resources::{Resources, find_resource, resource_row};
 use packet_ranges::applied::{Applied, refuse};
 use packet_ranges::handout::{Resolved, hand_out, resolve};
-use rules::numbers::{
-    BAD_COPY, BAD_HANDLE, HOST_BACKED, NOT_IN_TABLE, PAST_ENTRY, PAST_RESOURCE, READ_ONLY, WRITES,
-};
-use rules::{CopyBuffer, Kind, Resource};
+use rules::numbers::WRITES;
+use rules::{CopyBuffer, Kind, Refusal, Resource};
 use widths::beyond;
 
 // The one flag of a copy, which asks for writeback.
@@ -54,14 +52,14 @@ fn write_back(
     ensures { HandsOut (written_back (entries_of kept entries.now) c dst) live made records.old result records.new }
 {
     if dst.backing == 0 {
-        return refuse(HOST_BACKED, live, made);
+        return refuse(Refusal::HostBacked, live, made);
     }
     match resolve(entries, kept, WRITES, dst, c.dstoffset, c.size) {
-        Resolved::Missing => refuse(NOT_IN_TABLE, live, made),
-        Resolved::Past => refuse(PAST_ENTRY, live, made),
+        Resolved::Missing => refuse(Refusal::NotInTable, live, made),
+        Resolved::Past => refuse(Refusal::PastEntry, live, made),
         Resolved::Inside(flags, range) => {
             if flags % 2 == 1 {
-                return refuse(READ_ONLY, live, made);
+                return refuse(Refusal::ReadOnly, live, made);
             }
             hand_out(records, made, live, range)
         }
@@ -83,16 +81,16 @@ fn copy_between(
     ensures { HandsOut (between (entries_of kept entries.now) c dst src) live made records.old result records.new }
 {
     if c.dst == c.src {
-        return refuse(BAD_COPY, live, made);
+        return refuse(Refusal::BadCopy, live, made);
     }
     if c.flags > WRITEBACK {
-        return refuse(BAD_COPY, live, made);
+        return refuse(Refusal::BadCopy, live, made);
     }
     if beyond(c.dstoffset, c.size, dst.bytes) {
-        return refuse(PAST_RESOURCE, live, made);
+        return refuse(Refusal::PastResource, live, made);
     }
     if beyond(c.srcoffset, c.size, src.bytes) {
-        return refuse(PAST_RESOURCE, live, made);
+        return refuse(Refusal::PastResource, live, made);
     }
     if c.flags == WRITEBACK {
         return write_back(entries, kept, records, made, live, c, dst);
@@ -120,9 +118,9 @@ pub fn on_copy(
         result resources.now records.new }
 {
     match live_buffer(resources, live, c.dst) {
-        None => refuse(BAD_HANDLE, live, made),
+        None => refuse(Refusal::BadHandle, live, made),
         Some(dst) => match live_buffer(resources, live, c.src) {
-            None => refuse(BAD_HANDLE, live, made),
+            None => refuse(Refusal::BadHandle, live, made),
             Some(src) => copy_between(entries, kept, records, made, live, c, dst, src),
         },
     }

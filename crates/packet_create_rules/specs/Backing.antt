@@ -2,7 +2,7 @@
 use Rattle.std.specs.Prelude.{◌≡◌, Bool, true, false, not, List, ℕ, ◌+◌, ◌^◌, ◌≤◌, ◌<◌, ltb, Ok}
 use Rattle.std.proofs.Common.{sym, ap, subst, ◌∙◌, add-zero, arith, rules}
 use borrow.Author.Tests.{ltb-false, le-leb, lt-leb, eq-eqb, ne_eqb}
-use Rattle.rules.specs.Numbers.{bad_handle, too_many, bad_shape, not_in_table, past_entry, most, backs}
+use Rattle.rules.specs.Numbers.{most, backs}
 use Rattle.rules.specs.Lists.{pushed, index_of}
 use Rattle.rules.specs.Lists.Found.{found}
 use Rattle.rules.specs.Table.{entry_id, matching}
@@ -10,6 +10,7 @@ use Rattle.rules.specs.Packets.{Holdings, Outcome, accepted, refused, refuse, fu
 use Rattle.rules.specs.declared.Entry.{Entry}
 use Rattle.rules.specs.declared.Resource.{Resource}
 use Rattle.rules.specs.declared.Record.{Record}
+use Rattle.rules.specs.declared.Refusal.TheVariants.{BadHandle, TooMany, BadShape, NotInTable, PastEntry}
 use Rattle.rows.specs.Rows.{row_at, length-table}
 use Rattle.kept_entries.specs.Views.{RowRead, entries_of}
 use Rattle.kept_entries.specs.Rows.{entry_found, entry-missing}
@@ -17,21 +18,22 @@ use Rattle.kept_resources.specs.Views.{resource_of_row, resources_of, record_of,
 use Rattle.kept_resources.specs.Resources.{resource-found, resource-missing}
 use Rattle.packet_ranges.specs.Views.{refused_with, Applies, RowsExist}
 use Rattle.packet_ranges.specs.declared.applied.Applied.{Applied}
+use Rattle.rules.specs.declared.Refusal.{Refusal}
 
 -- a refusal leaves what was held
-stays : (live made code : ℕ) (resources records : List ℕ) (o : Outcome) (a : Applied) → live ≤ most → made ≤ most → a ≡ refused_with code live made
-    → refused code (holdings_of live resources made records) ≡ o → Applies o a resources records
-stays live made code resources records o a p q e r =
+stays : (live made : ℕ) (why : Refusal) (resources records : List ℕ) (o : Outcome) (a : Applied) → live ≤ most → made ≤ most → a ≡ refused_with why live made
+    → refused why (holdings_of live resources made records) ≡ o → Applies o a resources records
+stays live made why resources records o a p q e r =
     subst (λ x. Applies o x resources records) (sym e) (record { outcome = r; live = p; made = q })
 
 -- ---- create_hosted
 
 module _ (live made : ℕ) (resources : List ℕ) (r : Resource) (room : (live ≤ most) × (made ≤ most)) where
-  pub hosted-full : (a : Applied) → most ≤ live → a ≡ refused_with too_many live made
+  pub hosted-full : (a : Applied) → most ≤ live → a ≡ refused_with TooMany live made
       → (l : List ℕ) → Applies (create_hosted (holdings_of live resources made l) r) a resources l
   unfolding create_hosted
   hosted-full a h e l =
-      stays live made too_many resources l _ a room.0 room.1 e (rw (length-table resource_of_row 12 live resources, le-leb _ _ h))
+      stays live made TooMany resources l _ a room.0 room.1 e (rw (length-table resource_of_row 12 live resources, le-leb _ _ h))
 
   pub hosted-stored : (m : List ℕ) → live < most → resources_of (live + 1) m ≡ pushed (resources_of live resources) r
       → (l : List ℕ) → Applies (create_hosted (holdings_of live resources made l) r) (record { verdict = Ok tt; live = live + 1; made = made }) m l
@@ -46,23 +48,23 @@ pub ruleset hosting = (hosted-full, hosted-stored, rules)
 -- what the rules ask of a backed resource that lies inside its entry, and what they then do
 unfoldable pub store_backed : Holdings → Resource → Record → Outcome
 store_backed h r c =
-    refuse too_many (full h.resources) h
-    (refuse too_many (full h.records) h
+    refuse TooMany (full h.resources) h
+    (refuse TooMany (full h.records) h
     (accepted (recorded c (stored r h))))
 
 module _ (live made : ℕ) (resources records : List ℕ) (r : Resource) (c : Record) (room : (live ≤ most) × (made ≤ most)) where
-  pub no_room : (a : Applied) → most ≤ live → a ≡ refused_with too_many live made
+  pub no_room : (a : Applied) → most ≤ live → a ≡ refused_with TooMany live made
       → Applies (store_backed (holdings_of live resources made records) r c) a resources records
   unfolding store_backed
   no_room a h told =
-      stays live made too_many resources records _ a room.0 room.1 told (rw (length-table resource_of_row 12 live resources, le-leb _ _ h))
+      stays live made TooMany resources records _ a room.0 room.1 told (rw (length-table resource_of_row 12 live resources, le-leb _ _ h))
 
   module _ (h : live < most) where
-    pub no-record-room : (a : Applied) → most ≤ made → a ≡ refused_with too_many live made
+    pub no-record-room : (a : Applied) → most ≤ made → a ≡ refused_with TooMany live made
         → Applies (store_backed (holdings_of live resources made records) r c) a resources records
     unfolding store_backed
     no-record-room a p told =
-        stays live made too_many resources records _ a room.0 room.1 told
+        stays live made TooMany resources records _ a room.0 room.1 told
         (rw (length-table resource_of_row 12 live resources, lt-leb _ _ h, length-table record_of 5 made records, le-leb _ _ p))
 
     pub both_stored : (resources' records' : List ℕ) → made < most → resources_of (live + 1) resources' ≡ pushed (resources_of live resources) r → records_of (made + 1) records' ≡ pushed (records_of made records) c
@@ -80,11 +82,11 @@ pub ruleset storing = (no_room, no-record-room, both_stored, rules)
 -- ---- create_backed
 
 module _ (n live made : ℕ) (es resources records : List ℕ) (r : Resource) (room : RowsExist n live made) (i : ℕ) (place : i ≡ index_of entry_id r.backing (entries_of n es)) where
-  pub backed-nowhere : (a : Applied) → n ≤ i → a ≡ refused_with not_in_table live made
+  pub backed-nowhere : (a : Applied) → n ≤ i → a ≡ refused_with NotInTable live made
       → Applies (create_backed (entries_of n es) (holdings_of live resources made records) r) a resources records
   unfolding create_backed
   backed-nowhere a h told =
-      stays live made not_in_table resources records _ a room.live room.made told (rw (entry-missing n i r.backing es place h))
+      stays live made NotInTable resources records _ a room.live room.made told (rw (entry-missing n i r.backing es place h))
 
   module _ (h : i < n) (e : Entry) (read : RowRead (row_at 4 es i) e) where
     matched : matching r.backing (entries_of n es) ≡ found e
@@ -92,16 +94,16 @@ module _ (n live made : ℕ) (es resources records : List ℕ) (r : Resource) (r
 
     -- what the rules ask once the entry is found
     in_entry : create_backed (entries_of n es) (holdings_of live resources made records) r
-        ≡ refuse past_entry (ltb e.size (r.offset + r.bytes)) (holdings_of live resources made records)
+        ≡ refuse PastEntry (ltb e.size (r.offset + r.bytes)) (holdings_of live resources made records)
         (store_backed (holdings_of live resources made records) r (range_of backs r e 0 r.bytes))
     unfolding create_backed store_backed
     in_entry = rw matched
 
     module _ (b : Bool) (is : b ≡ ltb e.size (r.offset + r.bytes)) where
-      pub backed-past : (a : Applied) → b ≡ true → a ≡ refused_with past_entry live made
+      pub backed-past : (a : Applied) → b ≡ true → a ≡ refused_with PastEntry live made
           → Applies (create_backed (entries_of n es) (holdings_of live resources made records) r) a resources records
       backed-past a t told =
-          stays live made past_entry resources records _ a room.live room.made told (rw (in_entry, ← is, t))
+          stays live made PastEntry resources records _ a room.live room.made told (rw (in_entry, ← is, t))
 
       module _ (t : b ≡ false) where
         -- a resource inside its entry begins at a number of eight bytes
@@ -118,26 +120,26 @@ pub ruleset backing = (backed-nowhere, backed-past, backed-fits, backed-inside, 
 -- ---- create
 
 module _ (n live made : ℕ) (es resources records : List ℕ) (good : Bool) (r : Resource) (room : RowsExist n live made) where
-  pub create-no-handle : (a : Applied) → r.handle ≡ 0 → a ≡ refused_with bad_handle live made
+  pub create-no-handle : (a : Applied) → r.handle ≡ 0 → a ≡ refused_with BadHandle live made
       → Applies (create (entries_of n es) (holdings_of live resources made records) good r) a resources records
   unfolding create
   create-no-handle a h e =
-      stays live made bad_handle resources records _ a room.live room.made e (rw (eq-eqb _ _ h))
+      stays live made BadHandle resources records _ a room.live room.made e (rw (eq-eqb _ _ h))
 
   module _ (h : r.handle ≡ 0 → ⊥) (i : ℕ) (place : i ≡ index_of handle_of r.handle (resources_of live resources)) where
-    pub create-live : (a : Applied) → i < live → a ≡ refused_with bad_handle live made
+    pub create-live : (a : Applied) → i < live → a ≡ refused_with BadHandle live made
         → Applies (create (entries_of n es) (holdings_of live resources made records) good r) a resources records
     unfolding create
     create-live a p e =
-        stays live made bad_handle resources records _ a room.live room.made e
+        stays live made BadHandle resources records _ a room.live room.made e
         (rw (ne_eqb _ _ h, resource-found live i r.handle resources place p))
 
     module _ (p : live ≤ i) where
-      pub create-bad : (a : Applied) → not good ≡ true → a ≡ refused_with bad_shape live made
+      pub create-bad : (a : Applied) → not good ≡ true → a ≡ refused_with BadShape live made
           → Applies (create (entries_of n es) (holdings_of live resources made records) good r) a resources records
       unfolding create
       create-bad a q e =
-          stays live made bad_shape resources records _ a room.live room.made e
+          stays live made BadShape resources records _ a room.live room.made e
           (rw (ne_eqb _ _ h, resource-missing live i r.handle resources place p, q))
 
       module _ (q : not good ≡ false) (a : Applied) (resources' : List ℕ) where

@@ -14,8 +14,8 @@ use kept_records::{Records, push_record};
 use kept_resources::resources::{Resources, find_resource};
 use kept_storing::push_resource;
 use packet_ranges::applied::{Applied, refuse};
-use rules::numbers::{BACKS, BAD_HANDLE, BAD_SHAPE, MOST_ROWS, NOT_IN_TABLE, PAST_ENTRY, TOO_MANY};
-use rules::{Record, Resource};
+use rules::numbers::{BACKS, MOST_ROWS};
+use rules::{Record, Refusal, Resource};
 use widths::beyond;
 
 // A host-backed resource asks for a row only. It makes no record, so any records stay as they are.
@@ -24,7 +24,7 @@ fn create_hosted(own: &mut Resources, live: usize, made: usize, r: Resource) -> 
     ensures { (l : List ℕ) → Applies (create_hosted (holdings_of live own.old made l) r) result own.new l }
 {
     if live >= MOST_ROWS {
-        return refuse(TOO_MANY, live, made);
+        return refuse(Refusal::TooMany, live, made);
     }
     push_resource(own, live, r);
     Applied {
@@ -47,10 +47,10 @@ fn store_backed(
     ensures { Applies (store_backed (holdings_of live own.old made records.old) r c) result own.new records.new }
 {
     if live >= MOST_ROWS {
-        return refuse(TOO_MANY, live, made);
+        return refuse(Refusal::TooMany, live, made);
     }
     if made >= MOST_ROWS {
-        return refuse(TOO_MANY, live, made);
+        return refuse(Refusal::TooMany, live, made);
     }
     push_resource(own, live, r);
     push_record(records, made, c);
@@ -78,12 +78,12 @@ fn create_backed(
 {
     let place = find_entry(entries, kept, r.backing);
     if place >= kept {
-        return refuse(NOT_IN_TABLE, live, made);
+        return refuse(Refusal::NotInTable, live, made);
     }
     let e = entry_row(entries, place);
     let offset = r.offset as u64;
     if beyond(offset, r.bytes, e.size) {
-        return refuse(PAST_ENTRY, live, made);
+        return refuse(Refusal::PastEntry, live, made);
     }
     let c = Record {
         kind: BACKS,
@@ -112,14 +112,14 @@ pub fn create(
         result own.new records.new }
 {
     if r.handle == 0 {
-        return refuse(BAD_HANDLE, live, made);
+        return refuse(Refusal::BadHandle, live, made);
     }
     let place = find_resource(own, live, r.handle);
     if place < live {
-        return refuse(BAD_HANDLE, live, made);
+        return refuse(Refusal::BadHandle, live, made);
     }
     if !good {
-        return refuse(BAD_SHAPE, live, made);
+        return refuse(Refusal::BadShape, live, made);
     }
     if r.backing == 0 {
         return create_hosted(own, live, made, r);

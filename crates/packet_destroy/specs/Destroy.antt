@@ -4,7 +4,7 @@ use Rattle.std.proofs.Math.Path.{sym}
 use Rattle.std.proofs.Common.{ap, ◌∙◌, arith, rules}
 use Rattle.std.proofs.Math.Bool.{true, false}
 use borrow.Author.Tests.{not-true, not-false}
-use Rattle.rules.specs.Numbers.{bad_handle, most}
+use Rattle.rules.specs.Numbers.{most}
 use Rattle.rules.specs.Lists.{index_of, lookup, removed}
 use Rattle.rules.specs.Lists.Found.{found}
 use Rattle.rules.specs.Names.{shareable}
@@ -12,6 +12,7 @@ use Rattle.rules.specs.Packets.{handle_of, on_destroy_packet, tokens_after}
 use Rattle.rules.specs.declared.DestroyResource.{DestroyResource}
 use Rattle.rules.specs.declared.Packet.TheVariants.{Destroy}
 use Rattle.rules.specs.declared.Resource.{Resource}
+use Rattle.rules.specs.declared.Refusal.TheVariants.{BadHandle}
 use Rattle.rows.specs.Rows.{row_at}
 use Rattle.kept_resources.specs.Views.{resource_of_row, resources_of, holdings_of}
 use Rattle.kept_resources.specs.Resources.{resource-found, resource-missing}
@@ -28,7 +29,7 @@ pub record Destroys (c : DestroyResource) (live made : ℕ) (before : List ℕ) 
   pub rebinds : (records : List ℕ) → Rebinds (λ ts. tokens_after (Destroy c) x.applied.verdict (holdings_of live before made records) ts) x
 
 module _ (c : DestroyResource) (live made i : ℕ) (l : List ℕ) (room : (live ≤ most) × (made ≤ most)) (place : i ≡ index_of handle_of c.handle (resources_of live l)) where
-  pub destroys-nothing : (x : Renamed) → live ≤ i → x ≡ renamed_nothing (refused_with bad_handle live made) → Destroys c live made l x l
+  pub destroys-nothing : (x : Renamed) → live ≤ i → x ≡ renamed_nothing (refused_with BadHandle live made) → Destroys c live made l x l
   unfolding on_destroy_packet tokens_after
   destroys-nothing x p e =
       rw e
@@ -73,7 +74,7 @@ done-unshared : (c : DestroyResource) (live made : ℕ) (l m : List ℕ) (a : Ap
 done-unshared c live made l m a d = record { done = λ e. d; left = λ e. absurd (let z : ◌≡◌ {A = ℕ} 0 1 = cc in omega arith) }
 
 module _ (c : DestroyResource) (live made i : ℕ) (l : List ℕ) (room : (live ≤ most) × (made ≤ most)) (place : i ≡ index_of handle_of c.handle (resources_of live l)) where
-  pub unshared-nothing : (a : Applied) → live ≤ i → a ≡ refused_with bad_handle live made → DestroysUnshared c live made l (record { applied = a; left = false }) l
+  pub unshared-nothing : (a : Applied) → live ≤ i → a ≡ refused_with BadHandle live made → DestroysUnshared c live made l (record { applied = a; left = false }) l
   unshared-nothing a p e = done-unshared c live made l l a (destroys-nothing c live made i l room place (renamed_nothing a) p (ap renamed_nothing e))
 
   module _ (p : i < live) (r : Resource) (row : r ≡ resource_of_row (row_at 12 l i)) (b : Bool) (is : b ≡ shareable r.kind) where

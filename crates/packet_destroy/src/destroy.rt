@@ -9,8 +9,7 @@ use kept_names::naming::{rename_left, shareable};
 use kept_resources::resources::{Resources, find_resource, resource_row};
 use kept_storing::remove_resource;
 use packet_ranges::applied::{Applied, Renamed, refuse, refuse_renaming};
-use rules::numbers::BAD_HANDLE;
-use rules::DestroyResource;
+use rules::{DestroyResource, Refusal};
 
 // Applies a destroy packet, in place.
 pub fn on_destroy(own: &mut Resources, live: usize, made: usize, c: DestroyResource) -> Renamed
@@ -19,7 +18,7 @@ pub fn on_destroy(own: &mut Resources, live: usize, made: usize, c: DestroyResou
 {
     let place = find_resource(own, live, c.handle);
     if place >= live {
-        return refuse_renaming(BAD_HANDLE, live, made);
+        return refuse_renaming(Refusal::BadHandle, live, made);
     }
     let r = resource_row(own, place);
     let kind = r.kind;
@@ -62,7 +61,7 @@ pub fn destroy_unshared(
 {
     let place = find_resource(own, live, c.handle);
     if place >= live {
-        let applied = refuse(BAD_HANDLE, live, made);
+        let applied = refuse(Refusal::BadHandle, live, made);
         return Destroyed {
             applied,
             left: false,

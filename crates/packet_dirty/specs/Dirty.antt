@@ -2,7 +2,7 @@
 use Rattle.std.specs.Prelude.{◌≡◌, Bool, true, false, List, ℕ, ◌+◌, ◌≤◌, ◌<◌, ltb}
 use Rattle.std.proofs.Common.{sym, ap, ◌∙◌, rules}
 use borrow.Author.Tests.{eq-eqb, ne_eqb}
-use Rattle.rules.specs.Numbers.{bad_handle, not_in_table, past_entry, past_resource, host_backed, reads}
+use Rattle.rules.specs.Numbers.{reads}
 use Rattle.rules.specs.Lists.{index_of, lookup}
 use Rattle.rules.specs.Lists.Found.{found}
 use Rattle.rules.specs.Table.{matching}
@@ -10,6 +10,7 @@ use Rattle.rules.specs.Packets.{handle_of, hand_out, on_dirty_packet}
 use Rattle.rules.specs.declared.Resource.{Resource}
 use Rattle.rules.specs.declared.Record.{Record}
 use Rattle.rules.specs.declared.DirtyRange.{DirtyRange}
+use Rattle.rules.specs.declared.Refusal.TheVariants.{BadHandle, NotInTable, PastEntry, PastResource, HostBacked}
 use Rattle.rows.specs.Rows.{row_at}
 use Rattle.kept_entries.specs.Views.{entries_of}
 use Rattle.kept_resources.specs.Views.{resource_of_row, resources_of, holdings_of}
@@ -26,25 +27,25 @@ Dirties n entries live resources made records c a after =
 
 module _ (n : ℕ) (entries : List ℕ) (live : ℕ) (resources : List ℕ) (made : ℕ) (records : List ℕ) (c : DirtyRange) (room : RowsExist n live made)
     (i : ℕ) (place : i ≡ index_of handle_of c.handle (resources_of live resources)) where
-  pub dirties-not-live : (a : Applied) → live ≤ i → a ≡ refused_with bad_handle live made → Dirties n entries live resources made records c a records
+  pub dirties-not-live : (a : Applied) → live ≤ i → a ≡ refused_with BadHandle live made → Dirties n entries live resources made records c a records
   unfolding on_dirty_packet
   dirties-not-live a p e =
-      refused-applies bad_handle n live made records a room e _ resources (rw (resource-missing live i c.handle resources place p))
+      refused-applies BadHandle n live made records a room e _ resources (rw (resource-missing live i c.handle resources place p))
 
   module _ (p : i < live) (r : Resource) (row : r ≡ resource_of_row (row_at 12 resources i)) where
     here : lookup handle_of c.handle (resources_of live resources) ≡ found r
     here = resource-found live i c.handle resources place p ∙ ap found (sym row)
 
-    pub dirties-hosted : (a : Applied) → r.backing ≡ 0 → a ≡ refused_with host_backed live made → Dirties n entries live resources made records c a records
+    pub dirties-hosted : (a : Applied) → r.backing ≡ 0 → a ≡ refused_with HostBacked live made → Dirties n entries live resources made records c a records
     unfolding on_dirty_packet
     dirties-hosted a q e =
-        refused-applies host_backed n live made records a room e _ resources (rw (here, eq-eqb _ _ q))
+        refused-applies HostBacked n live made records a room e _ resources (rw (here, eq-eqb _ _ q))
 
     module _ (q : r.backing ≡ 0 → ⊥) (b : Bool) (is : b ≡ ltb r.bytes (c.offset + c.size)) where
-      pub dirties-past : (a : Applied) → b ≡ true → a ≡ refused_with past_resource live made → Dirties n entries live resources made records c a records
+      pub dirties-past : (a : Applied) → b ≡ true → a ≡ refused_with PastResource live made → Dirties n entries live resources made records c a records
       unfolding on_dirty_packet
       dirties-past a t e =
-          refused-applies past_resource n live made records a room e _ resources (rw (here, ne_eqb _ _ q, ← is, t))
+          refused-applies PastResource n live made records a room e _ resources (rw (here, ne_eqb _ _ q, ← is, t))
 
       module _ (t : b ≡ false) where
         module _ (x : Resolved) (resolved : x ≡ resolved_of reads r c.offset c.size (matching r.backing (entries_of n entries))) where
@@ -55,13 +56,13 @@ module _ (n : ℕ) (entries : List ℕ) (live : ℕ) (resources : List ℕ) (mad
               rw (here, ne_eqb _ _ q, ← is, t, resolved)
               (entry-judged reads r c.offset c.size (matching r.backing (entries_of n entries)) (holdings_of live resources made records) (λ _ range. hand_out range (holdings_of live resources made records)))
 
-          pub dirties-missing : (a : Applied) → x ≡ Missing → a ≡ refused_with not_in_table live made → Dirties n entries live resources made records c a records
+          pub dirties-missing : (a : Applied) → x ≡ Missing → a ≡ refused_with NotInTable live made → Dirties n entries live resources made records c a records
           dirties-missing a told e =
-              refused-applies not_in_table n live made records a room e _ resources (judges ∙ rw told)
+              refused-applies NotInTable n live made records a room e _ resources (judges ∙ rw told)
 
-          pub dirties-past-entry : (a : Applied) → x ≡ Past → a ≡ refused_with past_entry live made → Dirties n entries live resources made records c a records
+          pub dirties-past-entry : (a : Applied) → x ≡ Past → a ≡ refused_with PastEntry live made → Dirties n entries live resources made records c a records
           dirties-past-entry a told e =
-              refused-applies past_entry n live made records a room e _ resources (judges ∙ rw told)
+              refused-applies PastEntry n live made records a room e _ resources (judges ∙ rw told)
 
           pub dirties-inside : (flags : ℕ) (range : Record) (a : Applied) (after : List ℕ) → x ≡ Inside flags range → HandsOut (hand_out range) live made records a after
               → Dirties n entries live resources made records c a after

@@ -9,8 +9,8 @@ use kept_records::Records;
 use kept_resources::resources::{Resources, find_resource, resource_row};
 use packet_ranges::applied::{Applied, refuse};
 use packet_ranges::handout::{Resolved, hand_out, resolve};
-use rules::DirtyRange;
-use rules::numbers::{BAD_HANDLE, HOST_BACKED, NOT_IN_TABLE, PAST_ENTRY, PAST_RESOURCE, READS};
+use rules::numbers::READS;
+use rules::{DirtyRange, Refusal};
 use widths::beyond;
 
 // Applies a dirty packet, in place. The entry is this submission's, whatever table the resource was created with.
@@ -30,18 +30,18 @@ pub fn on_dirty(
 {
     let place = find_resource(resources, live, c.handle);
     if place >= live {
-        return refuse(BAD_HANDLE, live, made);
+        return refuse(Refusal::BadHandle, live, made);
     }
     let r = resource_row(resources, place);
     if r.backing == 0 {
-        return refuse(HOST_BACKED, live, made);
+        return refuse(Refusal::HostBacked, live, made);
     }
     if beyond(c.offset, c.size, r.bytes) {
-        return refuse(PAST_RESOURCE, live, made);
+        return refuse(Refusal::PastResource, live, made);
     }
     match resolve(entries, kept, READS, r, c.offset, c.size) {
-        Resolved::Missing => refuse(NOT_IN_TABLE, live, made),
-        Resolved::Past => refuse(PAST_ENTRY, live, made),
+        Resolved::Missing => refuse(Refusal::NotInTable, live, made),
+        Resolved::Past => refuse(Refusal::PastEntry, live, made),
         Resolved::Inside(_, range) => hand_out(records, made, live, range),
     }
 }

@@ -5,7 +5,7 @@ use Rattle.std.proofs.Common.{ap, ◌∙◌, arith, rules}
 use Rattle.std.proofs.Math.Bool.{true, false}
 use borrow.Author.Tests.{eq-eqb, ne_eqb, le-leb, lt-leb, not-true, not-false}
 use Rattle.machine.specs.Machine.{pick}
-use Rattle.rules.specs.Numbers.{bad_handle, bad_shape, bad_token, too_many, most, most_tokens}
+use Rattle.rules.specs.Numbers.{most, most_tokens}
 use Rattle.rules.specs.Lists.{index_of, lookup, pushed}
 use Rattle.rules.specs.Lists.Found.{none, found}
 use Rattle.rules.specs.Names.{token_of, shareable, of_another, is_new, with_token}
@@ -14,6 +14,7 @@ use Rattle.rules.specs.declared.ExportSurface.{ExportSurface}
 use Rattle.rules.specs.declared.Packet.TheVariants.{Export}
 use Rattle.rules.specs.declared.Resource.{Resource}
 use Rattle.rules.specs.declared.Token.{Token}
+use Rattle.rules.specs.declared.Refusal.TheVariants.{BadHandle, TooMany, BadShape, BadToken}
 use Rattle.rows.specs.Rows.{row_at, length-table}
 use Rattle.kept_resources.specs.Views.{resource_of_row, resources_of, holdings_of}
 use Rattle.kept_resources.specs.Resources.{resource-found, resource-missing}
@@ -23,11 +24,12 @@ use Rattle.packet_ranges.specs.Views.{Applies, refused_with}
 use Rattle.packet_ranges.specs.Handout.{accepted_with}
 use Rattle.packet_ranges.specs.declared.applied.Applied.{Applied}
 use Rattle.packet_export.specs.declared.export.Exported.{Exported}
+use Rattle.rules.specs.declared.Refusal.{Refusal}
 
 -- ---- refuse_export
 
-abbrev pub exported_nothing : ℕ → ℕ → ℕ → Exported
-exported_nothing code live made = record { applied = refused_with code live made; added = false; name = 0 }
+abbrev pub exported_nothing : Refusal → ℕ → ℕ → Exported
+exported_nothing why live made = record { applied = refused_with why live made; added = false; name = 0 }
 
 pub exports-refused : (a b : Applied) → a ≡ b → ◌≡◌ {A = Exported} (record { applied = a; added = false; name = 0 }) (record { applied = b; added = false; name = 0 })
 exports-refused a b e = ap (λ x. record { applied = x; added = false; name = 0 }) e
@@ -39,8 +41,8 @@ pub ruleset refusing_export = (exports-refused, rules)
 -- "Export gives 28 for token 0, a token ever bound to another resource or one released"; 19
 abbrev pub bindable : ℕ → ℕ → List Token → Holdings → Outcome
 bindable low token ts h =
-    refuse bad_token (eqb token 0 || of_another (lookup token_of token ts) low) h
-    (refuse too_many (is_new (lookup token_of token ts) && leb most_tokens (length ts)) h (accepted h))
+    refuse BadToken (eqb token 0 || of_another (lookup token_of token ts) low) h
+    (refuse TooMany (is_new (lookup token_of token ts) && leb most_tokens (length ts)) h (accepted h))
 
 -- whatever is held, the answer is the rules' outcome; a new token is one more, and there is room for it
 pub record Binds (low token live made used : ℕ) (t : List ℕ) (x : Exported) : Type 0 where
@@ -53,9 +55,9 @@ apart : false ≡ true → ⊥
 apart e = let z : ◌≡◌ {A = ℕ} 0 1 = cc in omega arith
 
 module _ (low token live made used : ℕ) (t : List ℕ) (room : ((live ≤ most) × (made ≤ most)) × (used ≤ most_tokens)) where
-  refusal-binds : (code : ℕ) (x : Exported) → x ≡ exported_nothing code live made
-      → ((h : Holdings) → bindable low token (tokens_of used t) h ≡ refuse code true h (accepted h)) → Binds low token live made used t x
-  refusal-binds code x e f =
+  refusal-binds : (why : Refusal) (x : Exported) → x ≡ exported_nothing why live made
+      → ((h : Holdings) → bindable low token (tokens_of used t) h ≡ refuse why true h (accepted h)) → Binds low token live made used t x
+  refusal-binds why x e f =
       rw e
       (record {
         applies = λ resources records. record { outcome = sym (f (holdings_of live resources made records)); live = room.0.0; made = room.0.1 };
@@ -63,16 +65,16 @@ module _ (low token live made used : ℕ) (t : List ℕ) (room : ((live ≤ most
         room = λ p. absurd (apart p);
       })
 
-  pub binds-nothing : (x : Exported) → token ≡ 0 → x ≡ exported_nothing bad_token live made → Binds low token live made used t x
-  binds-nothing x p e = refusal-binds bad_token x e (λ h. rw (eq-eqb _ _ p))
+  pub binds-nothing : (x : Exported) → token ≡ 0 → x ≡ exported_nothing BadToken live made → Binds low token live made used t x
+  binds-nothing x p e = refusal-binds BadToken x e (λ h. rw (eq-eqb _ _ p))
 
   module _ (p : token ≡ 0 → ⊥) (i : ℕ) (place : i ≡ index_of token_of token (tokens_of used t)) where
     module _ (q : i < used) (k : Token) (row : k ≡ token_of_row (row_at 2 t i)) where
       known : lookup token_of token (tokens_of used t) ≡ found k
       known = token-found used i token t place q ∙ ap found (sym row)
 
-      pub binds-another : (x : Exported) → (k.name ≡ low → ⊥) → x ≡ exported_nothing bad_token live made → Binds low token live made used t x
-      binds-another x s e = refusal-binds bad_token x e (λ h. rw (ne_eqb _ _ p, known, ne_eqb _ _ s))
+      pub binds-another : (x : Exported) → (k.name ≡ low → ⊥) → x ≡ exported_nothing BadToken live made → Binds low token live made used t x
+      binds-another x s e = refusal-binds BadToken x e (λ h. rw (ne_eqb _ _ p, known, ne_eqb _ _ s))
 
       pub binds-again : k.name ≡ low → Binds low token live made used t (record { applied = accepted_with live made; added = false; name = low })
       binds-again s =
@@ -86,8 +88,8 @@ module _ (low token live made used : ℕ) (t : List ℕ) (room : ((live ≤ most
       unknown : lookup token_of token (tokens_of used t) ≡ none
       unknown = token-missing used i token t place q
 
-      pub binds-too-many : (x : Exported) → most_tokens ≤ used → x ≡ exported_nothing too_many live made → Binds low token live made used t x
-      binds-too-many x s e = refusal-binds too_many x e (λ h. rw (ne_eqb _ _ p, unknown, length-table token_of_row 2 used t, le-leb _ _ s))
+      pub binds-too-many : (x : Exported) → most_tokens ≤ used → x ≡ exported_nothing TooMany live made → Binds low token live made used t x
+      binds-too-many x s e = refusal-binds TooMany x e (λ h. rw (ne_eqb _ _ p, unknown, length-table token_of_row 2 used t, le-leb _ _ s))
 
       pub binds-new : used < most_tokens → Binds low token live made used t (record { applied = accepted_with live made; added = true; name = low })
       binds-new s =
@@ -114,7 +116,7 @@ pub exported-room : (c : ExportSurface) (live made used : ℕ) (l t : List ℕ) 
 exported-room c live made used l t x e p = e.room p
 
 module _ (c : ExportSurface) (live made used i : ℕ) (l t : List ℕ) (room : ((live ≤ most) × (made ≤ most)) × (used ≤ most_tokens)) (place : i ≡ index_of handle_of c.handle (resources_of live l)) where
-  pub exports-nothing : (x : Exported) → live ≤ i → x ≡ exported_nothing bad_handle live made → Exports c live made used l t x
+  pub exports-nothing : (x : Exported) → live ≤ i → x ≡ exported_nothing BadHandle live made → Exports c live made used l t x
   unfolding on_export_packet tokens_after
   exports-nothing x p e =
       rw e
@@ -128,7 +130,7 @@ module _ (c : ExportSurface) (live made used i : ℕ) (l t : List ℕ) (room : (
     here : lookup handle_of c.handle (resources_of live l) ≡ found r
     here = resource-found live i c.handle l place p ∙ ap found (sym row)
 
-    pub exports-no-texture : not b ≡ true → (x : Exported) → x ≡ exported_nothing bad_shape live made → Exports c live made used l t x
+    pub exports-no-texture : not b ≡ true → (x : Exported) → x ≡ exported_nothing BadShape live made → Exports c live made used l t x
     unfolding on_export_packet tokens_after
     exports-no-texture s x e =
         let unshared : shareable r.kind ≡ false = sym is ∙ not-true _ s in

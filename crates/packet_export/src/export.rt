@@ -8,8 +8,8 @@ use kept_resources::resources::{Resources, find_resource, resource_row};
 use kept_tokens::finding::find_token;
 use kept_tokens::{Tokens, token_row};
 use packet_ranges::applied::{Applied, refuse};
-use rules::numbers::{BAD_HANDLE, BAD_SHAPE, BAD_TOKEN, MOST_TOKENS, TOO_MANY};
-use rules::ExportSurface;
+use rules::numbers::MOST_TOKENS;
+use rules::{ExportSurface, Refusal};
 
 // What an export packet came to: whether the token is a new one, and the name that it is bound to then.
 #[derive(Clone, Copy)]
@@ -19,11 +19,11 @@ pub struct Exported {
     pub name: u32,
 }
 
-// Refused with a rule's number: no token is bound.
-fn refuse_export(code: u32, live: usize, made: usize) -> Exported
-    ensures { result ≡ exported_nothing code live made }
+// Refused by a rule: no token is bound.
+fn refuse_export(why: Refusal, live: usize, made: usize) -> Exported
+    ensures { result ≡ exported_nothing why live made }
 {
-    let applied = refuse(code, live, made);
+    let applied = refuse(why, live, made);
     Exported {
         applied,
         added: false,
@@ -37,7 +37,7 @@ fn bind(tokens: &Tokens, used: usize, live: usize, made: usize, low: u32, token:
     ensures { Binds low token live made used tokens.now result }
 {
     if token == 0 {
-        return refuse_export(BAD_TOKEN, live, made);
+        return refuse_export(Refusal::BadToken, live, made);
     }
     let applied = Applied {
         verdict: Ok(()),
@@ -48,7 +48,7 @@ fn bind(tokens: &Tokens, used: usize, live: usize, made: usize, low: u32, token:
     if place < used {
         let t = token_row(tokens, place);
         if t.name != low {
-            return refuse_export(BAD_TOKEN, live, made);
+            return refuse_export(Refusal::BadToken, live, made);
         }
         return Exported {
             applied,
@@ -57,7 +57,7 @@ fn bind(tokens: &Tokens, used: usize, live: usize, made: usize, low: u32, token:
         };
     }
     if used >= MOST_TOKENS {
-        return refuse_export(TOO_MANY, live, made);
+        return refuse_export(Refusal::TooMany, live, made);
     }
     Exported {
         applied,
@@ -80,12 +80,12 @@ pub fn on_export(
 {
     let i = find_resource(resources, live, c.handle);
     if i >= live {
-        return refuse_export(BAD_HANDLE, live, made);
+        return refuse_export(Refusal::BadHandle, live, made);
     }
     let r = resource_row(resources, i);
     let kind = r.kind;
     if !shareable(kind) {
-        return refuse_export(BAD_SHAPE, live, made);
+        return refuse_export(Refusal::BadShape, live, made);
     }
     bind(tokens, used, live, made, r.lowest, c.token)
 }

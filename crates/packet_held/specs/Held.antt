@@ -18,7 +18,7 @@ use Rattle.rules.specs.Judging.{Verdict}
 
 -- the number of the rule that is broken; a rule's number is never 0
 abbrev pub number_of : Verdict → ℕ
-number_of (Ok tt) = 0
+number_of (Ok _) = 0
 number_of (Err r) = r.code
 
 -- what was applied, with the rest of what is then held

@@ -5,7 +5,7 @@ use Rattle.std.proofs.Common.{sym, ap, ◌∙◌, add_assoc, rules}
 use native.Mathlib.Omega.{arith}
 use borrow.Author.Tests.{ltb-false, eq-eqb, ne_eqb, le-leb, lt-leb}
 use Rattle.machine.specs.Machine.{pick}
-use Rattle.rules.specs.Numbers.{too_many, not_in_table, past_entry, most}
+use Rattle.rules.specs.Numbers.{most}
 use Rattle.rules.specs.Lists.{Found, index_of, pushed}
 use Rattle.rules.specs.Lists.Found.{none, found}
 use Rattle.rules.specs.Table.{entry_id, matching}
@@ -13,6 +13,7 @@ use Rattle.rules.specs.Packets.{Holdings, Outcome, refused, refuse, on_entry, ra
 use Rattle.rules.specs.declared.Entry.{Entry}
 use Rattle.rules.specs.declared.Resource.{Resource}
 use Rattle.rules.specs.declared.Record.{Record}
+use Rattle.rules.specs.declared.Refusal.TheVariants.{TooMany, NotInTable, PastEntry}
 use Rattle.rows.specs.Rows.{row_at, length-table}
 use Rattle.widths.specs.Beyond.{long, short}
 use Rattle.kept_entries.specs.Views.{RowRead, entries_of}
@@ -22,6 +23,7 @@ use Rattle.packet_ranges.specs.Views.{Applies, RowsExist, refused_with}
 use Rattle.packet_ranges.specs.declared.applied.Applied.{Applied}
 use Rattle.packet_ranges.specs.declared.handout.Resolved.{Resolved}
 use Rattle.packet_ranges.specs.declared.handout.Resolved.TheVariants.{Missing, Past, Inside}
+use Rattle.rules.specs.declared.Refusal.{Refusal}
 
 -- ---- beyond_entry
 
@@ -43,18 +45,18 @@ resolved_of kind r from size (found e) = pick (ltb e.size (r.offset + (from + si
 
 -- "21 ..; 22 ..", and then what follows for an entry's flags and a range inside it
 abbrev pub judged : Resolved → Holdings → (ℕ → Record → Outcome) → Outcome
-judged Missing h later = refused not_in_table h
-judged Past h later = refused past_entry h
+judged Missing h later = refused NotInTable h
+judged Past h later = refused PastEntry h
 judged (Inside flags c) h later = later flags c
 
 module _ (kind : ℕ) (r : Resource) (from size : ℕ) where
   within-judged : (t : Bool) (flags : ℕ) (c : Record) (h : Holdings) (later : ℕ → Record → Outcome)
-      → refuse past_entry t h (later flags c) ≡ judged (pick t Past (Inside flags c)) h later
+      → refuse PastEntry t h (later flags c) ≡ judged (pick t Past (Inside flags c)) h later
   within-judged true flags c h later = refl
   within-judged false flags c h later = refl
 
   pub entry-judged : (f : Found Entry) (h : Holdings) (later : ℕ → Record → Outcome)
-      → on_entry f h (λ e. refuse past_entry (ltb e.size (r.offset + (from + size))) h (later e.flags (range_of kind r e from size)))
+      → on_entry f h (λ e. refuse PastEntry (ltb e.size (r.offset + (from + size))) h (later e.flags (range_of kind r e from size)))
       ≡ judged (resolved_of kind r from size f) h later
   unfolding resolved_of
   entry-judged none h later = refl
@@ -97,11 +99,11 @@ abbrev pub accepted_with : ℕ → ℕ → Applied
 accepted_with live made = record { verdict = Ok tt; live = live; made = made }
 
 -- a refusal with the rule's number keeps what was held
-module _ (code n live made : ℕ) (records : List ℕ) (a : Applied) (room : RowsExist n live made) (e : a ≡ refused_with code live made) where
-  pub refused-applies : (o : Outcome) (resources : List ℕ) → o ≡ refused code (holdings_of live resources made records) → Applies o a resources records
+module _ (why : Refusal) (n live made : ℕ) (records : List ℕ) (a : Applied) (room : RowsExist n live made) (e : a ≡ refused_with why live made) where
+  pub refused-applies : (o : Outcome) (resources : List ℕ) → o ≡ refused why (holdings_of live resources made records) → Applies o a resources records
   refused-applies o resources f = rw (e, f) (record { outcome = refl; live = room.live; made = room.made })
 
-  pub refused-hands : (o : Holdings → Outcome) → ((h : Holdings) → o h ≡ refused code h) → HandsOut o live made records a records
+  pub refused-hands : (o : Holdings → Outcome) → ((h : Holdings) → o h ≡ refused why h) → HandsOut o live made records a records
   refused-hands o f = record { applies = λ resources. refused-applies _ resources (f (holdings_of live resources made records)) }
 
 module _ (c : Record) (live made : ℕ) (l : List ℕ) (room : (live ≤ most) × (made ≤ most)) where
@@ -110,7 +112,7 @@ module _ (c : Record) (live made : ℕ) (l : List ℕ) (room : (live ≤ most) �
   hands-nothing p = record { applies = λ resources. record { outcome = rw (eq-eqb _ _ p); live = room.0; made = room.1 } }
 
   module _ (p : c.length ≡ 0 → ⊥) where
-    pub hands-too-many : (a : Applied) → most ≤ made → a ≡ refused_with too_many live made → HandsOut (hand_out c) live made l a l
+    pub hands-too-many : (a : Applied) → most ≤ made → a ≡ refused_with TooMany live made → HandsOut (hand_out c) live made l a l
     unfolding hand_out
     hands-too-many a q e =
         rw e

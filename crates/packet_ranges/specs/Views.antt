@@ -2,7 +2,6 @@
 use Rattle.std.specs.Prelude.{◌≡◌, refl, List, [], ◌∷◌, ℕ, ◌≤◌, Err}
 use Rattle.std.proofs.Common.{sym, ap, ⊎_elim, eq-eqb, ne_eqb}
 use Rattle.rules.specs.Numbers.{most}
-use Rattle.rules.specs.Judging.{refusal}
 use Rattle.rules.specs.Names.{renamed, rebind}
 use Rattle.rules.specs.Packets.{Outcome}
 use Rattle.rules.specs.declared.Token.{Token}
@@ -10,9 +9,10 @@ use Rattle.rows.specs.Keys.{same_or_not}
 use Rattle.kept_resources.specs.Views.{holdings_of}
 use Rattle.packet_ranges.specs.declared.applied.Applied.{Applied}
 use Rattle.packet_ranges.specs.declared.applied.Renamed.{Renamed}
+use Rattle.rules.specs.declared.Refusal.{Refusal}
 
-abbrev pub refused_with : ℕ → ℕ → ℕ → Applied
-refused_with code live made = record { verdict = Err (refusal code); live = live; made = made }
+abbrev pub refused_with : Refusal → ℕ → ℕ → Applied
+refused_with why live made = record { verdict = Err why; live = live; made = made }
 
 abbrev pub outcome_of : Applied → List ℕ → List ℕ → Outcome
 outcome_of a resources records = record { verdict = a.verdict; held = holdings_of a.live resources a.made records }

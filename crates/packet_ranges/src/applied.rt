@@ -21,11 +21,10 @@ pub struct Renamed {
     pub new: u32,
 }
 
-// Refused with a rule's number: what was held stays.
-pub fn refuse(code: u32, live: usize, made: usize) -> Applied
-    ensures { result ≡ refused_with code live made }
+// Refused by a rule: what was held stays.
+pub fn refuse(why: Refusal, live: usize, made: usize) -> Applied
+    ensures { result ≡ refused_with why live made }
 {
-    let why = Refusal { code };
     Applied {
         verdict: Err(why),
         live,
@@ -34,12 +33,11 @@ pub fn refuse(code: u32, live: usize, made: usize) -> Applied
 }
 
 // The same of a packet that might have changed a name.
-pub fn refuse_renaming(code: u32, live: usize, made: usize) -> Renamed
-    ensures { result ≡ renamed_nothing (refused_with code live made) }
+pub fn refuse_renaming(why: Refusal, live: usize, made: usize) -> Renamed
+    ensures { result ≡ renamed_nothing (refused_with why live made) }
 {
-    let applied = refuse(code, live, made);
     Renamed {
-        applied,
+        applied: refuse(why, live, made),
         old: 0,
         new: 0,
     }

@@ -10,8 +10,8 @@ ghost use Rattle.packet_ranges.specs.Handout.{HandsOut, resolved_of};
 use crate::applied::{Applied, refuse};
 use kept_entries::{Entries, entry_row, find_entry};
 use kept_records::{Records, push_record};
-use rules::numbers::{MOST_ROWS, TOO_MANY};
-use rules::{Record, Resource};
+use rules::numbers::MOST_ROWS;
+use rules::{Record, Refusal, Resource};
 use widths::beyond;
 
 // What a range of a resource comes to in this submission's table.
@@ -79,7 +79,7 @@ pub fn hand_out(records: &mut Records, made: usize, live: usize, c: Record) -> A
         };
     }
     if made >= MOST_ROWS {
-        return refuse(TOO_MANY, live, made);
+        return refuse(Refusal::TooMany, live, made);
     }
     push_record(records, made, c);
     Applied {

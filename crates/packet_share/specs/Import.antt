@@ -3,7 +3,7 @@ use Rattle.std.specs.Prelude.{◌≡◌, refl, Bool, true, false, ◌||◌, List
 use Rattle.std.proofs.Math.Path.{sym, ap}
 use Rattle.std.proofs.Common.{◌∙◌, ⊎_elim, arith, rules}
 use borrow.Author.Tests.{eq-eqb, ne_eqb, le-leb, lt-leb, lt-ltb, le-ltb}
-use Rattle.rules.specs.Numbers.{bad_handle, unbound_token, too_many, most, most_tokens}
+use Rattle.rules.specs.Numbers.{most, most_tokens}
 use Rattle.rules.specs.Lists.{index_of, lookup, pushed}
 use Rattle.rules.specs.Lists.Found.{found}
 use Rattle.rules.specs.Names.{token_of, lower, under, rename, rebind, names_with}
@@ -11,6 +11,7 @@ use Rattle.rules.specs.Packets.{handle_of, is_live, refused, bound, on_import_pa
 use Rattle.rules.specs.declared.ImportSurface.{ImportSurface}
 use Rattle.rules.specs.declared.Packet.TheVariants.{Import}
 use Rattle.rules.specs.declared.Resource.{Resource}
+use Rattle.rules.specs.declared.Refusal.TheVariants.{BadHandle, TooMany, UnboundToken}
 use Rattle.words.specs.Over.{below_or_not}
 use Rattle.rows.specs.Rows.{row_at, length-table}
 use Rattle.kept_resources.specs.Views.{resource_of_row, resources_of, holdings_of}
@@ -21,6 +22,7 @@ use Rattle.packet_ranges.specs.Views.{Applies, refused_with, renamed_nothing, re
 use Rattle.packet_ranges.specs.Handout.{accepted_with}
 use Rattle.packet_ranges.specs.declared.applied.Renamed.{Renamed}
 use Rattle.packet_share.specs.Bound.{BoundAt}
+use Rattle.rules.specs.declared.Refusal.{Refusal}
 
 -- ---- is_taken
 
@@ -81,10 +83,10 @@ pub record Imports (c : ImportSurface) (live made used : ℕ) (before t : List �
       → rebind x.old x.new (tokens_of used t) ≡ tokens_after (Import c) x.applied.verdict (holdings_of live before made records) (tokens_of used t)
 
 module _ (c : ImportSurface) (live made used : ℕ) (l t : List ℕ) (room : ((live ≤ most) × (made ≤ most)) × (used ≤ most_tokens)) where
-  refusal-imports : (code : ℕ) (x : Renamed) → x ≡ renamed_nothing (refused_with code live made)
-      → ((records : List ℕ) → on_import_packet (tokens_of used t) (holdings_of live l made records) c ≡ refused code (holdings_of live l made records)) → Imports c live made used l t x l
+  refusal-imports : (why : Refusal) (x : Renamed) → x ≡ renamed_nothing (refused_with why live made)
+      → ((records : List ℕ) → on_import_packet (tokens_of used t) (holdings_of live l made records) c ≡ refused why (holdings_of live l made records)) → Imports c live made used l t x l
   unfolding tokens_after
-  refusal-imports code x e f =
+  refusal-imports why x e f =
       rw e
       (record {
         applies = λ records. record { outcome = sym (f records); live = room.0.0; made = room.0.1 };
@@ -92,20 +94,20 @@ module _ (c : ImportSurface) (live made used : ℕ) (l t : List ℕ) (room : ((l
       })
 
   module _ (b : Bool) (is : b ≡ taken_in c.handle (resources_of live l)) where
-    pub imports-taken : (x : Renamed) → b ≡ true → x ≡ renamed_nothing (refused_with bad_handle live made) → Imports c live made used l t x l
+    pub imports-taken : (x : Renamed) → b ≡ true → x ≡ renamed_nothing (refused_with BadHandle live made) → Imports c live made used l t x l
     unfolding on_import_packet
-    imports-taken x q e = refusal-imports bad_handle x e (λ records. rw (← is, q))
+    imports-taken x q e = refusal-imports BadHandle x e (λ records. rw (← is, q))
 
     module _ (q : b ≡ false) (i r : ℕ) (place : i ≡ index_of token_of c.token (tokens_of used t)) (at : BoundAt live l used t i r) where
-      pub imports-unbound : (x : Renamed) → live ≤ r → x ≡ renamed_nothing (refused_with unbound_token live made) → Imports c live made used l t x l
+      pub imports-unbound : (x : Renamed) → live ≤ r → x ≡ renamed_nothing (refused_with UnboundToken live made) → Imports c live made used l t x l
       unfolding on_import_packet
-      imports-unbound x h e = refusal-imports unbound_token x e (λ records. rw (← is, q, at.missing c.token place h))
+      imports-unbound x h e = refusal-imports UnboundToken x e (λ records. rw (← is, q, at.missing c.token place h))
 
       module _ (h : r < live) where
-        pub imports-too-many : (x : Renamed) → most ≤ live → x ≡ renamed_nothing (refused_with too_many live made) → Imports c live made used l t x l
+        pub imports-too-many : (x : Renamed) → most ≤ live → x ≡ renamed_nothing (refused_with TooMany live made) → Imports c live made used l t x l
         unfolding on_import_packet
         imports-too-many x s e =
-            refusal-imports too_many x e (λ records. rw (← is, q, at.here c.token place h, length-table resource_of_row 12 live l, le-leb _ _ s))
+            refusal-imports TooMany x e (λ records. rw (← is, q, at.here c.token place h, length-table resource_of_row 12 live l, le-leb _ _ s))
 
         pub imports-one : live < most → (o : Resource) → o ≡ resource_of_row (row_at 12 l r) → (x : Renamed) (m : List ℕ) → AddsName live made c.handle o l x m → Imports c live made used l t x m
         unfolding on_import_packet tokens_after

@@ -1,7 +1,7 @@
 -- What a release packet comes to, whatever records are held. Assumes nothing.
 use Rattle.std.specs.Prelude.{◌≡◌, List, [], ◌∷◌, ℕ, ◌≤◌, ◌<◌, Err, Ok}
 use Rattle.std.proofs.Common.{ap, arith, rules}
-use Rattle.rules.specs.Numbers.{unbound_token, most, most_tokens}
+use Rattle.rules.specs.Numbers.{most, most_tokens}
 use Rattle.rules.specs.Lists.{index_of, over}
 use Rattle.rules.specs.Names.{token_of}
 use Rattle.rules.specs.Packets.{if-fine, on_release_packet, tokens_after}
@@ -16,6 +16,7 @@ use Rattle.packet_ranges.specs.declared.applied.Applied.{Applied}
 use Rattle.packet_share.specs.Bound.{BoundAt}
 use Rattle.packet_share.specs.declared.release.Released.{Released}
 use Rattle.rules.specs.Judging.{Verdict}
+use Rattle.rules.specs.declared.Refusal.TheVariants.{UnboundToken}
 
 -- the answer is the rules' outcome; where the packet is accepted, the token at the place is the one that is spent
 pub record Releases (c : ReleaseToken) (live made used : ℕ) (l t : List ℕ) (x : Released) : Type 0 where
@@ -33,7 +34,7 @@ broken-not-fine : (x : Verdict) (y : _) → x ≡ Err y → x ≡ Ok tt → ⊥
 broken-not-fine x y e f = let z : ◌≡◌ {A = ℕ} 0 1 = cc in omega arith
 
 module _ (c : ReleaseToken) (live made used i r : ℕ) (l t : List ℕ) (room : ((live ≤ most) × (made ≤ most)) × (used ≤ most_tokens)) (place : i ≡ index_of token_of c.token (tokens_of used t)) (at : BoundAt live l used t i r) where
-  pub releases-nothing : (a : Applied) → live ≤ r → a ≡ refused_with unbound_token live made → Releases c live made used l t (record { applied = a; place = 0 })
+  pub releases-nothing : (a : Applied) → live ≤ r → a ≡ refused_with UnboundToken live made → Releases c live made used l t (record { applied = a; place = 0 })
   unfolding on_release_packet tokens_after
   releases-nothing a p e =
       record {

@@ -11,8 +11,8 @@ use kept_storing::push_resource;
 use kept_tokens::Tokens;
 use kept_tokens::finding::find_token;
 use packet_ranges::applied::{Applied, Renamed, refuse_renaming};
-use rules::numbers::{BAD_HANDLE, MOST_ROWS, TOO_MANY, UNBOUND_TOKEN};
-use rules::{ImportSurface, Resource};
+use rules::numbers::MOST_ROWS;
+use rules::{ImportSurface, Refusal, Resource};
 
 // Whether a handle is no new name: it is 0, or live.
 fn is_taken(resources: &Resources, live: usize, handle: u32) -> bool
@@ -75,15 +75,15 @@ pub fn on_import(
     ensures { Imports c live made used own.old tokens.now result own.new }
 {
     if is_taken(own, live, c.handle) {
-        return refuse_renaming(BAD_HANDLE, live, made);
+        return refuse_renaming(Refusal::BadHandle, live, made);
     }
     let place = find_token(tokens, used, c.token);
     let i = bound_row(own, live, tokens, used, place);
     if i >= live {
-        return refuse_renaming(UNBOUND_TOKEN, live, made);
+        return refuse_renaming(Refusal::UnboundToken, live, made);
     }
     if live >= MOST_ROWS {
-        return refuse_renaming(TOO_MANY, live, made);
+        return refuse_renaming(Refusal::TooMany, live, made);
     }
     let r = resource_row(own, i);
     add_name(own, live, made, c.handle, r)

@@ -8,8 +8,7 @@ use kept_resources::resources::Resources;
 use kept_tokens::Tokens;
 use kept_tokens::finding::find_token;
 use packet_ranges::applied::{Applied, refuse};
-use rules::numbers::UNBOUND_TOKEN;
-use rules::ReleaseToken;
+use rules::{Refusal, ReleaseToken};
 
 // What a release packet came to, and the place of the token that is spent, if it was accepted.
 #[derive(Clone, Copy)]
@@ -33,7 +32,7 @@ pub fn on_release(
     let place = find_token(tokens, used, c.token);
     let i = bound_row(resources, live, tokens, used, place);
     if i >= live {
-        let applied = refuse(UNBOUND_TOKEN, live, made);
+        let applied = refuse(Refusal::UnboundToken, live, made);
         return Released { applied, place: 0 };
     }
     let applied = Applied {

@@ -2,12 +2,13 @@
 use Rattle.std.specs.Prelude.{◌≡◌, refl, Bool, true, false, not, ◌||◌, List, ℕ, ◌+◌, ◌-◌, ◌%◌, ◌≤◌, ◌<◌, ltb, leb}
 use Rattle.std.proofs.Common.{sym, ap, ◌∙◌, arith, rules}
 use borrow.Author.Tests.{ltb-true, ltb-false, leb-true, leb-false, lt-ltb, le-ltb, le-leb, lt-leb}
-use Rattle.rules.specs.Numbers.{bad_state, most, most_flags}
+use Rattle.rules.specs.Numbers.{most, most_flags}
 use Rattle.rules.specs.Floats.{bits_of, not_finite, sign_bit, infinity, key, below, float_zero, float_one, outside}
 use Rattle.rules.specs.StatePackets.{bad_bounds, bad_viewport, bad_values, bad_clear}
 use Rattle.rules.specs.Packets.{on_viewport_packet, on_clear_packet}
 use Rattle.rules.specs.declared.SetViewport.{SetViewport}
 use Rattle.rules.specs.declared.ClearValues.{ClearValues}
+use Rattle.rules.specs.declared.Refusal.TheVariants.{BadState}
 use Rattle.floats.specs.Bits.{key-up, key-down}
 use Rattle.kept_resources.specs.Views.{holdings_of}
 use Rattle.packet_ranges.specs.Views.{Applies, refused_with}
@@ -153,12 +154,12 @@ pub record Clears (c : ClearValues) (live made : ℕ) (a : Applied) : Type 0 whe
   pub applies : (resources records : List ℕ) → Applies (on_clear_packet (holdings_of live resources made records) c) a resources records
 
 module _ (live made : ℕ) (room : (live ≤ most) × (made ≤ most)) (a : Applied) (b : Bool) where
-  pub views-badly : (v : SetViewport) → b ≡ bad_viewport v → b ≡ true → a ≡ refused_with bad_state live made → Views v live made a
+  pub views-badly : (v : SetViewport) → b ≡ bad_viewport v → b ≡ true → a ≡ refused_with BadState live made → Views v live made a
   unfolding on_viewport_packet
   views-badly v is t e =
       rw e (record { applies = λ resources records. record { outcome = rw (← is, t); live = room.0; made = room.1 } })
 
-  pub clears-badly : (c : ClearValues) → b ≡ bad_clear c → b ≡ true → a ≡ refused_with bad_state live made → Clears c live made a
+  pub clears-badly : (c : ClearValues) → b ≡ bad_clear c → b ≡ true → a ≡ refused_with BadState live made → Clears c live made a
   unfolding on_clear_packet
   clears-badly c is t e =
       rw e (record { applies = λ resources records. record { outcome = rw (← is, t); live = room.0; made = room.1 } })

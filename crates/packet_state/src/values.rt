@@ -8,8 +8,8 @@ ghost use Rattle.packet_state.specs.Values.{Views, Clears};
 
 use floats::{below, bits_of, not_finite, outside};
 use packet_ranges::applied::{Applied, refuse};
-use rules::numbers::{BAD_STATE, MOST_FLAGS};
-use rules::{ClearValues, SetViewport};
+use rules::numbers::MOST_FLAGS;
+use rules::{ClearValues, Refusal, SetViewport};
 
 // The bits of 0.
 const FLOAT_ZERO: u32 = 0;
@@ -119,7 +119,7 @@ pub fn on_viewport(live: usize, made: usize, v: SetViewport) -> Applied
     ensures { Views v live made result }
 {
     if bad_viewport(v) {
-        return refuse(BAD_STATE, live, made);
+        return refuse(Refusal::BadState, live, made);
     }
     Applied {
         verdict: Ok(()),
@@ -164,7 +164,7 @@ pub fn on_clear(live: usize, made: usize, c: ClearValues) -> Applied
     ensures { Clears c live made result }
 {
     if bad_clear(c) {
-        return refuse(BAD_STATE, live, made);
+        return refuse(Refusal::BadState, live, made);
     }
     Applied {
         verdict: Ok(()),

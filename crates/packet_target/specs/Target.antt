@@ -7,7 +7,7 @@ use borrow.Author.Tests.{eq-eqb, ne_eqb, le-leb, lt-leb}
 use Rattle.std.specs.Int.{w32}
 use Rattle.std.specs.Int.Signed.{mag}
 use Rattle.std.proofs.lemmas.Int.{to_z-of_z}
-use Rattle.rules.specs.Numbers.{bad_handle, bad_state, too_many, most, clips}
+use Rattle.rules.specs.Numbers.{most, clips}
 use Rattle.rules.specs.Lists.{Found, index_of, lookup, pushed}
 use Rattle.rules.specs.Lists.Found.{none, found}
 use Rattle.rules.specs.StatePackets.{negative, bad_sides, begins, common, rectangle, clip_of}
@@ -18,6 +18,7 @@ use Rattle.rules.specs.declared.Record.{Record}
 use Rattle.rules.specs.declared.Shape.{Shape}
 use Rattle.rules.specs.declared.SetTarget.{SetTarget}
 use Rattle.rules.specs.declared.SetScissor.{SetScissor}
+use Rattle.rules.specs.declared.Refusal.TheVariants.{BadHandle, TooMany, BadState}
 use Rattle.rows.specs.Rows.{row_at, length-table}
 use Rattle.kept_resources.specs.Views.{record_of, records_of, resource_of_row, resources_of, holdings_of}
 use Rattle.kept_resources.specs.Resources.{resource-found, resource-missing}
@@ -82,7 +83,7 @@ pub record Targets (c : SetTarget) (live made : ℕ) (resources : List ℕ) (a :
 
 module _ (c : SetTarget) (live made : ℕ) (resources : List ℕ) (room : (live ≤ most) × (made ≤ most))
     (x : Option Shape) (is : x ≡ aimed_of (live_texture c.handle (holdings_of live resources 0 []))) where
-  pub targets-nothing : (a : Applied) → x ≡ None → a ≡ refused_with bad_handle live made → Targets c live made resources a
+  pub targets-nothing : (a : Applied) → x ≡ None → a ≡ refused_with BadHandle live made → Targets c live made resources a
   unfolding on_target_packet
   targets-nothing a told e =
       rw e
@@ -145,16 +146,16 @@ pub ruleset measuring = (negative-width, only-height, rectangle-made, clip-of-no
 
 -- the rules for a scissor once there is a target, with what is held as their last argument
 unfoldable pub clipped : Shape → SetScissor → Holdings → Outcome
-clipped s c h = refuse bad_state (bad_sides c) h (refuse too_many (full h.records) h (accepted (recorded (clip_of s c) h)))
+clipped s c h = refuse BadState (bad_sides c) h (refuse TooMany (full h.records) h (accepted (recorded (clip_of s c) h)))
 
 module _ (s : Shape) (c : SetScissor) (live made : ℕ) (l : List ℕ) (room : (live ≤ most) × (made ≤ most)) (b : Bool) (is : b ≡ bad_sides c) where
-  pub clips-badly : (a : Applied) → b ≡ true → a ≡ refused_with bad_state live made → HandsOut (clipped s c) live made l a l
+  pub clips-badly : (a : Applied) → b ≡ true → a ≡ refused_with BadState live made → HandsOut (clipped s c) live made l a l
   unfolding clipped
   clips-badly a t e =
       rw e (record { applies = λ resources. record { outcome = rw (← is, t); live = room.0; made = room.1 } })
 
   module _ (t : b ≡ false) where
-    pub clips-too-many : (a : Applied) → most ≤ made → a ≡ refused_with too_many live made → HandsOut (clipped s c) live made l a l
+    pub clips-too-many : (a : Applied) → most ≤ made → a ≡ refused_with TooMany live made → HandsOut (clipped s c) live made l a l
     unfolding clipped
     clips-too-many a q e =
         rw e
@@ -172,7 +173,7 @@ pub ruleset clipping = (clips-badly, clips-too-many, clips-one, rules)
 
 module _ (live : ℕ) (resources : List ℕ) (made : ℕ) (records : List ℕ) (target : ℕ) (c : SetScissor) (room : (live ≤ most) × (made ≤ most))
     (x : Option Shape) (is : x ≡ aimed_of (live_texture target (holdings_of live resources 0 []))) where
-  pub cuts_nothing : (a : Applied) → x ≡ None → a ≡ refused_with bad_state live made
+  pub cuts_nothing : (a : Applied) → x ≡ None → a ≡ refused_with BadState live made
       → Applies (on_scissor_packet target (holdings_of live resources made records) c) a resources records
   unfolding on_scissor_packet
   cuts_nothing a told e =

@@ -13,8 +13,8 @@ ghost use Rattle.packet_target.specs.Target.{aimed_of, Targets, clipped};
 use kept_records::{Records, push_record};
 use kept_resources::resources::{Resources, find_resource, resource_row};
 use packet_ranges::applied::{Applied, refuse};
-use rules::numbers::{BAD_HANDLE, BAD_STATE, CLIPS, MOST_ROWS, TOO_MANY};
-use rules::{Kind, Record, SetScissor, SetTarget, Shape};
+use rules::numbers::{CLIPS, MOST_ROWS};
+use rules::{Kind, Record, Refusal, SetScissor, SetTarget, Shape};
 use signed::{begins, common, is_negative};
 use widths::u32_to_word;
 
@@ -44,7 +44,7 @@ pub fn on_target(resources: &Resources, live: usize, made: usize, c: SetTarget) 
     ensures { Targets c live made resources.now result }
 {
     match live_texture(resources, live, c.handle) {
-        None => refuse(BAD_HANDLE, live, made),
+        None => refuse(Refusal::BadHandle, live, made),
         Some(_) => Applied {
             verdict: Ok(()),
             live,
@@ -97,10 +97,10 @@ fn clip_to(records: &mut Records, made: usize, live: usize, shape: Shape, c: Set
     ensures { HandsOut (clipped shape c) live made records.old result records.new }
 {
     if bad_sides(c) {
-        return refuse(BAD_STATE, live, made);
+        return refuse(Refusal::BadState, live, made);
     }
     if made >= MOST_ROWS {
-        return refuse(TOO_MANY, live, made);
+        return refuse(Refusal::TooMany, live, made);
     }
     let clip = clip_of(shape, c);
     push_record(records, made, clip);
@@ -125,7 +125,7 @@ pub fn on_scissor(
         result resources.now records.new }
 {
     match live_texture(resources, live, target) {
-        None => refuse(BAD_STATE, live, made),
+        None => refuse(Refusal::BadState, live, made),
         Some(shape) => clip_to(records, made, live, shape, c),
     }
 }

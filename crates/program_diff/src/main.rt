@@ -111,11 +111,11 @@ fn say_refused(code: u32, which: u32) {
 
 fn report(first: &[u8], second: &[u8]) {
     match parts(first, second) {
-        Err(e) => say_refused(e.code, e.which),
+        Err(e) => say_refused(e.why as u32, e.which),
         Ok(parting) => {
             say_parting(parting);
             match diff_calls::start(first, second) {
-                Err(e) => say_refused(e.code, e.which),
+                Err(e) => say_refused(e.why as u32, e.which),
                 Ok(cursor) => say_pairs(first, second, cursor),
             }
         }

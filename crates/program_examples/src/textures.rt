@@ -1,8 +1,8 @@
 // Examples 1 to 4: what textures measure, and which shapes are refused.
 use crate::lines::{say_example, say_judged};
 use program_lines::{say, say_count, say_named, say_number};
-use rules::numbers::{BAD_SHAPE, LONGEST_SIDE};
 use rules::Shape;
+use rules::numbers::{BAD_SHAPE, LONGEST_SIDE};
 
 // ---- a line for each thing that can be asked of a shape
 

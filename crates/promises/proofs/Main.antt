@@ -2,11 +2,11 @@
 use Rattle.std.specs.Prelude.{◌≡◌, refl, Bool, true, false, List, [], ◌++◌, ◌⊎◌, ℕ, ◌+◌, ◌≤◌, ◌<◌, length, take, Ok}
 use Rattle.std.proofs.Common.{ap, ◌∙◌, sym, subst, inl, inr, ⊎_elim, arith}
 use Rattle.machine.specs.Machine.{run_none, run-stop}
-use Rattle.rules.specs.Numbers.{done, host_failed, clips, most, in_work}
+use Rattle.rules.specs.Numbers.{done, clips, most, in_work}
 use Rattle.rules.specs.Ring.{opening_of}
 use Rattle.rules.specs.Layouts.{stream_header_size}
 use Rattle.rules.specs.Packets.{live, Progress, at_first, pass, left_by}
-use Rattle.rules.specs.Judging.{refusal, without_place}
+use Rattle.rules.specs.Judging.{without_place}
 use Rattle.rules.specs.Judging.Finding.{fine, broken}
 use Rattle.rules.specs.State.{Work, State, World, registering}
 use Rattle.rules.specs.State.Work.{resting, packets, waiting}
@@ -134,6 +134,7 @@ use Rattle.promises_of_saving.specs.Moved.{move_wrote}
 use Rattle.promises_of_saving.proofs.Moved.{form-1-is-never-refused-with-8, form-2-goes-back-exactly, load-of-moved, moves-there-and-back}
 use Rattle.promises_of_saving.proofs.ThereAndBack.{form-1-moves-there-and-back}
 use Rattle.rules.specs.Listed.{submission_listed, listed_at, listed}
+use Rattle.rules.specs.declared.Refusal.TheVariants.{HostFailed}
 use Rattle.promises_of_submissions.specs.Reads.{AgreeOn}
 use Rattle.promises_of_leftovers.specs.Matter.{AgreeOnListed, SameResults}
 use Rattle.promises_of_leftovers.proofs.Matter.{bytes-not-listed-cannot-matter as only-the-listed}
@@ -225,7 +226,7 @@ waits-until-answered cs w n k a = led-waits (calls_lead cs w n) k (acts-answers 
 
 -- and an answer that is lent the device's memory is taken: it settles the submission, with its resources and tokens or with error 27 and place 0
 pub an-answer-settles : (w : World) (j : Job) (es : List Entry) (h : Progress) → w.state.work ≡ waiting j es h → lent_another w ≡ false
-    → Settles w true (settled j fine (left_by h) w) × Settles w false (settled_keeping j (broken (without_place (refusal host_failed))) w)
+    → Settles w true (settled j fine (left_by h) w) × Settles w false (settled_keeping j (broken (without_place HostFailed)) w)
 an-answer-settles w j es h e l = (settles true _ (good-settles w j es h e), settles false _ (failed-settles w j es h e))
   where
     settles : (good : Bool) (v : World) → answered good w ≡ v → Settles w good v

@@ -35,7 +35,7 @@ use Rattle.promises.specs.Places.{BrokenAt, EntryRule, Placed, SizeFits, TellsWh
 -- ---- a broken rule and its place
 
 pub broken-at : (place : ℕ) (v : Verdict) (f : Fault) → at_place place v ≡ broken f → BrokenAt place v f
-broken-at place (Ok tt) f e = absurd (let z : ◌≡◌ {A = ℕ} 0 1 = cc in omega arith)
+broken-at place (Ok _) f e = absurd (let z : ◌≡◌ {A = ℕ} 0 1 = cc in omega arith)
 broken-at place (Err r) f e =
     let is : fault_at place r ≡ f = cc in
     record {

@@ -17,6 +17,7 @@ use Rattle.rule_laws.proofs.RuleNumbers.{opening-number-is-no-entrys, packet-num
 use Rattle.promises.specs.Places.{Placed, SizeFits, BrokenAt, TellsWhere}
 use Rattle.promises.proofs.Places.{broken-at, each-settling-tells-where}
 use Rattle.promises.specs.PlacesByNumber.{JudgesAnEntry, NumberedPlace, TellsWhich, entry_number_of, judged_by, place_told}
+use Rattle.rules.specs.Judging.{error_number}
 
 pub numbered-is-placed : (k : Work) (f : Fault) → NumberedPlace k f → Placed k f
 numbered-is-placed resting f p = p.1
@@ -27,13 +28,13 @@ numbered-is-placed (waiting j es h) f p = p
 -- a unit's broken rule has such a number
 pub unit-numbered : (w : World) (k : Work) (j : Job) (f : Fault) → Breaks w k j f → Placed k f → NumberedPlace k f
 unit-numbered w resting j f h p =
-    let numbered : opening_number h.why.code ≡ true =
+    let numbered : opening_number (error_number h.why) ≡ true =
     subst NumberedOpening h.here (opening-numbered w.mem w.state.regs.ring w.state.regs.ringsize) in
     (ap (λ (x : Fault). opening_number x.code) h.nowhere ∙ numbered, p)
 unit-numbered w (entries o kept) j f h p = p
 unit-numbered w (packets j t at es held) i f h p =
     let b : BrokenAt at (take_packet es held (left w.mem t at)).verdict f = broken-at _ _ f h.1 in
-    let numbered : packet_number b.why.code ≡ true = subst Numbered b.broke (take-packet-numbered es held (left w.mem t at)) in
+    let numbered : packet_number (error_number b.why) ≡ true = subst Numbered b.broke (take-packet-numbered es held (left w.mem t at)) in
     ((ap packet_number b.number ∙ numbered, p.0), p.1)
 unit-numbered w (waiting j es held) i f h p = p
 

@@ -9,7 +9,7 @@ use Prim.Native.Nat.{ℕ, zero, suc, ◌+◌, ◌-◌, ◌^◌, ◌≤◌, ◌<�
 use native.Mathlib.Omega.{arith}
 use Rattle.std.proofs.Math.ListN.{length, length-append, length-drop}
 use Rattle.rules.specs.Lists.{pushed}
-use Rattle.rules.specs.Judging.{Finding, fault_at, Verdict}
+use Rattle.rules.specs.Judging.{Finding, fault_at, Verdict, error_number}
 use Rattle.rules.specs.Judging.Finding.{fine, broken}
 use Rattle.rules.specs.Layouts.{entry, stream_header_size}
 use Rattle.rules.specs.Table.{Judged, entry_place, entry_rules, entries_from, entries_of, stop_or_go, judge_entries}
@@ -54,7 +54,7 @@ module _ (f : Fault) where
       by-verdict : (v : Verdict) → entry_rules memory earlier next ≡ v
           → (later.finding ≡ broken f → EntryRule f.code × (f.place < length (pushed earlier next) + n))
           → (stop_or_go (length earlier) v later).finding ≡ broken f → EntryRule f.code × (f.place < length earlier + suc n)
-      by-verdict (Ok tt) e ih k =
+      by-verdict (Ok _) e ih k =
           let found : EntryRule f.code × (f.place < length (pushed earlier next) + n) = ih k in
           (found.0, omega (arith, found.1, length-append earlier (next ∷ [])))
       by-verdict (Err r) e ih k =
@@ -71,7 +71,7 @@ module _ (f : Fault) where
       (λ none. absurd (fine-not-broken (rw (cut-end (suc k) at b (omega arith)) at e)))
       (below_or_not 0 (length b))
     where
-      here : (r : Refusal) → packet_number r.code ≡ true → 0 < length b → broken (fault_at at r) ≡ broken f → (Among f) at b
+      here : (r : Refusal) → packet_number (error_number r) ≡ true → 0 < length b → broken (fault_at at r) ≡ broken f → (Among f) at b
       here r numbered some q =
           let is : f.place ≡ at = (broken-at at (Err r) f q).told (omega arith) in
           let code : fault_at at r ≡ f = cc in
@@ -80,7 +80,7 @@ module _ (f : Fault) where
       by-verdict : (size : ℕ) → size ≤ length b → 0 < length b → (v : Verdict) → Numbered v → (q : Reckoned)
           → (q.finding ≡ broken f → (Among f) (at + size) (drop size b))
           → (one_further at v h q).finding ≡ broken f → (Among f) at b
-      by-verdict size fits some (Ok tt) l q ih g =
+      by-verdict size fits some (Ok _) l q ih g =
           let found : (Among f) (at + size) (drop size b) = ih g in
           (found.0, omega (arith, found.1), omega (arith, found.2, length-drop size b))
       by-verdict size fits some (Err r) l q ih g = here r l some g

@@ -50,7 +50,7 @@ module _ (f : Fault) where
       by-verdict : (v : Verdict) → entry_rules memory earlier next ≡ v
           → (later.finding ≡ broken f → EntryRule f.code × (f.place < length (pushed earlier next) + n))
           → (stop_or_go (length earlier) v later).finding ≡ broken f → EntryRule f.code × (f.place < length earlier + suc n)
-      by-verdict (Ok tt) e ih k =
+      by-verdict (Ok _) e ih k =
           let found : EntryRule f.code × (f.place < length (pushed earlier next) + n) = ih k in
           (found.0, omega (arith, found.1, length-append earlier (next ∷ [])))
       by-verdict (Err r) e ih k =
@@ -73,7 +73,7 @@ module _ (f : Fault) where
       by-verdict : (size : ℕ) → size ≤ length b → 0 < length b → (v : Verdict) (q : Reckoned)
           → (q.finding ≡ broken f → (Among f) (at + size) (drop size b))
           → (one_further at v h q).finding ≡ broken f → (Among f) at b
-      by-verdict size fits some (Ok tt) q ih g =
+      by-verdict size fits some (Ok _) q ih g =
           let found : (Among f) (at + size) (drop size b) = ih g in
           (omega (arith, found.0), omega (arith, found.1, length-drop size b))
       by-verdict size fits some (Err r) q ih g = here r some g

@@ -5,7 +5,7 @@ use Rattle.std.specs.Prelude.{◌≡◌, refl, Bool, true, false, List, [], ◌�
 use Rattle.std.proofs.Common.{arith}
 use Rattle.machine.specs.Machine.{pick}
 use Rattle.std.specs.Float.Ieee.{lt}
-use Rattle.rules.specs.Numbers.{done, other_memory, no_register, nothing_waits, no_record, bad_ring, no_place, host_failed, bad_handle, bad_state, too_many, most, most as most-records, set_target, set_viewport, set_scissor, clear as clear-opcode, export_surface, import_surface, release_token, bad_file, in_work, not_in_form, too_short}
+use Rattle.rules.specs.Numbers.{done, other_memory, no_register, nothing_waits, no_record, bad_ring, no_place, host_failed, most, most as most-records, set_target, set_viewport, set_scissor, clear as clear-opcode, export_surface, import_surface, release_token, bad_file, in_work, not_in_form, too_short}
 use Rattle.rules.specs.Ring.{opening_of}
 use Rattle.rules.specs.Table.{entries_of}
 use Rattle.rules.specs.Layouts.{stream_header_size, target_fields, viewport_floats, viewport_fields, scissor_fields, clear_floats, clear_fields, word, long, export_fields, import_fields, release_fields}
@@ -13,7 +13,7 @@ use Rattle.rules.specs.Floats.{float_of, is_nan_bits, nan_among, not_finite_amon
 use Rattle.rules.specs.Stream.{known, least_size, frame_of, packet_of}
 use Rattle.rules.specs.StatePackets.{bad_sides}
 use Rattle.rules.specs.Packets.{live_texture, Progress, at_first, pass, take_packet, bound}
-use Rattle.rules.specs.Judging.{refusal, Finding, without_place}
+use Rattle.rules.specs.Judging.{Finding, without_place}
 use Rattle.rules.specs.Judging.Finding.{fine, broken}
 use Rattle.rules.specs.Registers.{Read, register}
 use Rattle.rules.specs.State.{State, World, working, registering, nothing_owned}
@@ -75,6 +75,7 @@ use Rattle.promises_of_saving.specs.Places.{NotBefore}
 use Rattle.promises_of_saving.specs.GoesBack.{GoesBack}
 use Rattle.promises_of_saving.specs.MoveAnswers.{moved, LoadRefused, MoveNotInForm, MoveTooShort, MoveDone}
 use Rattle.rules.specs.Listed.{Named, packet_layout, stream_listed, listed}
+use Rattle.rules.specs.declared.Refusal.TheVariants.{BadHandle, TooMany, BadState}
 use Rattle.promises_of_submissions.specs.Reads.{AgreeOn, Ends}
 use Rattle.promises_of_submissions.specs.LocalWrites.{AgreeAt}
 use Rattle.promises_of_leftovers.specs.Course.{SameUnits}
@@ -315,7 +316,7 @@ the_rules_bounds_are_0_and_1 = the_bounds
 -- "The target is a live texture, else 18": a target packet that names one is accepted, and that is the target from then on; else nothing changes
 pub record TargetPacket (es : List Entry) (h : Progress) (c : SetTarget) : Type 0 where
   pub set : LiveTexture c.handle h.holdings → pass es h (Target c) ≡ record { verdict = Ok tt; held = record { holdings = h.holdings; target = c.handle; tokens = h.tokens } }
-  pub refused : live_texture c.handle h.holdings ≡ none → pass es h (Target c) ≡ record { verdict = Err (refusal bad_handle); held = h }
+  pub refused : live_texture c.handle h.holdings ≡ none → pass es h (Target c) ≡ record { verdict = Err BadHandle; held = h }
 
 pub a-target-is-a-live-texture : (es : List Entry) (h : Progress) (c : SetTarget) → TargetPacket es h c
 a-target-is-a-live-texture es h c = record { set = λ l. target-is-set es h c l.0 l.1; refused = target-is-refused es h c }
@@ -333,9 +334,9 @@ pub record Lasts (es : List Entry) (h : Progress) : Type 0 where
 
 -- "Error 30 .. scissor sides negative; scissor without a target", then 19, else it is accepted
 pub record ScissorPacket (es : List Entry) (h : Progress) (c : SetScissor) : Type 0 where
-  pub no_target : h.target ≡ 0 → pass es h (Scissor c) ≡ record { verdict = Err (refusal bad_state); held = h }
-  pub negative : LiveTexture h.target h.holdings → bad_sides c ≡ true → pass es h (Scissor c) ≡ record { verdict = Err (refusal bad_state); held = h }
-  pub no_room : LiveTexture h.target h.holdings → bad_sides c ≡ false → most-records ≤ length h.holdings.records → pass es h (Scissor c) ≡ record { verdict = Err (refusal too_many); held = h }
+  pub no_target : h.target ≡ 0 → pass es h (Scissor c) ≡ record { verdict = Err BadState; held = h }
+  pub negative : LiveTexture h.target h.holdings → bad_sides c ≡ true → pass es h (Scissor c) ≡ record { verdict = Err BadState; held = h }
+  pub no_room : LiveTexture h.target h.holdings → bad_sides c ≡ false → most-records ≤ length h.holdings.records → pass es h (Scissor c) ≡ record { verdict = Err TooMany; held = h }
   pub accepted : LiveTexture h.target h.holdings → bad_sides c ≡ false → length h.holdings.records < most-records → (pass es h (Scissor c)).verdict ≡ Ok tt
 
 pub when-a-scissor-is-accepted : (es : List Entry) (h : Progress) (c : SetScissor) → ScissorPacket es h c

@@ -7,7 +7,7 @@ use Rattle.rules.specs.Lists.{lookup}
 use Rattle.rules.specs.Registers.{register, write_of}
 use Rattle.rules.specs.Calls.{call_read, call_write}
 use Rattle.rules.specs.Numbers.{done, no_register, bad_ring, bad_entry, twice_in_table, no_place}
-use Rattle.rules.specs.Judging.{refusal, rule, ◌▹◌, Verdict}
+use Rattle.rules.specs.Judging.{rule, ◌▹◌, Verdict, error_number}
 use Rattle.rules.specs.Judging.Finding.{broken}
 use Rattle.rules.specs.Layouts.{entry, stream_header_size}
 use Rattle.rules.specs.Table.{matching, is_found, entry_place, entry_rules, keep, in_reach, take_entry}
@@ -23,6 +23,7 @@ use Rattle.rules.specs.declared.Opened.{Opened}
 use Rattle.rules.specs.declared.Refusal.{Refusal}
 use Rattle.rules.specs.declared.Stream.{Stream}
 use Rattle.rules.specs.declared.Table.{Table}
+use Rattle.rules.specs.declared.Refusal.TheVariants.{BadEntry, TwiceInTable}
 use Rattle.promises_of_units.specs.Called.{Called}
 use Rattle.promises_of_units.specs.Units.Unit.{settles}
 use Rattle.promises_of_units.specs.Changes.{told}
@@ -59,39 +60,39 @@ SizeFits (waiting j es h) = 0 ≤ 0
 pub record BrokenAt (place : ℕ) (v : Verdict) (f : Fault) : Type 0 where
   pub why : Refusal
   pub broke : v ≡ Err why
-  pub number : f.code ≡ why.code
+  pub number : f.code ≡ error_number why
   pub told : place < 2 ^ 32 → f.place ≡ place
 
 -- an entry breaks one of them
-pub entry-number : (memory : ℕ) (earlier : List Entry) (e : Entry) (r : Refusal) → entry_rules memory earlier e ≡ Err r → EntryRule r.code
+pub entry-number : (memory : ℕ) (earlier : List Entry) (e : Entry) (r : Refusal) → entry_rules memory earlier e ≡ Err r → EntryRule (error_number r)
 unfolding entry_rules
 entry-number memory earlier e r h = by_tests (eqb e.id 0) (eqb e.size 0) (ltb memory (e.gpa + e.size)) (is_found (matching e.id earlier)) h
   where
-    same : (n : ℕ) → Err (refusal n) ≡ Err r → r.code ≡ n
-    same n k = let is : refusal n ≡ r = cc in ap (λ (x : Refusal). x.code) (sym is)
+    same : (n : Refusal) → ◌≡◌ {A = Verdict} (Err n) (Err r) → error_number r ≡ error_number n
+    same n k = let is : n ≡ r = cc in ap error_number (sym is)
 
-    by_tests : (a b c d : Bool) → rule bad_entry a ▹ rule bad_entry b ▹ rule bad_entry c ▹ rule twice_in_table d ≡ Err r → EntryRule r.code
-    by_tests true b c d k = inl (same bad_entry k)
-    by_tests false true c d k = inl (same bad_entry k)
-    by_tests false false true d k = inl (same bad_entry k)
-    by_tests false false false true k = inr (same twice_in_table k)
+    by_tests : (a b c d : Bool) → rule BadEntry a ▹ rule BadEntry b ▹ rule BadEntry c ▹ rule TwiceInTable d ≡ Err r → EntryRule (error_number r)
+    by_tests true b c d k = inl (same BadEntry k)
+    by_tests false true c d k = inl (same BadEntry k)
+    by_tests false false true d k = inl (same BadEntry k)
+    by_tests false false false true k = inr (same TwiceInTable k)
     by_tests false false false false k = absurd (let z : ◌≡◌ {A = ℕ} 0 1 = cc in omega arith)
 
-pub taken-number : (m : List ℕ) (t : Table) (kept : List Entry) (r : Refusal) → (take_entry m t kept).verdict ≡ Err r → EntryRule r.code
+pub taken-number : (m : List ℕ) (t : Table) (kept : List Entry) (r : Refusal) → (take_entry m t kept).verdict ≡ Err r → EntryRule (error_number r)
 unfolding take_entry
 taken-number m t kept r = by_test (in_reach m t (length kept))
   where
     next : Entry
     next = entry m (entry_place t (length kept))
 
-    by-verdict : (v : Verdict) → entry_rules (length m) kept next ≡ v → (keep v kept next).verdict ≡ Err r → EntryRule r.code
-    by-verdict (Ok tt) e k = absurd (let z : ◌≡◌ {A = ℕ} 0 1 = cc in omega arith)
+    by-verdict : (v : Verdict) → entry_rules (length m) kept next ≡ v → (keep v kept next).verdict ≡ Err r → EntryRule (error_number r)
+    by-verdict (Ok _) e k = absurd (let z : ◌≡◌ {A = ℕ} 0 1 = cc in omega arith)
     by-verdict (Err x) e k = entry-number (length m) kept next r (e ∙ k)
 
-    by_test : (b : Bool) → (pick b (keep (entry_rules (length m) kept next) kept next) (record { verdict = Err (refusal bad_entry); kept = kept })).verdict ≡ Err r
-        → EntryRule r.code
+    by_test : (b : Bool) → (pick b (keep (entry_rules (length m) kept next) kept next) (record { verdict = Err BadEntry; kept = kept })).verdict ≡ Err r
+        → EntryRule (error_number r)
     by_test true k = by-verdict (entry_rules (length m) kept next) refl k
-    by_test false k = inl (let is : refusal bad_entry ≡ r = cc in ap (λ (x : Refusal). x.code) (sym is))
+    by_test false k = inl (let is : BadEntry ≡ r = cc in ap error_number (sym is))
 
 -- ---- of any device that was made and called
 

@@ -92,7 +92,7 @@ same-answers b c b' c' e d =
       parting = of-dumps (λ u v. asked (checked (broken_by u.ending) (broken_by v.ending)) (parted 0 u.packets v.packets));
       classes = λ i. of-dumps (λ u v. asked (checked (broken_by u.ending) (broken_by v.ending)) (class_of (nth u.packets i) (nth v.packets i)));
       offsets = λ i from. of-dumps (λ u v. asked (checked (broken_by u.ending) (broken_by v.ending)) (next_from from (offsets_of (nth u.packets i) (nth v.packets i))));
-      starts = of-dumps (λ u v. asked (checked (broken_by u.ending) (broken_by v.ending)));
+      starts = of-dumps (λ u v. asked (checked (broken_by u.ending) (broken_by v.ending)) (record { first = stream_header_size; second = stream_header_size }));
     }
   where
     of-dumps : {A : Type 0} (f : Dump → Dump → A) → f (dump_of false b) (dump_of false c) ≡ f (dump_of false b') (dump_of false c')

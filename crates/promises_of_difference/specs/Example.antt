@@ -8,6 +8,7 @@ use Rattle.rules.specs.Stream.{stream_rules, frame_of, frame_rules, least_size, 
 use Rattle.rules.specs.Dump.{listed, dump_of}
 use Rattle.rules.specs.Difference.{refused_stream, differing_from, class_both, offsets_both, offsets_at, next_from, check, parted, parts, class_asked, next_asked}
 use Rattle.rules.specs.declared.Class.TheVariants.{Equal, SameOpcode, OtherOpcode, OnlyFirst, OnlySecond, Neither}
+use Rattle.rules.specs.declared.Refusal.TheVariants.{BadStream, BadPacket}
 
 -- a header with this stream size, and the packets behind it
 abbrev stream : ℕ → List ℕ → List ℕ
@@ -75,10 +76,10 @@ pub in-neither : class_asked first second 5 ≡ Ok Neither
 unfolding differing_from class_both offsets_both next_from parted nth dump_of listed stream_rules frame_of frame_rules least_size known packet_of stream_header le wrong_header
 in-neither = refl
 
-pub second-refused : parts first (stream 65 (short 5)) ≡ Err (refused_stream 16 2)
+pub second-refused : parts first (stream 65 (short 5)) ≡ Err (refused_stream BadStream 2)
 unfolding differing_from class_both offsets_both next_from parted nth dump_of listed stream_rules frame_of frame_rules least_size known packet_of stream_header le wrong_header
 second-refused = refl
 
-pub first-if-both : parts (stream 32 (long 1)) (stream 65 (short 5)) ≡ Err (refused_stream 17 1)
+pub first-if-both : parts (stream 32 (long 1)) (stream 65 (short 5)) ≡ Err (refused_stream BadPacket 1)
 unfolding differing_from class_both offsets_both next_from parted nth dump_of listed stream_rules frame_of frame_rules least_size known packet_of stream_header le wrong_header
 first-if-both = refl

@@ -10,6 +10,8 @@ use Rattle.rules.specs.Difference.{refused_stream, packets, fault, checked, chec
 use Rattle.rules.specs.declared.Class.{Class}
 use Rattle.rules.specs.declared.Class.TheVariants.{Equal, SameOpcode, OtherOpcode, OnlyFirst, OnlySecond, Neither}
 use Rattle.rules.specs.declared.RefusedStream.{RefusedStream}
+use Rattle.rules.specs.Judging.{Verdict}
+use Rattle.rule_laws.specs.Fine.{broken-not-fine}
 
 -- first and second exchanged
 abbrev pub swapped : Class → Class
@@ -86,26 +88,18 @@ parted-swaps i (p ∷ ps) (q ∷ qs) =
 
 -- the same refusal, of the other stream
 abbrev pub other_stream : Result ⊤ RefusedStream → Result ⊤ RefusedStream
-other_stream (Ok tt) = Ok tt
-other_stream (Err r) = Err (refused_stream r.code (3 - r.which))
+other_stream (Ok _) = Ok tt
+other_stream (Err r) = Err (refused_stream r.why (3 - r.which))
 
-checked-first : (m n : ℕ) → m ≡ 0 → checked n m ≡ other_stream (checked m n)
-checked-first m n e = rw (eq-eqb m 0 e) (by_test (eqb n 0))
-  where
-    by_test : (t : Bool) → pick t (Ok tt) (Err (refused_stream n 1)) ≡ other_stream (pick t (Ok tt) (Err (refused_stream n 2)))
-    by_test true = refl
-    by_test false = refl
-
-checked-second : (m n : ℕ) → n ≡ 0 → checked n m ≡ other_stream (checked m n)
-checked-second m n e = rw (eq-eqb n 0 e) (by_test (eqb m 0))
-  where
-    by_test : (t : Bool) → pick t (Ok tt) (Err (refused_stream m 2)) ≡ other_stream (pick t (Ok tt) (Err (refused_stream m 1)))
-    by_test true = refl
-    by_test false = refl
+checked-swaps : (v w : Verdict) → ((v ≡ Ok tt) ⊎ (w ≡ Ok tt)) → checked w v ≡ other_stream (checked v w)
+checked-swaps (Ok _) (Ok _) h = refl
+checked-swaps (Ok _) (Err r) h = refl
+checked-swaps (Err r) (Ok _) h = refl
+checked-swaps (Err r) (Err q) h = ⊎_elim (λ e. absurd (broken-not-fine r e)) (λ e. absurd (broken-not-fine q e)) h
 
 -- unless both break a rule, of which the first is told
-pub check-swaps : (b c : List ℕ) → ((fault b ≡ 0) ⊎ (fault c ≡ 0)) → check c b ≡ other_stream (check b c)
-check-swaps b c h = ⊎_elim (λ e. checked-first (fault b) (fault c) e) (λ e. checked-second (fault b) (fault c) e) h
+pub check-swaps : (b c : List ℕ) → ((fault b ≡ Ok tt) ⊎ (fault c ≡ Ok tt)) → check c b ≡ other_stream (check b c)
+check-swaps b c h = checked-swaps (fault b) (fault c) h
 
 pub record Swaps (b c : List ℕ) : Type 0 where
   pub parting : parted 0 (packets c) (packets b) ≡ parted 0 (packets b) (packets c)

@@ -5,8 +5,7 @@ use Rattle.std.proofs.Math.Bool.{true}
 use mathlib.Core.List.{List, [], append-nil}
 use borrow.Author.Tests.{lt-leb, lt-ltb, eq-eqb}
 use Rattle.std.proofs.Math.Dec.{eqb}
-use Rattle.rules.specs.Numbers.{bad_packet}
-use Rattle.rules.specs.Judging.{refusal, ◌▹◌}
+use Rattle.rules.specs.Judging.{◌▹◌}
 use Rattle.rules.specs.Layouts.{ring_header, ring_header_size, descriptor, packet_header_size, ring_header_layout, descriptor_layout}
 use Rattle.rules.specs.Stream.{frame_rules, frame_of, left}
 use Rattle.rules.specs.Ring.{descriptor_rules, range_rules, good_ring, ring_opening, opening_of}
@@ -15,6 +14,7 @@ use Rattle.rules.specs.declared.Job.{Job}
 use Rattle.rules.specs.declared.Refusal.{Refusal}
 use Rattle.rules.specs.declared.Stream.{Stream}
 use Rattle.rules.specs.declared.Opening.TheVariants.{Refused}
+use Rattle.rules.specs.declared.Refusal.TheVariants.{BadPacket}
 
 module _ (m : List ℕ) (ring size : ℕ) where
   -- a ring that does not lie in memory, or is too small for a header: no field is listed
@@ -46,7 +46,7 @@ pub refused-lists-no-entry : (m : List ℕ) (ring size : ℕ) (j : Job) (r : Ref
 unfolding submission_listed
 refused-lists-no-entry m ring size j r e = rw e (append-nil _)
 
-short-is-misframed : (b : List ℕ) → length b < packet_header_size → frame_of b ≡ Err (refusal bad_packet)
+short-is-misframed : (b : List ℕ) → length b < packet_header_size → frame_of b ≡ Err BadPacket
 unfolding frame_of frame_rules
 short-is-misframed b h = let short : ltb (length b) packet_header_size ≡ true = lt-ltb _ _ h in rw short
 

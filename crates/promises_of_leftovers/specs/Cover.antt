@@ -9,8 +9,7 @@ use Rattle.std.proofs.Math.Nat.{min-le_left}
 use native.Mathlib.Omega.{arith}
 use Rattle.std.proofs.Math.ListN.{length, length-take, length-drop}
 use Rattle.machine.specs.Machine.{pick}
-use Rattle.rules.specs.Numbers.{bad_entry}
-use Rattle.rules.specs.Judging.{refusal, Verdict}
+use Rattle.rules.specs.Judging.{Verdict}
 use Rattle.rules.specs.Layouts.{entry, stream_header_size, entry_layout}
 use Rattle.rules.specs.Table.{entry_place, entry_rules, keep, in_reach, take_entry}
 use Rattle.rules.specs.Stream.{frame_of, size_of, left, stream_bytes, Frame}
@@ -25,6 +24,7 @@ use Rattle.rules.specs.declared.Registers.{Registers}
 use Rattle.rules.specs.declared.Table.{Table}
 use Rattle.rules.specs.declared.Stream.{Stream}
 use Rattle.rules.specs.declared.Opened.{Opened}
+use Rattle.rules.specs.declared.Refusal.TheVariants.{BadEntry}
 use Rattle.stream_packets.specs.Framing.{FrameFits, frame-sound}
 use Rattle.rule_laws.specs.Fine.{broken-not-fine}
 use Rattle.promises_of_packets.specs.Held.{Every, every-none, every_front, every_back}
@@ -73,11 +73,11 @@ kept-one-more m t kept = by_tests (in_reach m t (length kept)) (entry_rules (len
     next : Entry
     next = entry m (entry_place t (length kept))
 
-    by_tests : (b : Bool) (v : Verdict) → (pick b (keep v kept next) (record { verdict = Err (refusal bad_entry); kept = kept })).verdict ≡ Ok tt
-        → length (pick b (keep v kept next) (record { verdict = Err (refusal bad_entry); kept = kept })).kept ≡ suc (length kept)
-    by_tests true (Ok tt) e = rw length-append (omega arith)
+    by_tests : (b : Bool) (v : Verdict) → (pick b (keep v kept next) (record { verdict = Err BadEntry; kept = kept })).verdict ≡ Ok tt
+        → length (pick b (keep v kept next) (record { verdict = Err BadEntry; kept = kept })).kept ≡ suc (length kept)
+    by_tests true (Ok _) e = rw length-append (omega arith)
     by_tests true (Err r) e = absurd (broken-not-fine r e)
-    by_tests false v e = absurd (broken-not-fine (refusal bad_entry) e)
+    by_tests false v e = absurd (broken-not-fine BadEntry e)
 
 -- ---- one unit
 

@@ -35,8 +35,8 @@ module _ (m m' : List ℕ) (len : length m ≡ length m') where
     where
       by-verdicts : (u v : Verdict) → descriptor_rules stride (descriptor m at) ≡ u → range_rules (length m) (descriptor m at) ≡ v
           → placed at descriptor_layout ++ where_fine (u ▹ v) (ranges_listed m (descriptor m at)) ≡ placed at descriptor_layout ++ where_fine (u ▹ v) (ranges_listed m' (descriptor m at))
-      by-verdicts (Ok tt) (Ok tt) p q = rw (same-ranges (descriptor m at) (same.ranges p q))
-      by-verdicts (Ok tt) (Err r) p q = refl
+      by-verdicts (Ok _) (Ok _) p q = rw (same-ranges (descriptor m at) (same.ranges p q))
+      by-verdicts (Ok _) (Err r) p q = refl
       by-verdicts (Err r) v p q = refl
 
   pub same-opening-listed : (ring size : ℕ) → OpeningRead m m' ring size → opening_listed m ring size ≡ opening_listed m' ring size

@@ -76,7 +76,7 @@ opening_ring m ring size = by_tests (good_ring m ring size) (eqb h.head h.tail) 
 
     by_tests : (g t : Bool) (v : Verdict) → RingIs ring (pick g (pick t NoWork (concluded v (job_of ring h d) (opened_of m (job_of ring h d) d))) BadRing)
     by_tests true true v = omega arith
-    by_tests true false (Ok tt) = refl
+    by_tests true false (Ok _) = refl
     by_tests true false (Err r) = refl
     by_tests false t v = omega arith
 

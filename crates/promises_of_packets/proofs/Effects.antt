@@ -2,9 +2,8 @@
 use Rattle.std.specs.Prelude.{◌≡◌, true, List, ℕ, Err, Ok}
 use Rattle.std.proofs.Math.Path.{refl}
 use Rattle.machine.specs.Machine.{pick}
-use Rattle.rules.specs.Numbers.{bad_state, backs}
+use Rattle.rules.specs.Numbers.{backs}
 use Rattle.rules.specs.Lists.Found.{found}
-use Rattle.rules.specs.Judging.{refusal}
 use Rattle.rules.specs.Names.{with_token, without_token}
 use Rattle.rules.specs.Shapes.{good_backed}
 use Rattle.rules.specs.StatePackets.{bad_viewport, bad_clear, clip_of}
@@ -16,6 +15,7 @@ use Rattle.rules.specs.declared.SetScissor.{SetScissor}
 use Rattle.rules.specs.declared.Refusal.{Refusal}
 use Rattle.rules.specs.declared.Packet.{Packet}
 use Rattle.rules.specs.declared.Packet.TheVariants.{Buffer, Texture, Destroy, Dirty, Copy, Target, Viewport, Scissor, Clear, Export, Import, Release, NotANumber, Unknown}
+use Rattle.rules.specs.declared.Refusal.TheVariants.{BadState}
 use Rattle.promises_of_packets.specs.Effects.{Clipped, Exported, Fresh, Imported, InRange, Of, buffer-created, copy-or, create-or, destroy-or, destroyed, dirty-or, export-or, going_on, import-or, imported, refuse-or, release-or, scissor-or, target-or, texture-created, tokens_now}
 
 -- ---- one packet, whatever it is
@@ -43,13 +43,13 @@ module _ (P : Passed → Type 0) (es : List Entry) (h : Progress)
   pass-or (Dirty c) = dirty-or ((Of P es h refuses keeps stores backs-up removes hands targets cuts exports imports releases) (Dirty c)) h.holdings refuses es keeps hands c
   pass-or (Copy c) = copy-or ((Of P es h refuses keeps stores backs-up removes hands targets cuts exports imports releases) (Copy c)) h.holdings refuses es keeps hands c
   pass-or (Target c) = target-or ((Of P es h refuses keeps stores backs-up removes hands targets cuts exports imports releases) (Target c)) h.holdings refuses c (targets c.handle)
-  pass-or (Viewport v) = refuse-or ((Of P es h refuses keeps stores backs-up removes hands targets cuts exports imports releases) (Viewport v)) h.holdings refuses bad_state (bad_viewport v) _ (λ _. keeps)
+  pass-or (Viewport v) = refuse-or ((Of P es h refuses keeps stores backs-up removes hands targets cuts exports imports releases) (Viewport v)) h.holdings refuses BadState (bad_viewport v) _ (λ _. keeps)
   pass-or (Scissor c) = scissor-or ((Of P es h refuses keeps stores backs-up removes hands targets cuts exports imports releases) (Scissor c)) h.holdings refuses h.target c (λ s k. cuts s c k)
-  pass-or (Clear c) = refuse-or ((Of P es h refuses keeps stores backs-up removes hands targets cuts exports imports releases) (Clear c)) h.holdings refuses bad_state (bad_clear c) _ (λ _. keeps)
+  pass-or (Clear c) = refuse-or ((Of P es h refuses keeps stores backs-up removes hands targets cuts exports imports releases) (Clear c)) h.holdings refuses BadState (bad_clear c) _ (λ _. keeps)
   pass-or (Export c) = export-or ((Of P es h refuses keeps stores backs-up removes hands targets cuts exports imports releases) (Export c)) h refuses c (λ r e. rw e.named (exports c.handle c.token r e))
   pass-or (Import c) =
       import-or ((Of P es h refuses keeps stores backs-up removes hands targets cuts exports imports releases) (Import c)) h.holdings refuses h.tokens c (λ r some unused e room.
       rw e (imports c.handle c.token r (record { some = some; unused = unused; bound-to = e; room = room })))
   pass-or (Release c) = release-or ((Of P es h refuses keeps stores backs-up removes hands targets cuts exports imports releases) (Release c)) h.holdings refuses h.tokens c (λ r e. releases c.token r e)
-  pass-or NotANumber = refuses (refusal bad_state)
+  pass-or NotANumber = refuses BadState
   pass-or Unknown = keeps

@@ -6,10 +6,9 @@ use native.Mathlib.Omega.{arith}
 use borrow.Author.Tests.{eqb-false, leb-false, ltb-false, not-true, not-false}
 use Rattle.std.proofs.Math.Dec.{ltb, leb}
 use Rattle.machine.specs.Machine.{pick}
-use Rattle.rules.specs.Numbers.{bad_handle, too_many, bad_shape, not_in_table, past_entry, read_only, past_resource, host_backed, bad_copy, bad_token, unbound_token, bad_state, most, most_tokens, backs, reads, writes}
+use Rattle.rules.specs.Numbers.{most, most_tokens, backs, reads, writes}
 use Rattle.rules.specs.Lists.{Found, lookup}
 use Rattle.rules.specs.Lists.Found.{none, found}
-use Rattle.rules.specs.Judging.{refusal}
 use Rattle.rules.specs.Names.{token_of, shareable, with_lowest, under, names_left, tokens_left, names_with, tokens_with, of_another, is_new, with_token, without_token}
 use Rattle.rules.specs.Shapes.{good_shape, good_backed, packed_size, tight}
 use Rattle.rules.specs.StatePackets.{bad_sides, clip_of}
@@ -31,6 +30,7 @@ use Rattle.rules.specs.declared.Refusal.{Refusal}
 use Rattle.rules.specs.declared.Kind.{Kind}
 use Rattle.rules.specs.declared.Kind.TheVariants.{Buffer as BufferKind, Texture as TextureKind}
 use Rattle.rules.specs.declared.Packet.{Packet}
+use Rattle.rules.specs.declared.Refusal.TheVariants.{BadHandle, TooMany, BadShape, NotInTable, PastEntry, ReadOnly, PastResource, HostBacked, BadCopy, BadToken, UnboundToken, BadState}
 use Rattle.rule_laws.specs.Fine.{both_left, both_right}
 use Rattle.rule_laws.specs.Created.{BytesOf, ShapeOf, AsCreated}
 
@@ -129,31 +129,31 @@ pub record Imported (h : Progress) (k token : ℕ) (r : Resource) : Type 0 where
 -- ---- a packet's rules, one by one
 
 module _ (P : Outcome → Type 0) (h : Holdings) (refuses : (r : Refusal) → P (record { verdict = Err r; held = h })) where
-  pub refuse-or : (n : ℕ) (t : Bool) (later : Outcome) → (t ≡ false → P later) → P (refuse n t h later)
-  refuse-or n true later k = refuses (refusal n)
+  pub refuse-or : (n : Refusal) (t : Bool) (later : Outcome) → (t ≡ false → P later) → P (refuse n t h later)
+  refuse-or n true later k = refuses n
   refuse-or n false later k = k refl
 
   pub live-or : (f : Found Resource) (later : Resource → Outcome) → ((r : Resource) → f ≡ found r → P (later r)) → P (on_live f h later)
-  live-or none later k = refuses (refusal bad_handle)
+  live-or none later k = refuses BadHandle
   live-or (found r) later k = k r refl
 
   kind-or : (k : Kind) (later : Outcome) → P later → P (on_kind k h later)
   kind-or BufferKind later p = p
-  kind-or (TextureKind s) later p = refuses (refusal bad_handle)
+  kind-or (TextureKind s) later p = refuses BadHandle
 
   buffer-or : (f : Found Resource) (later : Resource → Outcome) → ((r : Resource) → f ≡ found r → P (later r)) → P (on_buffer f h later)
   buffer-or f later k = live-or f (λ r. on_kind r.kind h (later r)) (λ r e. kind-or r.kind (later r) (k r e))
 
   entry-or : (f : Found Entry) (later : Entry → Outcome) → ((e : Entry) → f ≡ found e → P (later e)) → P (on_entry f h later)
-  entry-or none later k = refuses (refusal not_in_table)
+  entry-or none later k = refuses NotInTable
   entry-or (found e) later k = k e refl
 
-  texture-or : (n : ℕ) (f : Found Shape) (later : Shape → Outcome) → ((s : Shape) → f ≡ found s → P (later s)) → P (on_texture n f h later)
-  texture-or n none later k = refuses (refusal n)
+  texture-or : (n : Refusal) (f : Found Shape) (later : Shape → Outcome) → ((s : Shape) → f ≡ found s → P (later s)) → P (on_texture n f h later)
+  texture-or n none later k = refuses n
   texture-or n (found s) later k = k s refl
 
   pub bound-or : (f : Found Resource) (later : Resource → Outcome) → ((r : Resource) → f ≡ found r → P (later r)) → P (on_bound f h later)
-  bound-or none later k = refuses (refusal unbound_token)
+  bound-or none later k = refuses UnboundToken
   bound-or (found r) later k = k r refl
 
   pick-or : (t : Bool) (x y : Outcome) → (t ≡ true → P x) → (t ≡ false → P y) → P (pick t x y)
@@ -176,21 +176,21 @@ module _ (P : Outcome → Type 0) (h : Holdings) (refuses : (r : Refusal) → P 
     pub create-or : (good : Bool) (r : Resource) → r.lowest ≡ r.handle → (good ≡ true → AsCreated r) → P (create es h good r)
     unfolding create create_hosted create_backed
     create-or good r own keep =
-        refuse-or bad_handle (eqb r.handle 0 || is_live (live r.handle h)) _ (λ a.
-        refuse-or bad_shape (not good) _ (λ b.
+        refuse-or BadHandle (eqb r.handle 0 || is_live (live r.handle h)) _ (λ a.
+        refuse-or BadShape (not good) _ (λ b.
         let two = neither (eqb r.handle 0) (is_live (live r.handle h)) a in
         let some : r.handle ≡ 0 → ⊥ = eqb-false r.handle 0 two.0 in
         let unused : live r.handle h ≡ none = unlive (live r.handle h) two.1 in
         let created : AsCreated r = keep (not-false good b) in
         pick-or (backed r.backing) _ _
         (λ _. entry-or (matching r.backing es) _ (λ e m.
-        refuse-or past_entry (ltb e.size (r.offset + r.bytes)) _ (λ i.
-        refuse-or too_many (full h.resources) _ (λ f.
-        refuse-or too_many (full h.records) _ (λ g.
+        refuse-or PastEntry (ltb e.size (r.offset + r.bytes)) _ (λ i.
+        refuse-or TooMany (full h.resources) _ (λ f.
+        refuse-or TooMany (full h.records) _ (λ g.
         let fits : r.offset + r.bytes ≤ e.size = ltb-false e.size (r.offset + r.bytes) i in
         backs-up r e (record { some = some; unused = unused; room = leb-false most (length h.resources) f; created = created; own = own })
         (record { entry = m; inside = omega arith; room = leb-false most (length h.records) g; low = omega arith; high = omega arith }))))))
-        (λ _. refuse-or too_many (full h.resources) _ (λ f.
+        (λ _. refuse-or TooMany (full h.resources) _ (λ f.
         stores r (record { some = some; unused = unused; room = leb-false most (length h.resources) f; created = created; own = own })))))
 
   module _ (es : List Entry) (keeps : P (accepted h))
@@ -200,17 +200,17 @@ module _ (P : Outcome → Type 0) (h : Holdings) (refuses : (r : Refusal) → P 
     unfolding hand_out
     handed-or kind r e from size low high m i =
         pick-or (eqb size 0) (accepted h) _ (λ _. keeps) (λ _.
-        refuse-or too_many (full h.records) _ (λ f.
+        refuse-or TooMany (full h.records) _ (λ f.
         hands kind r e from size (record { entry = m; inside = i; room = leb-false most (length h.records) f; low = low; high = high })))
 
     pub dirty-or : (c : DirtyRange) → P (on_dirty_packet es h c)
     unfolding on_dirty_packet
     dirty-or c =
         live-or (live c.handle h) _ (λ r _.
-        refuse-or host_backed (not (backed r.backing)) _ (λ _.
-        refuse-or past_resource (ltb r.bytes (c.offset + c.size)) _ (λ _.
+        refuse-or HostBacked (not (backed r.backing)) _ (λ _.
+        refuse-or PastResource (ltb r.bytes (c.offset + c.size)) _ (λ _.
         entry-or (matching r.backing es) _ (λ e m.
-        refuse-or past_entry (ltb e.size (r.offset + (c.offset + c.size))) _ (λ i.
+        refuse-or PastEntry (ltb e.size (r.offset + (c.offset + c.size))) _ (λ i.
         handed-or reads r e c.offset c.size (omega arith) (omega arith) m (ltb-false e.size (r.offset + (c.offset + c.size)) i))))))
 
     pub copy-or : (c : CopyBuffer) → P (on_copy_packet es h c)
@@ -218,14 +218,14 @@ module _ (P : Outcome → Type 0) (h : Holdings) (refuses : (r : Refusal) → P 
     copy-or c =
         buffer-or (live c.dst h) _ (λ d _.
         buffer-or (live c.src h) _ (λ s _.
-        refuse-or bad_copy (eqb c.dst c.src || ltb 1 c.flags) _ (λ _.
-        refuse-or past_resource (ltb d.bytes (c.dstoffset + c.size)) _ (λ _.
-        refuse-or past_resource (ltb s.bytes (c.srcoffset + c.size)) _ (λ _.
+        refuse-or BadCopy (eqb c.dst c.src || ltb 1 c.flags) _ (λ _.
+        refuse-or PastResource (ltb d.bytes (c.dstoffset + c.size)) _ (λ _.
+        refuse-or PastResource (ltb s.bytes (c.srcoffset + c.size)) _ (λ _.
         pick-or (eqb c.flags 1) _ _
-        (λ _. refuse-or host_backed (not (backed d.backing)) _ (λ _.
+        (λ _. refuse-or HostBacked (not (backed d.backing)) _ (λ _.
         entry-or (matching d.backing es) _ (λ e m.
-        refuse-or past_entry (ltb e.size (d.offset + (c.dstoffset + c.size))) _ (λ i.
-        refuse-or read_only (eqb (e.flags % 2) 1) _ (λ _.
+        refuse-or PastEntry (ltb e.size (d.offset + (c.dstoffset + c.size))) _ (λ i.
+        refuse-or ReadOnly (eqb (e.flags % 2) 1) _ (λ _.
         handed-or writes d e c.dstoffset c.size (omega arith) (omega arith) m (ltb-false e.size (d.offset + (c.dstoffset + c.size)) i))))))
         (λ _. keeps))))))
 
@@ -237,14 +237,14 @@ module _ (P : Outcome → Type 0) (h : Holdings) (refuses : (r : Refusal) → P 
 
   pub target-or : (c : SetTarget) → ((s : Shape) → live_texture c.handle h ≡ found s → P (accepted h)) → P (on_target_packet h c)
   unfolding on_target_packet
-  target-or c targets = texture-or bad_handle (live_texture c.handle h) _ targets
+  target-or c targets = texture-or BadHandle (live_texture c.handle h) _ targets
 
   pub scissor-or : (target : ℕ) (c : SetScissor) → ((s : Shape) → Clipped target h s c → P (accepted (recorded (clip_of s c) h))) → P (on_scissor_packet target h c)
   unfolding on_scissor_packet
   scissor-or target c clips-to =
-      texture-or bad_state (live_texture target h) _ (λ s t.
-      refuse-or bad_state (bad_sides c) _ (λ b.
-      refuse-or too_many (full h.records) _ (λ f. clips-to s (record { texture = t; sides = b; room = leb-false most (length h.records) f }))))
+      texture-or BadState (live_texture target h) _ (λ s t.
+      refuse-or BadState (bad_sides c) _ (λ b.
+      refuse-or TooMany (full h.records) _ (λ f. clips-to s (record { texture = t; sides = b; room = leb-false most (length h.records) f }))))
 
   pub import-or : (ts : List Token) (c : ImportSurface)
       → ((r : Resource) → (c.handle ≡ 0 → ⊥) → live c.handle h ≡ none → bound c.token ts h.resources ≡ found r → length h.resources < most
@@ -252,10 +252,10 @@ module _ (P : Outcome → Type 0) (h : Holdings) (refuses : (r : Refusal) → P 
       → P (on_import_packet ts h c)
   unfolding on_import_packet
   import-or ts c imports =
-      refuse-or bad_handle (eqb c.handle 0 || is_live (live c.handle h)) _ (λ a.
+      refuse-or BadHandle (eqb c.handle 0 || is_live (live c.handle h)) _ (λ a.
       let two = neither (eqb c.handle 0) (is_live (live c.handle h)) a in
       bound-or (bound c.token ts h.resources) _ (λ r e.
-      refuse-or too_many (full h.resources) _ (λ f.
+      refuse-or TooMany (full h.resources) _ (λ f.
       imports r (eqb-false c.handle 0 two.0) (unlive (live c.handle h) two.1) e (leb-false most (length h.resources) f))))
 
   pub release-or : (ts : List Token) (c : ReleaseToken) → ((r : Resource) → bound c.token ts h.resources ≡ found r → P (accepted h)) → P (on_release_packet ts h c)
@@ -267,10 +267,10 @@ module _ (P : Outcome → Type 0) (h : Progress) (refuses : (r : Refusal) → P 
   unfolding on_export_packet
   export-or c exports =
       live-or P h.holdings refuses (live c.handle h.holdings) _ (λ r e.
-      refuse-or P h.holdings refuses bad_shape (not (shareable r.kind)) _ (λ s.
-      refuse-or P h.holdings refuses bad_token (eqb c.token 0 || of_another (lookup token_of c.token h.tokens) r.lowest) _ (λ a.
+      refuse-or P h.holdings refuses BadShape (not (shareable r.kind)) _ (λ s.
+      refuse-or P h.holdings refuses BadToken (eqb c.token 0 || of_another (lookup token_of c.token h.tokens) r.lowest) _ (λ a.
       let two = neither P h.holdings refuses (eqb c.token 0) (of_another (lookup token_of c.token h.tokens) r.lowest) a in
-      refuse-or P h.holdings refuses too_many (is_new (lookup token_of c.token h.tokens) && leb most_tokens (length h.tokens)) _ (λ f.
+      refuse-or P h.holdings refuses TooMany (is_new (lookup token_of c.token h.tokens) && leb most_tokens (length h.tokens)) _ (λ f.
       exports r (record { named = e; shape = not-false (shareable r.kind) s; some = eqb-false c.token 0 two.0; same = two.1; room = f })))))
 
 -- ---- one packet, whatever it is

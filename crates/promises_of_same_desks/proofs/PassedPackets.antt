@@ -4,9 +4,7 @@ use Rattle.std.proofs.Math.Path.{refl, ap}
 use Rattle.std.proofs.Common.{◌∙◌}
 use Rattle.std.proofs.Math.Dec.{eqb}
 use Rattle.machine.specs.Machine.{pick}
-use Rattle.rules.specs.Numbers.{bad_state}
 use Rattle.rules.specs.Lists.Found.{found}
-use Rattle.rules.specs.Judging.{refusal}
 use Rattle.rules.specs.Names.{lower}
 use Rattle.rules.specs.StatePackets.{bad_viewport, bad_clear}
 use Rattle.rules.specs.Stream.{frame_of, packet_of, Frame}
@@ -15,6 +13,7 @@ use Rattle.rules.specs.declared.Entry.{Entry}
 use Rattle.rules.specs.declared.Record.{Record}
 use Rattle.rules.specs.declared.Packet.{Packet}
 use Rattle.rules.specs.declared.Packet.TheVariants.{Buffer, Texture, Destroy, Dirty, Copy, Target, Viewport, Scissor, Clear, Export, Import, Release, NotANumber, Unknown}
+use Rattle.rules.specs.declared.Refusal.TheVariants.{BadState}
 use Rattle.promises_of_packets.specs.SoundNames.{bound-is}
 use Rattle.promises_of_packets.specs.Held.{SoundProgress}
 use Rattle.promises_of_same_desks.specs.Maps.{same-rebound, same-with-token}
@@ -63,11 +62,11 @@ module _ (es : List Entry) (g h : Progress) (s : SoundProgress es g) (t : SoundP
   pass_same (Target c) =
       target-both ((Of es g h s t d) (Target c)) g.holdings h.holdings (refuses es g h s t d) d.resources d.records c
       (record { verdict = refl; held = record { resources = d.resources; records = d.records; target = refl; tokens = d.tokens } })
-  pass_same (Viewport v) = refuse-both ((Of es g h s t d) (Viewport v)) g.holdings h.holdings (refuses es g h s t d) bad_state (bad_viewport v) _ _ _ refl (keeps es g h s t d)
+  pass_same (Viewport v) = refuse-both ((Of es g h s t d) (Viewport v)) g.holdings h.holdings (refuses es g h s t d) BadState (bad_viewport v) _ _ _ refl (keeps es g h s t d)
   pass_same (Scissor c) =
       scissor-both ((Of es g h s t d) (Scissor c)) g.holdings h.holdings (refuses es g h s t d) d.resources d.records g.target h.target c d.target
       (λ k. record { verdict = refl; held = handed k })
-  pass_same (Clear c) = refuse-both ((Of es g h s t d) (Clear c)) g.holdings h.holdings (refuses es g h s t d) bad_state (bad_clear c) _ _ _ refl (keeps es g h s t d)
+  pass_same (Clear c) = refuse-both ((Of es g h s t d) (Clear c)) g.holdings h.holdings (refuses es g h s t d) BadState (bad_clear c) _ _ _ refl (keeps es g h s t d)
   pass_same (Export c) =
       export-both ((Of es g h s t d) (Export c)) g.holdings h.holdings (refuses es g h s t d) d.resources d.records g.tokens h.tokens d.tokens c (few-tokens es g h s t d) (λ r e.
       let f : live c.handle g.holdings ≡ found r = d.resources c.handle ∙ e in
@@ -95,7 +94,7 @@ module _ (es : List Entry) (g h : Progress) (s : SoundProgress es g) (t : SoundP
         verdict = refl;
         held = record { resources = d.resources; records = d.records; target = d.target; tokens = same-without-token c.token g.tokens h.tokens b.0 b.1 d.tokens };
       })
-  pass_same NotANumber = (refuses es g h s t d) (refusal bad_state)
+  pass_same NotANumber = (refuses es g h s t d) BadState
   pass_same Unknown = (keeps es g h s t d)
 
   -- and whatever the bytes left of a stream begin with

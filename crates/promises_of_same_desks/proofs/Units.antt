@@ -3,8 +3,7 @@ use Rattle.std.specs.Prelude.{◌≡◌, refl, Bool, true, false, ◌&&◌, List
 use Rattle.std.proofs.Common.{sym, ◌∙◌}
 use Rattle.std.proofs.Math.Path.{ap, subst}
 use Rattle.machine.specs.Machine.{pick, run_none, run-stop, run-go}
-use Rattle.rules.specs.Numbers.{host_failed, bad_ring}
-use Rattle.rules.specs.Judging.{refusal, Finding, at_place, without_place}
+use Rattle.rules.specs.Judging.{Finding, at_place, without_place}
 use Rattle.rules.specs.Judging.Finding.{fine, broken}
 use Rattle.rules.specs.Layouts.{stream_header_size}
 use Rattle.rules.specs.Table.{take_entry}
@@ -22,6 +21,7 @@ use Rattle.rules.specs.declared.Opened.{Opened}
 use Rattle.rules.specs.declared.Registers.{Registers}
 use Rattle.rules.specs.declared.Opening.{Opening}
 use Rattle.rules.specs.declared.Opening.TheVariants.{BadRing, NoWork, Refused, Started}
+use Rattle.rules.specs.declared.Refusal.TheVariants.{BadRing, HostFailed}
 use Rattle.promises_of_units.specs.Sound.{SoundWork, SoundState}
 use Rattle.promises_of_units.proofs.Sound.{step-keeps-sound}
 use Rattle.promises_of_same_desks.specs.Packets.{SameHeld, SamePassed}
@@ -70,7 +70,7 @@ module _ (w v : World) (d : SameWorld w v) where
       record {
         state = record {
           memory = d.state.memory;
-          regs = ap (λ (r : Registers). doorbell_cleared (faulted (without_place (refusal bad_ring)) 0 r)) d.state.regs;
+          regs = ap (λ (r : Registers). doorbell_cleared (faulted (without_place BadRing) 0 r)) d.state.regs;
           belongings = d.state.belongings;
           work = d.state.work;
         };
@@ -128,7 +128,7 @@ module _ (w v : World) (d : SameWorld w v) where
   answer-on-same good (both_at_entries o kept) = d
   answer-on-same good (both_at_packets j s at es e) = d
   answer-on-same true (both_wait j es {g = g} {h = h} e) = settled_same j fine (left_by g) (left_by h) (left-same g h e)
-  answer-on-same false (both_wait j es e) = keeping-same j (broken (without_place (refusal host_failed)))
+  answer-on-same false (both_wait j es e) = keeping-same j (broken (without_place HostFailed))
 
 -- ---- one unit
 

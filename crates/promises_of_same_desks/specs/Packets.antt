@@ -4,10 +4,9 @@ use Rattle.std.proofs.Math.Path.{refl, ap}
 use Rattle.std.proofs.Common.{◌∙◌}
 use Rattle.std.proofs.Math.Dec.{ltb, leb, eqb}
 use Rattle.machine.specs.Machine.{pick}
-use Rattle.rules.specs.Numbers.{bad_handle, too_many, bad_shape, not_in_table, past_entry, read_only, past_resource, host_backed, bad_copy, bad_token, unbound_token, bad_state, most, most_tokens, backs, reads, writes}
+use Rattle.rules.specs.Numbers.{most, most_tokens, backs, reads, writes}
 use Rattle.rules.specs.Lists.{Found, lookup}
 use Rattle.rules.specs.Lists.Found.{none, found}
-use Rattle.rules.specs.Judging.{refusal}
 use Rattle.rules.specs.Names.{token_of, shareable, names_left, names_with, of_another, is_new}
 use Rattle.rules.specs.StatePackets.{bad_sides, clip_of}
 use Rattle.rules.specs.Table.{matching}
@@ -29,6 +28,7 @@ use Rattle.rules.specs.declared.Refusal.{Refusal}
 use Rattle.rules.specs.declared.Kind.{Kind}
 use Rattle.rules.specs.declared.Kind.TheVariants.{Buffer as BufferKind, Texture as TextureKind}
 use Rattle.rules.specs.declared.Packet.{Packet}
+use Rattle.rules.specs.declared.Refusal.TheVariants.{BadHandle, TooMany, BadShape, NotInTable, PastEntry, ReadOnly, PastResource, HostBacked, BadCopy, BadToken, UnboundToken, BadState}
 use Rattle.promises_of_packets.specs.Held.{SoundProgress, texture-same}
 use Rattle.promises_of_same_desks.specs.Maps.{SameMap}
 
@@ -49,32 +49,32 @@ pub record SamePassed (o q : Passed) : Type 0 where
 
 module _ (P : Outcome → Outcome → Type 0) (g h : Holdings)
     (refuses : (r : Refusal) → P (record { verdict = Err r; held = g }) (record { verdict = Err r; held = h })) where
-  pub refuse-both : (n : ℕ) (s t : Bool) (x y : Outcome) → s ≡ t → P x y → P (refuse n s g x) (refuse n t h y)
-  refuse-both n s true x y e k = rw e (refuses (refusal n))
+  pub refuse-both : (n : Refusal) (s t : Bool) (x y : Outcome) → s ≡ t → P x y → P (refuse n s g x) (refuse n t h y)
+  refuse-both n s true x y e k = rw e (refuses n)
   refuse-both n s false x y e k = rw e k
 
   live_both : (e f : Found Resource) (x y : Resource → Outcome) → e ≡ f → ((r : Resource) → f ≡ found r → P (x r) (y r)) → P (on_live e g x) (on_live f h y)
-  live_both e none x y s k = rw s (refuses (refusal bad_handle))
+  live_both e none x y s k = rw s (refuses BadHandle)
   live_both e (found r) x y s k = rw s (k r refl)
 
   kind-both : (k : Kind) (x y : Outcome) → P x y → P (on_kind k g x) (on_kind k h y)
   kind-both BufferKind x y p = p
-  kind-both (TextureKind s) x y p = refuses (refusal bad_handle)
+  kind-both (TextureKind s) x y p = refuses BadHandle
 
   buffer-both : (e f : Found Resource) (x y : Resource → Outcome) → e ≡ f → ((r : Resource) → P (x r) (y r)) → P (on_buffer e g x) (on_buffer f h y)
   buffer-both e f x y s k =
       live_both e f (λ r. on_kind r.kind g (x r)) (λ r. on_kind r.kind h (y r)) s (λ r _. kind-both r.kind (x r) (y r) (k r))
 
   entry-both : (f : Found Entry) (x y : Entry → Outcome) → ((e : Entry) → P (x e) (y e)) → P (on_entry f g x) (on_entry f h y)
-  entry-both none x y k = refuses (refusal not_in_table)
+  entry-both none x y k = refuses NotInTable
   entry-both (found e) x y k = k e
 
-  texture-both : (n : ℕ) (e f : Found Shape) (x y : Shape → Outcome) → e ≡ f → ((s : Shape) → P (x s) (y s)) → P (on_texture n e g x) (on_texture n f h y)
-  texture-both n e none x y s k = rw s (refuses (refusal n))
+  texture-both : (n : Refusal) (e f : Found Shape) (x y : Shape → Outcome) → e ≡ f → ((s : Shape) → P (x s) (y s)) → P (on_texture n e g x) (on_texture n f h y)
+  texture-both n e none x y s k = rw s (refuses n)
   texture-both n e (found t) x y s k = rw s (k t)
 
   bound-both : (e f : Found Resource) (x y : Resource → Outcome) → e ≡ f → ((r : Resource) → f ≡ found r → P (x r) (y r)) → P (on_bound e g x) (on_bound f h y)
-  bound-both e none x y s k = rw s (refuses (refusal unbound_token))
+  bound-both e none x y s k = rw s (refuses UnboundToken)
   bound-both e (found r) x y s k = rw s (k r refl)
 
   pick-both : (t : Bool) (a b x y : Outcome) → P a b → P x y → P (pick t a x) (pick t b y)
@@ -92,29 +92,29 @@ module _ (P : Outcome → Outcome → Type 0) (g h : Holdings)
       pub create-both : (good : Bool) (r : Resource) → P (create es g good r) (create es h good r)
       unfolding create create_hosted create_backed
       create-both good r =
-          refuse-both bad_handle _ _ _ _ (ap (λ f. eqb r.handle 0 || is_live f) (same r.handle))
-          (refuse-both bad_shape (not good) (not good) _ _ refl
+          refuse-both BadHandle _ _ _ _ (ap (λ f. eqb r.handle 0 || is_live f) (same r.handle))
+          (refuse-both BadShape (not good) (not good) _ _ refl
           (pick-both (backed r.backing) _ _ _ _
           (entry-both (matching r.backing es) _ _ (λ e.
-          refuse-both past_entry (ltb e.size (r.offset + r.bytes)) _ _ _ refl
-          (refuse-both too_many (full g.resources) (full h.resources) _ _ (ap (leb most) few)
-          (refuse-both too_many (full g.records) (full h.records) _ _ full-records
+          refuse-both PastEntry (ltb e.size (r.offset + r.bytes)) _ _ _ refl
+          (refuse-both TooMany (full g.resources) (full h.resources) _ _ (ap (leb most) few)
+          (refuse-both TooMany (full g.records) (full h.records) _ _ full-records
           (backs-up r (range_of backs r e 0 r.bytes))))))
-          (refuse-both too_many (full g.resources) (full h.resources) _ _ (ap (leb most) few) (stores r))))
+          (refuse-both TooMany (full g.resources) (full h.resources) _ _ (ap (leb most) few) (stores r))))
 
     module _ (es : List Entry) (keeps : P (accepted g) (accepted h)) (hands : (c : Record) → P (accepted (recorded c g)) (accepted (recorded c h))) where
       handed-both : (c : Record) → P (hand_out c g) (hand_out c h)
       unfolding hand_out
-      handed-both c = pick-both (eqb c.length 0) _ _ _ _ keeps (refuse-both too_many (full g.records) (full h.records) _ _ full-records (hands c))
+      handed-both c = pick-both (eqb c.length 0) _ _ _ _ keeps (refuse-both TooMany (full g.records) (full h.records) _ _ full-records (hands c))
 
       pub dirty-both : (c : DirtyRange) → P (on_dirty_packet es g c) (on_dirty_packet es h c)
       unfolding on_dirty_packet
       dirty-both c =
           live_both (live c.handle g) (live c.handle h) _ _ (same c.handle) (λ r _.
-          refuse-both host_backed (not (backed r.backing)) _ _ _ refl
-          (refuse-both past_resource (ltb r.bytes (c.offset + c.size)) _ _ _ refl
+          refuse-both HostBacked (not (backed r.backing)) _ _ _ refl
+          (refuse-both PastResource (ltb r.bytes (c.offset + c.size)) _ _ _ refl
           (entry-both (matching r.backing es) _ _ (λ e.
-          refuse-both past_entry (ltb e.size (r.offset + (c.offset + c.size))) _ _ _ refl
+          refuse-both PastEntry (ltb e.size (r.offset + (c.offset + c.size))) _ _ _ refl
           (handed-both (range_of reads r e c.offset c.size))))))
 
       pub copy-both : (c : CopyBuffer) → P (on_copy_packet es g c) (on_copy_packet es h c)
@@ -122,14 +122,14 @@ module _ (P : Outcome → Outcome → Type 0) (g h : Holdings)
       copy-both c =
           buffer-both (live c.dst g) (live c.dst h) _ _ (same c.dst) (λ d.
           buffer-both (live c.src g) (live c.src h) _ _ (same c.src) (λ s.
-          refuse-both bad_copy (eqb c.dst c.src || ltb 1 c.flags) _ _ _ refl
-          (refuse-both past_resource (ltb d.bytes (c.dstoffset + c.size)) _ _ _ refl
-          (refuse-both past_resource (ltb s.bytes (c.srcoffset + c.size)) _ _ _ refl
+          refuse-both BadCopy (eqb c.dst c.src || ltb 1 c.flags) _ _ _ refl
+          (refuse-both PastResource (ltb d.bytes (c.dstoffset + c.size)) _ _ _ refl
+          (refuse-both PastResource (ltb s.bytes (c.srcoffset + c.size)) _ _ _ refl
           (pick-both (eqb c.flags 1) _ _ _ _
-          (refuse-both host_backed (not (backed d.backing)) _ _ _ refl
+          (refuse-both HostBacked (not (backed d.backing)) _ _ _ refl
           (entry-both (matching d.backing es) _ _ (λ e.
-          refuse-both past_entry (ltb e.size (d.offset + (c.dstoffset + c.size))) _ _ _ refl
-          (refuse-both read_only (eqb (e.flags % 2) 1) _ _ _ refl
+          refuse-both PastEntry (ltb e.size (d.offset + (c.dstoffset + c.size))) _ _ _ refl
+          (refuse-both ReadOnly (eqb (e.flags % 2) 1) _ _ _ refl
           (handed-both (range_of writes d e c.dstoffset c.size))))))
           keeps)))))
 
@@ -142,15 +142,15 @@ module _ (P : Outcome → Outcome → Type 0) (g h : Holdings)
 
     pub target-both : (c : SetTarget) → P (accepted g) (accepted h) → P (on_target_packet g c) (on_target_packet h c)
     unfolding on_target_packet
-    target-both c keeps = texture-both bad_handle _ _ _ _ (texture-same c.handle g h (same c.handle)) (λ s. keeps)
+    target-both c keeps = texture-both BadHandle _ _ _ _ (texture-same c.handle g h (same c.handle)) (λ s. keeps)
 
     pub scissor-both : (a b : ℕ) (c : SetScissor) → a ≡ b → ((k : Record) → P (accepted (recorded k g)) (accepted (recorded k h)))
         → P (on_scissor_packet a g c) (on_scissor_packet b h c)
     unfolding on_scissor_packet
     scissor-both a b c e hands =
-        texture-both bad_state _ _ _ _ (ap (λ k. live_texture k g) e ∙ texture-same b g h (same b)) (λ s.
-        refuse-both bad_state (bad_sides c) _ _ _ refl
-        (refuse-both too_many (full g.records) (full h.records) _ _ full-records (hands (clip_of s c))))
+        texture-both BadState _ _ _ _ (ap (λ k. live_texture k g) e ∙ texture-same b g h (same b)) (λ s.
+        refuse-both BadState (bad_sides c) _ _ _ refl
+        (refuse-both TooMany (full g.records) (full h.records) _ _ full-records (hands (clip_of s c))))
 
     module _ (ts us : List Token) (tokens : SameMap token_of ts us) where
       pub bound-same : (token : ℕ) → bound token ts g.resources ≡ bound token us h.resources
@@ -166,9 +166,9 @@ module _ (P : Outcome → Outcome → Type 0) (g h : Holdings)
       unfolding on_export_packet
       export-both c few exports =
           live_both (live c.handle g) (live c.handle h) _ _ (same c.handle) (λ r e.
-          refuse-both bad_shape (not (shareable r.kind)) _ _ _ refl
-          (refuse-both bad_token _ _ _ _ (ap (λ f. eqb c.token 0 || of_another f r.lowest) (tokens c.token))
-          (refuse-both too_many _ _ _ _ (ap (λ f. is_new f && leb most_tokens (length ts)) (tokens c.token) ∙ ap (λ n. is_new (lookup token_of c.token us) && leb most_tokens n) few)
+          refuse-both BadShape (not (shareable r.kind)) _ _ _ refl
+          (refuse-both BadToken _ _ _ _ (ap (λ f. eqb c.token 0 || of_another f r.lowest) (tokens c.token))
+          (refuse-both TooMany _ _ _ _ (ap (λ f. is_new f && leb most_tokens (length ts)) (tokens c.token) ∙ ap (λ n. is_new (lookup token_of c.token us) && leb most_tokens n) few)
           (exports r e))))
 
       pub import-both : (c : ImportSurface) → length g.resources ≡ length h.resources
@@ -177,9 +177,9 @@ module _ (P : Outcome → Outcome → Type 0) (g h : Holdings)
           → P (on_import_packet ts g c) (on_import_packet us h c)
       unfolding on_import_packet
       import-both c few imports =
-          refuse-both bad_handle _ _ _ _ (ap (λ f. eqb c.handle 0 || is_live f) (same c.handle))
+          refuse-both BadHandle _ _ _ _ (ap (λ f. eqb c.handle 0 || is_live f) (same c.handle))
           (bound-both _ _ _ _ (bound-same c.token) (λ r e.
-          refuse-both too_many (full g.resources) (full h.resources) _ _ (ap (leb most) few) (imports r e)))
+          refuse-both TooMany (full g.resources) (full h.resources) _ _ (ap (leb most) few) (imports r e)))
 
       pub release-both : (c : ReleaseToken) → ((r : Resource) → bound c.token us h.resources ≡ found r → P (accepted g) (accepted h))
           → P (on_release_packet ts g c) (on_release_packet us h c)

@@ -3,7 +3,6 @@ use Rattle.std.specs.Prelude.{◌≡◌, ℕ, take, Err, Ok}
 use Rattle.std.proofs.Math.Path.{refl}
 use Rattle.std.proofs.Common.{sym, ap, ◌∙◌, ⊎_elim, arith}
 use mathlib.Core.List.{List, [], ◌++◌}
-use Rattle.rules.specs.Numbers.{bad_state}
 use Rattle.rules.specs.Lists.{Found, lookup, pushed}
 use Rattle.rules.specs.Lists.Found.{none, found}
 use Rattle.rules.specs.Names.{names_left, names_with}
@@ -14,6 +13,7 @@ use Rattle.rules.specs.declared.Entry.{Entry}
 use Rattle.rules.specs.declared.Resource.{Resource}
 use Rattle.rules.specs.declared.Packet.{Packet}
 use Rattle.rules.specs.declared.Packet.TheVariants.{Buffer, Texture, Destroy, Dirty, Copy, Target, Viewport, Scissor, Clear, Export, Import, Release, NotANumber, Unknown}
+use Rattle.rules.specs.declared.Refusal.TheVariants.{BadState}
 use Rattle.rows.specs.Keys.{same_or_not, lookup-pushed-same, lookup-pushed-other}
 use Rattle.promises_of_packets.specs.Names.{none-not-found, found-same}
 use Rattle.promises_of_packets.specs.SoundNames.{Bindable}
@@ -115,10 +115,10 @@ module _ (es : List Entry) (h : Progress) (s : SoundProgress es h) where
       with-names-as-live (Copy c) (λ k other. copy-or ((SameLive es h s) k) h.holdings (λ r. refl) es refl (λ kind r e from size i. refl) c)
   a-packet-keeps-names (Target c) = with-names-as-live (Target c) (λ k other. target-or ((SameLive es h s) k) h.holdings (λ r. refl) c (λ t e. refl))
   a-packet-keeps-names (Viewport v) =
-      with-names-as-live (Viewport v) (λ k other. refuse-or ((SameLive es h s) k) h.holdings (λ r. refl) bad_state (bad_viewport v) (accepted h.holdings) (λ e. refl))
+      with-names-as-live (Viewport v) (λ k other. refuse-or ((SameLive es h s) k) h.holdings (λ r. refl) BadState (bad_viewport v) (accepted h.holdings) (λ e. refl))
   a-packet-keeps-names (Scissor c) = with-names-as-live (Scissor c) (λ k other. scissor-or ((SameLive es h s) k) h.holdings (λ r. refl) h.target c (λ t e. refl))
   a-packet-keeps-names (Clear c) =
-      with-names-as-live (Clear c) (λ k other. refuse-or ((SameLive es h s) k) h.holdings (λ r. refl) bad_state (bad_clear c) (accepted h.holdings) (λ e. refl))
+      with-names-as-live (Clear c) (λ k other. refuse-or ((SameLive es h s) k) h.holdings (λ r. refl) BadState (bad_clear c) (accepted h.holdings) (λ e. refl))
   a-packet-keeps-names (Export c) = with-names-as-live (Export c) (λ k other. export-or ((SameLive es h s) k) h (λ r. refl) c (λ r e. refl))
   a-packet-keeps-names (Import c) =
       with-names-as-live (Import c) (λ k other. import-or ((SameLive es h s) k) h.holdings (λ r. refl) h.tokens c (λ r some unused e room.

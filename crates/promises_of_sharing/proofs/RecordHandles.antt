@@ -2,7 +2,7 @@
 use Rattle.std.specs.Prelude.{◌≡◌, refl, Bool, true, false, not, ◌||◌, List, [], ◌∷◌, ℕ, ◌+◌, ◌%◌, eqb, ltb}
 use Rattle.std.proofs.Common.{sym, append-nil, arith}
 use Rattle.machine.specs.Machine.{pick}
-use Rattle.rules.specs.Numbers.{bad_handle, bad_shape, bad_state, bad_copy, past_entry, past_resource, host_backed, read_only, too_many, clips, backs, reads, writes}
+use Rattle.rules.specs.Numbers.{clips, backs, reads, writes}
 use Rattle.rules.specs.Lists.{Found, pushed}
 use Rattle.rules.specs.Lists.Found.{none, found}
 use Rattle.rules.specs.StatePackets.{bad_viewport, bad_clear, clip_of}
@@ -17,10 +17,12 @@ use Rattle.rules.specs.declared.CopyBuffer.{CopyBuffer}
 use Rattle.rules.specs.declared.DirtyRange.{DirtyRange}
 use Rattle.rules.specs.declared.Packet.{Packet}
 use Rattle.rules.specs.declared.Packet.TheVariants.{Buffer, Texture, Destroy, Dirty, Copy, Target, Viewport, Scissor, Clear, Export, Import, Release, NotANumber, Unknown}
+use Rattle.rules.specs.declared.Refusal.TheVariants.{BadHandle, TooMany, BadShape, PastEntry, ReadOnly, PastResource, HostBacked, BadCopy, BadState}
 use Rattle.promises_of_packets.specs.Names.{found-key}
 use Rattle.promises_of_packets.specs.Effects.{live-or, destroy-or, target-or, scissor-or, export-or, import-or, release-or}
 use Rattle.promises_of_packets.specs.Held.{Every, every-none, clip-kind}
 use Rattle.promises_of_sharing.specs.RecordHandles.{Adds, AddsUnderItsHandle, HasHandleOf}
+use Rattle.rules.specs.declared.Refusal.{Refusal}
 
 module _ (p : Packet) (h : Holdings) where
   none-added : AddsUnderItsHandle p h.records h.records
@@ -36,7 +38,7 @@ module _ (p : Packet) (h : Holdings) where
   either true x y a b = a
   either false x y a b = b
 
-  unless : (n : ℕ) (t : Bool) (later : Outcome) → (Adds p h) later → (Adds p h) (refuse n t h later)
+  unless : (n : Refusal) (t : Bool) (later : Outcome) → (Adds p h) later → (Adds p h) (refuse n t h later)
   unless n t later a = either t (refused n h) later none-added a
 
   on-any-entry : (f : Found Entry) (later : Entry → Outcome) → ((e : Entry) → (Adds p h) (later e)) → (Adds p h) (on_entry f h later)
@@ -56,21 +58,21 @@ module _ (p : Packet) (h : Holdings) where
 
   handed : (r : Record) → ((r.kind ≡ clips → ⊥) → HasHandleOf p r) → (Adds p h) (hand_out r h)
   unfolding hand_out
-  handed r has = either (eqb r.length 0) (accepted h) _ none-added (unless too_many (full h.records) (accepted (recorded r h)) (one-added r has))
+  handed r has = either (eqb r.length 0) (accepted h) _ none-added (unless TooMany (full h.records) (accepted (recorded r h)) (one-added r has))
 
   -- ---- create
 
   created : (es : List Entry) (good : Bool) (r : Resource) → ((e : Entry) → HasHandleOf p (range_of backs r e 0 r.bytes)) → (Adds p h) (create es h good r)
   unfolding create create_backed create_hosted
   created es good r has =
-      unless bad_handle (eqb r.handle 0 || is_live (live r.handle h)) _
-      (unless bad_shape (not good) _
+      unless BadHandle (eqb r.handle 0 || is_live (live r.handle h)) _
+      (unless BadShape (not good) _
       (either (backed r.backing) _ _
       (on-any-entry (matching r.backing es) _ (λ e.
-      unless past_entry (ltb e.size (r.offset + r.bytes)) _
-      (unless too_many (full h.resources) _
-      (unless too_many (full h.records) _ (one-added (range_of backs r e 0 r.bytes) (λ _. has e))))))
-      (unless too_many (full h.resources) (accepted (stored r h)) none-added)))
+      unless PastEntry (ltb e.size (r.offset + r.bytes)) _
+      (unless TooMany (full h.resources) _
+      (unless TooMany (full h.records) _ (one-added (range_of backs r e 0 r.bytes) (λ _. has e))))))
+      (unless TooMany (full h.resources) (accepted (stored r h)) none-added)))
 
 -- ---- dirty and copy
 
@@ -78,10 +80,10 @@ dirty-adds : (es : List Entry) (h : Holdings) (c : DirtyRange) → Adds (Dirty c
 unfolding on_dirty_packet
 dirty-adds es h c =
     on-its-row (Dirty c) h c.handle _ (λ r is.
-    unless (Dirty c) h host_backed (not (backed r.backing)) _
-    (unless (Dirty c) h past_resource (ltb r.bytes (c.offset + c.size)) _
+    unless (Dirty c) h HostBacked (not (backed r.backing)) _
+    (unless (Dirty c) h PastResource (ltb r.bytes (c.offset + c.size)) _
     (on-any-entry (Dirty c) h (matching r.backing es) _ (λ e.
-    unless (Dirty c) h past_entry (ltb e.size (r.offset + (c.offset + c.size))) _
+    unless (Dirty c) h PastEntry (ltb e.size (r.offset + (c.offset + c.size))) _
     (handed (Dirty c) h (range_of reads r e c.offset c.size) (λ _. is))))))
 
 copy-adds : (es : List Entry) (h : Holdings) (c : CopyBuffer) → Adds (Copy c) h (on_copy_packet es h c)
@@ -89,14 +91,14 @@ unfolding on_copy_packet write_back
 copy-adds es h c =
     on-its-buffer (Copy c) h c.dst _ (λ d is.
     on-its-buffer (Copy c) h c.src _ (λ s _.
-    unless (Copy c) h bad_copy (eqb c.dst c.src || ltb 1 c.flags) _
-    (unless (Copy c) h past_resource (ltb d.bytes (c.dstoffset + c.size)) _
-    (unless (Copy c) h past_resource (ltb s.bytes (c.srcoffset + c.size)) _
+    unless (Copy c) h BadCopy (eqb c.dst c.src || ltb 1 c.flags) _
+    (unless (Copy c) h PastResource (ltb d.bytes (c.dstoffset + c.size)) _
+    (unless (Copy c) h PastResource (ltb s.bytes (c.srcoffset + c.size)) _
     (either (Copy c) h (eqb c.flags 1) _ _
-    (unless (Copy c) h host_backed (not (backed d.backing)) _
+    (unless (Copy c) h HostBacked (not (backed d.backing)) _
     (on-any-entry (Copy c) h (matching d.backing es) _ (λ e.
-    unless (Copy c) h past_entry (ltb e.size (d.offset + (c.dstoffset + c.size))) _
-    (unless (Copy c) h read_only (eqb (e.flags % 2) 1) _
+    unless (Copy c) h PastEntry (ltb e.size (d.offset + (c.dstoffset + c.size))) _
+    (unless (Copy c) h ReadOnly (eqb (e.flags % 2) 1) _
     (handed (Copy c) h (range_of writes d e c.dstoffset c.size) (λ _. is))))))
     (none-added (Copy c) h))))))
 
@@ -114,13 +116,13 @@ ranges-carry-the-packets-handle es h (Copy c) = copy-adds es h.holdings c
 ranges-carry-the-packets-handle es h (Target c) =
     target-or (Adds (Target c) h.holdings) h.holdings (λ _. none-added (Target c) h.holdings) c (λ s e. none-added (Target c) h.holdings)
 ranges-carry-the-packets-handle es h (Viewport v) =
-    unless (Viewport v) h.holdings bad_state (bad_viewport v) (accepted h.holdings) (none-added (Viewport v) h.holdings)
+    unless (Viewport v) h.holdings BadState (bad_viewport v) (accepted h.holdings) (none-added (Viewport v) h.holdings)
 -- a clipped rectangle is no range
 ranges-carry-the-packets-handle es h (Scissor c) =
     scissor-or (Adds (Scissor c) h.holdings) h.holdings (λ _. none-added (Scissor c) h.holdings) h.target c
     (λ s e. one-added (Scissor c) h.holdings (clip_of s c) (λ other. absurd (other (clip-kind s c))))
 ranges-carry-the-packets-handle es h (Clear c) =
-    unless (Clear c) h.holdings bad_state (bad_clear c) (accepted h.holdings) (none-added (Clear c) h.holdings)
+    unless (Clear c) h.holdings BadState (bad_clear c) (accepted h.holdings) (none-added (Clear c) h.holdings)
 ranges-carry-the-packets-handle es h (Export c) =
     export-or (Adds (Export c) h.holdings) h (λ _. none-added (Export c) h.holdings) c (λ r e. none-added (Export c) h.holdings)
 ranges-carry-the-packets-handle es h (Import c) =

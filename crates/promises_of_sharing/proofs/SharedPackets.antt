@@ -2,7 +2,7 @@
 use Rattle.std.specs.Prelude.{◌≡◌, List, eqb, length}
 use Rattle.std.proofs.Common.{ap, ◌∙◌}
 use borrow.Author.Tests.{eq-eqb, ne_eqb, le-leb, lt-leb}
-use Rattle.rules.specs.Numbers.{too_many, most_tokens}
+use Rattle.rules.specs.Numbers.{most_tokens}
 use Rattle.rules.specs.Lists.{lookup}
 use Rattle.rules.specs.Names.{token_of}
 use Rattle.rules.specs.Packets.{on_export_packet, apply, Progress, Passed, target_after, tokens_after, pass}

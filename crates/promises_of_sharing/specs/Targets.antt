@@ -6,9 +6,9 @@ use Rattle.std.specs.Prelude.{Bool, List, [], ◌∷◌, ℕ, ◌≤◌, ◌<◌
 use Rattle.std.proofs.Math.Bool.{true, false}
 use borrow.Author.Tests.{eq-eqb, ne_eqb, le-leb, lt-leb}
 use Rattle.machine.specs.Machine.{pick}
-use Rattle.rules.specs.Numbers.{bad_handle, bad_state, too_many, most}
+use Rattle.rules.specs.Numbers.{most}
 use Rattle.rules.specs.Lists.Found.{none, found}
-use Rattle.rules.specs.Judging.{refusal, Verdict}
+use Rattle.rules.specs.Judging.{Verdict}
 use Rattle.rules.specs.Layouts.{stream_header_size, packet_header_size}
 use Rattle.rules.specs.Table.{take_entry}
 use Rattle.rules.specs.Stream.{frame_of, size_of, left, Frame}
@@ -27,6 +27,7 @@ use Rattle.rules.specs.declared.Stream.{Stream}
 use Rattle.rules.specs.declared.Opened.{Opened}
 use Rattle.rules.specs.declared.Packet.{Packet}
 use Rattle.rules.specs.declared.Packet.TheVariants.{Buffer, Texture, Destroy, Dirty, Copy, Target, Viewport, Scissor, Clear, Export, Import, Release, NotANumber, Unknown}
+use Rattle.rules.specs.declared.Refusal.TheVariants.{BadHandle, TooMany, BadState}
 use Rattle.stream_packets.specs.Framing.{frame-sound}
 use Rattle.promises_of_packets.specs.Effects.{target-or}
 use Rattle.promises_of_packets.specs.Held.{Every, LiveTexture}
@@ -41,7 +42,7 @@ module _ (es : List Entry) (h : Progress) (c : SetTarget) where
   unfolding pass apply on_target_packet target_after tokens_after
   target-is-set s e = rw e
 
-  pub target-is-refused : live_texture c.handle h.holdings ≡ none → pass es h (Target c) ≡ record { verdict = Err (refusal bad_handle); held = h }
+  pub target-is-refused : live_texture c.handle h.holdings ≡ none → pass es h (Target c) ≡ record { verdict = Err BadHandle; held = h }
   unfolding pass apply on_target_packet target_after tokens_after
   target-is-refused e = rw e
 
@@ -84,7 +85,7 @@ module _ (es : List Entry) (h : Progress) where
     another-destroyed-keeps-the-target other = by-verdict (apply es h.target h.tokens h.holdings (Destroy c)).verdict
       where
         by-verdict : (v : Verdict) → if-fine v (pick (eqb c.handle h.target) 0 h.target) h.target ≡ h.target
-        by-verdict (Ok tt) = rw (ne_eqb c.handle h.target other)
+        by-verdict (Ok _) = rw (ne_eqb c.handle h.target other)
         by-verdict (Err r) = refl
 
   -- where there is none, there is none after it, unless it is a target packet
@@ -95,8 +96,8 @@ module _ (es : List Entry) (h : Progress) where
   none-stays-none (Destroy c) t z = by-verdict (apply es h.target h.tokens h.holdings (Destroy c)).verdict (eqb c.handle h.target)
     where
       by-verdict : (v : Verdict) (b : Bool) → if-fine v (pick b 0 h.target) h.target ≡ 0
-      by-verdict (Ok tt) true = refl
-      by-verdict (Ok tt) false = z
+      by-verdict (Ok _) true = refl
+      by-verdict (Ok _) false = z
       by-verdict (Err r) b = z
   none-stays-none (Dirty c) t z = z
   none-stays-none (Copy c) t z = z
@@ -126,18 +127,18 @@ ended-target-stays-ended es h (p ∷ ps) k z = ended-target-stays-ended es (pass
 
 module _ (es : List Entry) (h : Progress) (c : SetScissor) where
   -- "scissor without a target": 30
-  pub scissor-without-a-target : h.target ≡ 0 → pass es h (Scissor c) ≡ record { verdict = Err (refusal bad_state); held = h }
+  pub scissor-without-a-target : h.target ≡ 0 → pass es h (Scissor c) ≡ record { verdict = Err BadState; held = h }
   unfolding pass apply on_scissor_packet live_texture target_after tokens_after
   scissor-without-a-target z = rw z
 
   module _ (s : Shape) (e : live_texture h.target h.holdings ≡ found s) where
     -- "scissor sides negative": 30
-    pub scissor-with-negative-sides : bad_sides c ≡ true → pass es h (Scissor c) ≡ record { verdict = Err (refusal bad_state); held = h }
+    pub scissor-with-negative-sides : bad_sides c ≡ true → pass es h (Scissor c) ≡ record { verdict = Err BadState; held = h }
     unfolding pass apply on_scissor_packet target_after tokens_after
     scissor-with-negative-sides b = rw (e, b)
 
     -- its record "counts toward the 64": 19. "Order: 18, 30, 19"
-    pub scissor-past-the-last-record : bad_sides c ≡ false → most ≤ length h.holdings.records → pass es h (Scissor c) ≡ record { verdict = Err (refusal too_many); held = h }
+    pub scissor-past-the-last-record : bad_sides c ≡ false → most ≤ length h.holdings.records → pass es h (Scissor c) ≡ record { verdict = Err TooMany; held = h }
     unfolding pass apply on_scissor_packet target_after tokens_after
     scissor-past-the-last-record b f = rw (e, b, le-leb most (length h.holdings.records) f)
 

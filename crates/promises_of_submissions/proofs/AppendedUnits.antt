@@ -107,7 +107,7 @@ module _ (s : State) (m m' : List ℕ) where
 
   packet-onward : (j : Job) (t : Stream) (at next : ℕ) (es : List Entry) (h : Progress) (v : Verdict) → (v ≡ Ok tt → SameButAppended (left m t next) (left m' t next))
       → Onward m m' (after_packet (lent s m) j t next es h (at_place at v)) (after_packet (lent s m') j t next es h (at_place at v))
-  packet-onward j t at next es h (Ok tt) same = goes_on (packets_at j t next es h) (packets-ahead j t next es h (same refl))
+  packet-onward j t at next es h (Ok _) same = goes_on (packets_at j t next es h) (packets-ahead j t next es h (same refl))
   packet-onward j t at next es h (Err r) same = stops j (fault_at at r)
 
 -- behind the entries kept so far

@@ -38,7 +38,7 @@ module _ (m : List ℕ) (j : Job) (d : Descriptor) (stride : ℕ) (good : submis
       }
 
 concluded-lies : (m : List ℕ) (j : Job) (d : Descriptor) (stride : ℕ) (v : Verdict) → submission_rules m stride d ≡ v → LiesOn m (concluded v j (opened_of m j d))
-concluded-lies m j d stride (Ok tt) e = started-lies m j d stride e
+concluded-lies m j d stride (Ok _) e = started-lies m j d stride e
 concluded-lies m j d stride (Err r) e = omega arith
 
 pick-lies : (m : List ℕ) (t : Bool) (x y : Opening) → LiesOn m x → LiesOn m y → LiesOn m (pick t x y)

@@ -7,9 +7,8 @@ use Rattle.std.proofs.Math.Bool.{true, false}
 use mathlib.Core.List.{List}
 use Prim.Native.Nat.{ℕ, suc, ◌≤◌, ◌<◌}
 use Rattle.machine.specs.Machine.{pick, Out}
-use Rattle.rules.specs.Judging.{refusal, Verdict}
+use Rattle.rules.specs.Judging.{Verdict}
 use Rattle.rules.specs.Layouts.{entry}
-use Rattle.rules.specs.Numbers.{bad_entry}
 use Rattle.rules.specs.Table.{entry_place, entry_rules, keep, in_reach, take_entry}
 use Rattle.rules.specs.Stream.{frame_of, left}
 use Rattle.rules.specs.Ring.{opening_of}
@@ -21,6 +20,7 @@ use Rattle.rules.specs.declared.Refusal.{Refusal}
 use Rattle.rules.specs.declared.Registers.{Registers}
 use Rattle.rules.specs.declared.Opened.{Opened}
 use Rattle.rules.specs.declared.Opening.TheVariants.{Started}
+use Rattle.rules.specs.declared.Refusal.TheVariants.{BadEntry}
 use Rattle.promises_of_submissions.specs.Whole.{midst}
 use Rattle.promises_of_submissions.specs.LocalWrites.SameWrites.{unwritten}
 use Rattle.promises_of_submissions.specs.LocalOpening.{SameOpening}
@@ -60,8 +60,8 @@ kept-no-fewer m o kept = by_tests (in_reach m o.table (length kept)) (entry_rule
     next : Entry
     next = entry m (entry_place o.table (length kept))
 
-    by_tests : (t : Bool) (v : Verdict) → length kept ≤ length (pick t (keep v kept next) (record { verdict = Err (refusal bad_entry); kept = kept })).kept
-    by_tests true (Ok tt) = rw length-append (omega arith)
+    by_tests : (t : Bool) (v : Verdict) → length kept ≤ length (pick t (keep v kept next) (record { verdict = Err BadEntry; kept = kept })).kept
+    by_tests true (Ok _) = rw length-append (omega arith)
     by_tests true (Err r) = omega arith
     by_tests false v = omega arith
 

@@ -8,8 +8,6 @@ use Rattle.std.specs.Float.{binary32}
 use Rattle.std.specs.Float.Ieee.{is_nan}
 use Rattle.std.specs.Float.Ieee.Bits.{to_bits-of_bits, nan_bits_is, nan_bits_above}
 use Rattle.machine.specs.Machine.{pick}
-use Rattle.rules.specs.Numbers.{bad_state}
-use Rattle.rules.specs.Judging.{refusal}
 use Rattle.rules.specs.Layouts.{word, viewport_floats, clear_floats}
 use Rattle.rules.specs.Floats.{float_of, bits_of, infinity, sign_bit, is_nan_bits, not_finite, nan_among, not_finite_among}
 use Rattle.rules.specs.StatePackets.{bad_bounds, bad_viewport, bad_values, bad_clear}
@@ -18,6 +16,7 @@ use Rattle.rules.specs.declared.Entry.{Entry}
 use Rattle.rules.specs.declared.SetViewport.{SetViewport}
 use Rattle.rules.specs.declared.ClearValues.{ClearValues}
 use Rattle.rules.specs.declared.Packet.TheVariants.{Viewport, Clear, NotANumber}
+use Rattle.rules.specs.declared.Refusal.TheVariants.{BadState}
 use Rattle.promises_of_packets.specs.Held.{Every}
 
 -- ---- one float
@@ -61,14 +60,14 @@ none-among (b ∷ bs) e = by_test (is_nan_bits b) refl (none-among bs) e
 
 -- error 30 or none
 abbrev pub judged_state : Progress → Bool → Passed
-judged_state h bad = pick bad (record { verdict = Err (refusal bad_state); held = h }) (record { verdict = Ok tt; held = h })
+judged_state h bad = pick bad (record { verdict = Err BadState; held = h }) (record { verdict = Ok tt; held = h })
 
 module _ (es : List Entry) (h : Progress) where
   pub viewport-comes-to : (v : SetViewport) → pass es h (Viewport v) ≡ judged_state h (bad_viewport v)
   unfolding pass apply on_viewport_packet target_after tokens_after
   viewport-comes-to v = by_test (bad_viewport v)
     where
-      by_test : (t : Bool) → passed (Viewport v) h (refuse bad_state t h.holdings (accepted h.holdings)) ≡ judged_state h t
+      by_test : (t : Bool) → passed (Viewport v) h (refuse BadState t h.holdings (accepted h.holdings)) ≡ judged_state h t
       by_test true = refl
       by_test false = refl
 
@@ -76,7 +75,7 @@ module _ (es : List Entry) (h : Progress) where
   unfolding pass apply on_clear_packet target_after tokens_after
   clear-comes-to c = by_test (bad_clear c)
     where
-      by_test : (t : Bool) → passed (Clear c) h (refuse bad_state t h.holdings (accepted h.holdings)) ≡ judged_state h t
+      by_test : (t : Bool) → passed (Clear c) h (refuse BadState t h.holdings (accepted h.holdings)) ≡ judged_state h t
       by_test true = refl
       by_test false = refl
 

@@ -6,8 +6,7 @@ use Rattle.std.proofs.Common.{sym, ◌∙◌, ltb-false}
 use Rattle.std.proofs.Math.Bool.{true, false}
 use Prim.Native.Nat.{ℕ, ◌+◌, ◌≤◌}
 use Rattle.machine.specs.Machine.{pick}
-use Rattle.rules.specs.Numbers.{bad_table, bad_stream}
-use Rattle.rules.specs.Judging.{refusal, only, ◌▹◌, Verdict}
+use Rattle.rules.specs.Judging.{only, ◌▹◌, Verdict}
 use Rattle.rules.specs.Layouts.{ring_header, ring_header_size, descriptor, descriptor_size, table_header, table_header_size, stream_header, stream_header_size}
 use Rattle.rules.specs.Headers.{wrong_header}
 use Rattle.rules.specs.Table.{header_rules, checked_table, no_table}
@@ -20,8 +19,10 @@ use Rattle.rules.specs.declared.StreamHeader.{StreamHeader}
 use Rattle.rules.specs.declared.Job.{Job}
 use Rattle.rules.specs.declared.Opened.{Opened}
 use Rattle.rules.specs.declared.Opening.TheVariants.{Started}
+use Rattle.rules.specs.declared.Refusal.TheVariants.{BadTable, BadStream}
 use Rattle.rule_laws.specs.Fine.{broken-not-fine}
 use Rattle.promises_of_submissions.specs.LocalBytes.{Agree, same-table-header, same-stream-header}
+use Rattle.rules.specs.declared.Refusal.{Refusal}
 
 -- the rules of a table that is present, if one is
 abbrev pub table_fine : List ℕ → Descriptor → Verdict
@@ -49,7 +50,7 @@ pub record SameOpening (m m' : List ℕ) (ring size : ℕ) : Type 0 where
 
 -- ---- a header that a descriptor leads to, the table's or the stream's: a range that is too small for it is refused without a look at it
 
-module _ {H : Type 0} (rules : H → Verdict) (code least size : ℕ) (small : ltb size least ≡ true → (y : H) → rules y ≡ Err (refusal code))
+module _ {H : Type 0} (rules : H → Verdict) (why : Refusal) (least size : ℕ) (small : ltb size least ≡ true → (y : H) → rules y ≡ Err why)
     (x x' : H) (same : least ≤ size → x ≡ x') where
   pub same-rules : only (present size) (rules x) ≡ only (present size) (rules x')
   same-rules = by_test (ltb size least) refl
@@ -62,15 +63,15 @@ module _ {H : Type 0} (rules : H → Verdict) (code least size : ℕ) (small : l
   same_kept of none h = by_tests (present size) (ltb size least) refl h
     where
       by_tests : (a b : Bool) → ltb size least ≡ b → only a (rules x) ≡ Ok tt → pick a (of x) none ≡ pick a (of x') none
-      by_tests true true t k = absurd (broken-not-fine (refusal code) (sym (small t x) ∙ k))
+      by_tests true true t k = absurd (broken-not-fine why (sym (small t x) ∙ k))
       by_tests a false t k = rw (same (ltb-false size least t))
       by_tests false true t k = refl
 
-pub small-table : (size : ℕ) → ltb size table_header_size ≡ true → (h : TableHeader) → header_rules size h ≡ Err (refusal bad_table)
+pub small-table : (size : ℕ) → ltb size table_header_size ≡ true → (h : TableHeader) → header_rules size h ≡ Err BadTable
 unfolding header_rules wrong_header
 small-table size t h = rw t
 
-pub small-stream : (size : ℕ) → ltb size stream_header_size ≡ true → (h : StreamHeader) → stream_rules size h ≡ Err (refusal bad_stream)
+pub small-stream : (size : ℕ) → ltb size stream_header_size ≡ true → (h : StreamHeader) → stream_rules size h ≡ Err BadStream
 unfolding stream_rules wrong_header
 small-stream size t h = rw t
 
@@ -85,21 +86,21 @@ module _ (m m' : List ℕ) (d : Descriptor) (same : SameRanges m m' d) where
 
   same-table-rules : table_fine m d ≡ table_fine m' d
   same-table-rules =
-      same-rules (header_rules d.tablesize) bad_table table_header_size d.tablesize (small-table d.tablesize)
+      same-rules (header_rules d.tablesize) BadTable table_header_size d.tablesize (small-table d.tablesize)
       (table_header m d.table) (table_header m' d.table) table_same
 
   same-stream-rules : table_fine m d ≡ Ok tt → stream_fine m d ≡ stream_fine m' d
   same-stream-rules f =
-      same-rules (stream_rules d.cmdsize) bad_stream stream_header_size d.cmdsize (small-stream d.cmdsize)
+      same-rules (stream_rules d.cmdsize) BadStream stream_header_size d.cmdsize (small-stream d.cmdsize)
       (stream_header m d.cmd) (stream_header m' d.cmd) (stream-same f)
 
   same-opened : (j : Job) → table_fine m d ≡ Ok tt → stream_fine m d ≡ Ok tt → opened_of m j d ≡ opened_of m' j d
   same-opened j f g =
       let t =
-      same_kept (header_rules d.tablesize) bad_table table_header_size d.tablesize (small-table d.tablesize)
+      same_kept (header_rules d.tablesize) BadTable table_header_size d.tablesize (small-table d.tablesize)
       (table_header m d.table) (table_header m' d.table) table_same (checked_table d.table) no_table f in
       let s =
-      same_kept (stream_rules d.cmdsize) bad_stream stream_header_size d.cmdsize (small-stream d.cmdsize)
+      same_kept (stream_rules d.cmdsize) BadStream stream_header_size d.cmdsize (small-stream d.cmdsize)
       (stream_header m d.cmd) (stream_header m' d.cmd) (stream-same f) (stream_of d.cmd) no_stream g in
       rw (t, s)
 
@@ -108,11 +109,11 @@ module _ (m m' : List ℕ) (d : Descriptor) (same : SameRanges m m' d) where
   same-concluded j = rw (← same-table-rules) (by-verdict (table_fine m d) refl)
     where
       by-stream : (v : Verdict) → stream_fine m d ≡ v → table_fine m d ≡ Ok tt → concluded v j (opened_of m j d) ≡ concluded v j (opened_of m' j d)
-      by-stream (Ok tt) g f = ap (λ (o : Opened). Started o) (same-opened j f g)
+      by-stream (Ok _) g f = ap (λ (o : Opened). Started o) (same-opened j f g)
       by-stream (Err r) g f = refl
 
       by-verdict : (v : Verdict) → table_fine m d ≡ v → concluded (v ▹ stream_fine m d) j (opened_of m j d) ≡ concluded (v ▹ stream_fine m' d) j (opened_of m' j d)
-      by-verdict (Ok tt) f = rw (← same-stream-rules f) (by-stream (stream_fine m d) refl f)
+      by-verdict (Ok _) f = rw (← same-stream-rules f) (by-stream (stream_fine m d) refl f)
       by-verdict (Err r) f = refl
 
 module _ (m m' : List ℕ) (len : length m ≡ length m') where
@@ -124,8 +125,8 @@ module _ (m m' : List ℕ) (len : length m ≡ length m') where
     where
       by-verdicts : (u v : Verdict) → descriptor_rules stride d ≡ u → range_rules (length m) d ≡ v
           → concluded (u ▹ v ▹ table_fine m d ▹ stream_fine m d) j (opened_of m j d) ≡ concluded (u ▹ v ▹ table_fine m' d ▹ stream_fine m' d) j (opened_of m' j d)
-      by-verdicts (Ok tt) (Ok tt) p q = same-concluded m m' d (same p q) j
-      by-verdicts (Ok tt) (Err r) p q = refl
+      by-verdicts (Ok _) (Ok _) p q = same-concluded m m' d (same p q) j
+      by-verdicts (Ok _) (Err r) p q = refl
       by-verdicts (Err r) v p q = refl
 
   -- ---- the ring

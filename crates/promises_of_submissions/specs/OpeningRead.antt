@@ -8,8 +8,7 @@ use Prim.Native.Nat.{ℕ, ◌+◌, ◌≤◌}
 use Rattle.std.proofs.lemmas.Bool.{eqb-false}
 use Rattle.std.proofs.Math.Dec.{leb}
 use Rattle.machine.specs.Machine.{pick}
-use Rattle.rules.specs.Numbers.{bad_table, bad_stream}
-use Rattle.rules.specs.Judging.{refusal, only, ◌▹◌, Verdict}
+use Rattle.rules.specs.Judging.{only, ◌▹◌, Verdict}
 use Rattle.rules.specs.Layouts.{ring_header, ring_header_size, descriptor, table_header, table_header_size, stream_header, stream_header_size}
 use Rattle.rules.specs.Headers.{wrong_header}
 use Rattle.rules.specs.Table.{header_rules, checked_table, no_table}
@@ -24,6 +23,7 @@ use Rattle.rules.specs.declared.Job.{Job}
 use Rattle.rules.specs.declared.Opened.{Opened}
 use Rattle.rules.specs.declared.Opening.{Opening}
 use Rattle.rules.specs.declared.Opening.TheVariants.{BadRing, NoWork, Started}
+use Rattle.rules.specs.declared.Refusal.TheVariants.{BadTable, BadStream}
 use Rattle.rule_laws.specs.Fine.{broken-not-fine, both_left, both_right}
 use Rattle.promises_of_submissions.specs.LocalOpening.{stream_fine, same-rules, same_kept, small-table, small-stream}
 
@@ -54,21 +54,21 @@ module _ (m m' : List ℕ) (d : Descriptor) (same : RangesRead m m' d) where
 
   pub same-table-rules : table_fine m d ≡ table_fine m' d
   same-table-rules =
-      same-rules (header_rules d.tablesize) bad_table table_header_size d.tablesize (small-table d.tablesize)
+      same-rules (header_rules d.tablesize) BadTable table_header_size d.tablesize (small-table d.tablesize)
       (table_header m d.table) (table_header m' d.table) table_same
 
   same-stream-rules : table_fine m d ≡ Ok tt → stream_fine m d ≡ stream_fine m' d
   same-stream-rules f =
-      same-rules (stream_rules d.cmdsize) bad_stream stream_header_size d.cmdsize (small-stream d.cmdsize)
+      same-rules (stream_rules d.cmdsize) BadStream stream_header_size d.cmdsize (small-stream d.cmdsize)
       (stream_header m d.cmd) (stream_header m' d.cmd) (stream-same f)
 
   same-opened : (j : Job) → table_fine m d ≡ Ok tt → stream_fine m d ≡ Ok tt → opened_of m j d ≡ opened_of m' j d
   same-opened j f g =
       let t =
-      same_kept (header_rules d.tablesize) bad_table table_header_size d.tablesize (small-table d.tablesize)
+      same_kept (header_rules d.tablesize) BadTable table_header_size d.tablesize (small-table d.tablesize)
       (table_header m d.table) (table_header m' d.table) table_same (checked_table d.table) no_table f in
       let s =
-      same_kept (stream_rules d.cmdsize) bad_stream stream_header_size d.cmdsize (small-stream d.cmdsize)
+      same_kept (stream_rules d.cmdsize) BadStream stream_header_size d.cmdsize (small-stream d.cmdsize)
       (stream_header m d.cmd) (stream_header m' d.cmd) (stream-same f) (stream_of d.cmd) no_stream g in
       rw (t, s)
 
@@ -77,11 +77,11 @@ module _ (m m' : List ℕ) (d : Descriptor) (same : RangesRead m m' d) where
   same-concluded j = rw (← same-table-rules) (by-verdict (table_fine m d) refl)
     where
       by-stream : (v : Verdict) → stream_fine m d ≡ v → table_fine m d ≡ Ok tt → concluded v j (opened_of m j d) ≡ concluded v j (opened_of m' j d)
-      by-stream (Ok tt) g f = ap (λ (o : Opened). Started o) (same-opened j f g)
+      by-stream (Ok _) g f = ap (λ (o : Opened). Started o) (same-opened j f g)
       by-stream (Err r) g f = refl
 
       by-verdict : (v : Verdict) → table_fine m d ≡ v → concluded (v ▹ stream_fine m d) j (opened_of m j d) ≡ concluded (v ▹ stream_fine m' d) j (opened_of m' j d)
-      by-verdict (Ok tt) f = rw (← same-stream-rules f) (by-stream (stream_fine m d) refl f)
+      by-verdict (Ok _) f = rw (← same-stream-rules f) (by-stream (stream_fine m d) refl f)
       by-verdict (Err r) f = refl
 
 module _ (m m' : List ℕ) (len : length m ≡ length m') where
@@ -93,8 +93,8 @@ module _ (m m' : List ℕ) (len : length m ≡ length m') where
     where
       by-verdicts : (u v : Verdict) → descriptor_rules stride d ≡ u → range_rules (length m) d ≡ v
           → concluded (u ▹ v ▹ table_fine m d ▹ stream_fine m d) j (opened_of m j d) ≡ concluded (u ▹ v ▹ table_fine m' d ▹ stream_fine m' d) j (opened_of m' j d)
-      by-verdicts (Ok tt) (Ok tt) p q = same-concluded m m' d (same p q) j
-      by-verdicts (Ok tt) (Err r) p q = refl
+      by-verdicts (Ok _) (Ok _) p q = same-concluded m m' d (same p q) j
+      by-verdicts (Ok _) (Err r) p q = refl
       by-verdicts (Err r) v p q = refl
 
   -- ---- the ring

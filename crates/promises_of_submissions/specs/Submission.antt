@@ -8,7 +8,7 @@ use Prim.Native.Nat.{ℕ, zero, suc, ◌+◌, ◌*◌, ◌^◌, ◌≤◌, ◌<�
 use native.Mathlib.Omega.{arith}
 use borrow.Author.Tests.{le-leb, lt-ltb, ltb-false}
 use Rattle.machine.specs.Machine.{pick, Out, spent, run-go}
-use Rattle.rules.specs.Numbers.{most, outside_memory}
+use Rattle.rules.specs.Numbers.{most}
 use Rattle.rules.specs.Judging.{rule, only, Finding}
 use Rattle.rules.specs.Judging.Finding.{fine, broken}
 use Rattle.rules.specs.Layouts.{ring_header, descriptor, table_header, entry_size, stream_header}
@@ -27,6 +27,7 @@ use Rattle.rules.specs.declared.Stream.{Stream}
 use Rattle.rules.specs.declared.Opened.{Opened}
 use Rattle.rules.specs.declared.Opening.{Opening}
 use Rattle.rules.specs.declared.Opening.TheVariants.{BadRing, NoWork, Refused, Started}
+use Rattle.rules.specs.declared.Refusal.TheVariants.{OutsideMemory}
 use Rattle.rule_laws.specs.Fine.{fine-first, fine-later, kept_rule, kept-only}
 use Rattle.table_header.specs.Header.{Sized, fine-sized}
 use Rattle.stream_header.specs.Header.{stream-sound}
@@ -65,13 +66,13 @@ module _ (m : List ℕ) (j : Job) (d : Descriptor) (stride : ℕ) (good : submis
 
   cmd-inside : present d.cmdsize ≡ true → d.cmd + d.cmdsize ≤ length m
   unfolding range_rules
-  cmd-inside p = ltb-false (length m) (d.cmd + d.cmdsize) (kept_rule outside_memory _ (kept-only (present d.cmdsize) _ p (fine-first _ _ ranges-fine)))
+  cmd-inside p = ltb-false (length m) (d.cmd + d.cmdsize) (kept_rule OutsideMemory _ (kept-only (present d.cmdsize) _ p (fine-first _ _ ranges-fine)))
 
   table-inside : present d.tablesize ≡ true → d.table + d.tablesize ≤ length m
   unfolding range_rules
   table-inside p =
       ltb-false (length m) (d.table + d.tablesize)
-      (kept_rule outside_memory _ (kept-only (present d.tablesize) _ p (fine-later (only (present d.cmdsize) (rule outside_memory (ltb (length m) (d.cmd + d.cmdsize)))) _ ranges-fine)))
+      (kept_rule OutsideMemory _ (kept-only (present d.tablesize) _ p (fine-later (only (present d.cmdsize) (rule OutsideMemory (ltb (length m) (d.cmd + d.cmdsize)))) _ ranges-fine)))
 
   abbrev pub kept_table : Bool → Table
   kept_table t = pick t (record { gpa = d.table; count = (table_header m d.table).count; stride = (table_header m d.table).stride }) (record { gpa = 0; count = 0; stride = 0 })

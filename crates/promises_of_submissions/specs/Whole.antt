@@ -112,7 +112,7 @@ module _ (w : World) (on : w.state.regs.enabled ≡ true) (o : Opened) where
       at_entry : (v : Verdict) (es : List Entry) (j : Judged) → step (reading kept) ≡ after_entry w o (keep v kept (next kept)).kept (at_place (length kept) (keep v kept (next kept)).verdict)
           → Course j.count (reading (pushed kept (next kept))) (after_table j.finding (pushed kept (next kept) ++ es))
           → Course (stop_or_go (length kept) v j).count (reading kept) (after_table (stop_or_go (length kept) v j).finding (kept ++ (next kept ∷ es)))
-      at_entry (Ok tt) es j st ih =
+      at_entry (Ok _) es j st ih =
           course_more j.count (reading kept) (reading (pushed kept (next kept))) _ go-entry st midst-entry
           (subst (λ (l : List Entry). Course j.count (reading (pushed kept (next kept))) (after_table j.finding l)) (append_assoc kept (next kept ∷ []) es) ih)
       at_entry (Err r) es j st ih = course_last (reading kept) _ go-entry st midst-entry
@@ -175,7 +175,7 @@ module _ (w : World) (on : w.state.regs.enabled ≡ true) (j : Job) (s : Stream)
     at_applied : (v : Verdict) (size : ℕ) (held : Progress) (q : Reckoned) → step (placed at h) ≡ after_packet w j s (at + size) es held (at_place at v)
         → Course q.count (placed (at + size) held) (after_stream q.finding q.held)
         → Course (one_further at v h q).count (placed at h) (after_stream (one_further at v h q).finding (one_further at v h q).held)
-    at_applied (Ok tt) size held q st ih = course_more q.count (placed at h) (placed (at + size) held) _ go-packet st midst-packet ih
+    at_applied (Ok _) size held q st ih = course_more q.count (placed at h) (placed (at + size) held) _ go-packet st midst-packet ih
     at_applied (Err r) size held q st ih = course_last (placed at h) _ go-packet st midst-packet
 
     at-frame : (k : ℕ) (f : Frame) → ((op size : ℕ) → f ≡ Ok (op, size) → FrameFits (drop at bytes) op size)

@@ -3,8 +3,8 @@ use Rattle.std.specs.Prelude.{◌≡◌, Bool, true, false, ℕ}
 use Rattle.std.proofs.Math.Path.{refl, sym, ap}
 use Rattle.std.proofs.Common.{◌∙◌}
 use mathlib.Core.List.{List}
-use Rattle.rules.specs.Numbers.{host_failed, no_place}
-use Rattle.rules.specs.Judging.{refusal, without_place}
+use Rattle.rules.specs.Numbers.{no_place}
+use Rattle.rules.specs.Judging.{without_place}
 use Rattle.rules.specs.Packets.{Progress, Belongings, left_by}
 use Rattle.rules.specs.State.{State, World}
 use Rattle.rules.specs.State.Work.{waiting}
@@ -14,6 +14,7 @@ use Rattle.rules.specs.Steps.{answered}
 use Rattle.rules.specs.declared.Entry.{Entry}
 use Rattle.rules.specs.declared.Job.{Job}
 use Rattle.rules.specs.declared.LastError.{LastError}
+use Rattle.rules.specs.declared.Refusal.TheVariants.{HostFailed}
 use Rattle.promises_of_units.specs.Fences.{good-settles, failed-settles}
 use Rattle.promises_of_units.specs.Called.{Call}
 use Rattle.promises_of_units.specs.Units.{Unit}
@@ -43,7 +44,7 @@ module _ {A : Type 0} {by : Event → A → A} {part : World → A} (c : Changed
   answer-through : (good : Bool) (w : World) (j : Job) (es : List Entry) (h : Progress) → w.state.work ≡ waiting j es h
       → part (answered good w) ≡ by (settling j (finding_of good) (left_by h) (answered good w).state) (part w)
   answer-through true w j es h e = rw (good-settles w j es h e) (c.settles-good j (left_by h) w)
-  answer-through false w j es h e = rw (failed-settles w j es h e) (c.settles-broken j (without_place (refusal host_failed)) (left_by h) w)
+  answer-through false w j es h e = rw (failed-settles w j es h e) (c.settles-broken j (without_place HostFailed) (left_by h) w)
 
   call-through : (w : World) (k : Call) (es : List Event) (w' : World) → Happens w k es w' → part w' ≡ through by es (part w)
   unfolding through

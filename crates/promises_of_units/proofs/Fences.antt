@@ -2,8 +2,8 @@
 use Rattle.std.specs.Prelude.{◌≡◌, true, false, ℕ}
 use Rattle.std.proofs.Math.Path.{ap}
 use Rattle.machine.specs.Machine.{Out}
-use Rattle.rules.specs.Numbers.{host_failed, no_record}
-use Rattle.rules.specs.Judging.{refusal, without_place}
+use Rattle.rules.specs.Numbers.{no_record}
+use Rattle.rules.specs.Judging.{without_place}
 use Rattle.rules.specs.Judging.Finding.{fine, broken}
 use Rattle.rules.specs.Lists.{nth}
 use Rattle.rules.specs.Ring.{opening_of}

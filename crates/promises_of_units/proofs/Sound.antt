@@ -4,9 +4,9 @@ use Rattle.std.proofs.Math.Path.{refl, subst}
 use Rattle.std.proofs.Common.{sym, arith, ltb-true, length-append}
 use mathlib.Core.List.{List, []}
 use Rattle.machine.specs.Machine.{pick, run_none, run-stop, run-go}
-use Rattle.rules.specs.Numbers.{most, bad_ring, bad_entry, twice_in_table, host_failed}
+use Rattle.rules.specs.Numbers.{most}
 use Rattle.rules.specs.Lists.Found.{none}
-use Rattle.rules.specs.Judging.{refusal, rule, Finding, at_place, without_place, Verdict}
+use Rattle.rules.specs.Judging.{rule, Finding, at_place, without_place, Verdict}
 use Rattle.rules.specs.Judging.Finding.{fine, broken}
 use Rattle.rules.specs.Layouts.{entry}
 use Rattle.rules.specs.Table.{entry_id, matching, entry_place, entry_rules, keep, in_reach, take_entry}
@@ -24,6 +24,7 @@ use Rattle.rules.specs.declared.Stream.{Stream}
 use Rattle.rules.specs.declared.Opened.{Opened}
 use Rattle.rules.specs.declared.Opening.{Opening}
 use Rattle.rules.specs.declared.Opening.TheVariants.{BadRing, NoWork, Refused, Started}
+use Rattle.rules.specs.declared.Refusal.TheVariants.{BadRing, BadEntry, TwiceInTable, HostFailed}
 use Rattle.rows.specs.Keys.{Once, once-nil, once-pushed}
 use Rattle.rule_laws.specs.Created.{AsCreated, SoundError}
 use Rattle.promises_of_packets.specs.Held.{Every, Inside, OfAKind, SoundBelongings, SoundProgress}
@@ -45,18 +46,18 @@ module _ (m : List ℕ) (t : Table) (kept : List Entry) (s : SoundEntries kept) 
   unfolding entry_rules
   new-id e h =
       unfound (matching e.id kept)
-      (kept_rule twice_in_table _
-      (fine-later (rule bad_entry (ltb (length m) (e.gpa + e.size))) _
-      (fine-later (rule bad_entry (eqb e.size 0)) _
-      (fine-later (rule bad_entry (eqb e.id 0)) _ h))))
+      (kept_rule TwiceInTable _
+      (fine-later (rule BadEntry (ltb (length m) (e.gpa + e.size))) _
+      (fine-later (rule BadEntry (eqb e.size 0)) _
+      (fine-later (rule BadEntry (eqb e.id 0)) _ h))))
 
   keep-sound : (v : Verdict) (e : Entry) → length kept < most → entry_rules (length m) kept e ≡ v → SoundEntries (keep v kept e).kept
-  keep-sound (Ok tt) e room h =
+  keep-sound (Ok _) e room h =
       record { few = simp length-append (omega arith); once = once-pushed entry_id kept e s.once (new-id e h) }
   keep-sound (Err r) e room h = s
 
   taken_by : (b : Bool) → in_reach m t (length kept) ≡ b
-      → SoundEntries (pick b (keep (entry_rules (length m) kept (entry m (entry_place t (length kept)))) kept (entry m (entry_place t (length kept)))) (record { verdict = Err (refusal bad_entry); kept = kept })).kept
+      → SoundEntries (pick b (keep (entry_rules (length m) kept (entry m (entry_place t (length kept)))) kept (entry m (entry_place t (length kept)))) (record { verdict = Err BadEntry; kept = kept })).kept
   taken_by true e = keep-sound (entry_rules (length m) kept (entry m (entry_place t (length kept)))) (entry m (entry_place t (length kept))) (ltb-true (length kept) most (both_left (ltb (length kept) most) _ e)) refl
   taken_by false e = s
 
@@ -94,7 +95,7 @@ settled-sound j v owned w l r g = record { belongings = r; work = omega arith; e
 module _ (w : World) (s : SoundBelongings w.state.belongings) (g : SoundError w.state.regs.error) where
   opening-sound : (v : Opening) → ListedOpening v → SoundWork w.state.work → SoundState (after_opening w v).state
   unfolding doorbell_cleared
-  opening-sound BadRing l k = record { belongings = s; work = k; error = fault-sound (without_place (refusal bad_ring)) 0 w.state.regs refl }
+  opening-sound BadRing l k = record { belongings = s; work = k; error = fault-sound (without_place BadRing) 0 w.state.regs refl }
   opening-sound NoWork l k = record { belongings = s; work = k; error = g }
   opening-sound (Refused j r) l k = settled-sound j (broken (without_place r)) _ w l s g
   opening-sound (Started o) l k = record { belongings = s; work = entries-at-sound o [] w.state.belongings no-entries s; error = g }
@@ -126,7 +127,7 @@ module _ (w : World) (s : SoundBelongings w.state.belongings) (g : SoundError w.
   answer-sound good (entries o kept) e h = record { belongings = s; work = subst SoundWork (sym e) h; error = g }
   answer-sound good (packets j t at es held) e h = record { belongings = s; work = subst SoundWork (sym e) h; error = g }
   answer-sound true (waiting j es held) e h = settled-sound j fine _ w (omega arith) (left-sound es held h.1) g
-  answer-sound false (waiting j es held) e h = settled-sound j (broken (without_place (refusal host_failed))) _ w refl s g
+  answer-sound false (waiting j es held) e h = settled-sound j (broken (without_place HostFailed)) _ w refl s g
 
 -- one unit keeps it, over any memory
 pub step-keeps-sound : (w : World) → SoundState w.state → SoundState (step w).state

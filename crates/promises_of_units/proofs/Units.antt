@@ -32,7 +32,7 @@ module _ (w : World) where
 
   by-entry : (o : Opened) (kept : List Entry) → w.state.work ≡ entries o kept → (v : Verdict) → (take_entry w.mem o.table kept).verdict ≡ v
       → Unit w (after_entry w o (take_entry w.mem o.table kept).kept (at_place (length kept) v))
-  by-entry o kept e (Ok tt) h =
+  by-entry o kept e (Ok _) h =
       let next : Work = entries_at o (take_entry w.mem o.table kept).kept w.state.belongings in
       works-on next (subst (λ k. Next w k next) (sym e) (h, refl))
   by-entry o kept e (Err r) h =
@@ -40,7 +40,7 @@ module _ (w : World) where
 
   by-packet : (j : Job) (s : Stream) (at : ℕ) (es : List Entry) (h : Progress) → w.state.work ≡ packets j s at es h → (v : Verdict) → (take_packet es h (left w.mem s at)).verdict ≡ v
       → Unit w (after_packet w j s (next_place at (left w.mem s at)) es (take_packet es h (left w.mem s at)).held (at_place at v))
-  by-packet j s at es h e (Ok tt) q =
+  by-packet j s at es h e (Ok _) q =
       let next : Work = packets_at j s (next_place at (left w.mem s at)) es (take_packet es h (left w.mem s at)).held in
       works-on next (subst (λ k. Next w k next) (sym e) (q, refl))
   by-packet j s at es h e (Err r) q = settles j (fault_at at r) (subst (λ k. Breaks w k j (fault_at at r)) (sym e) (refl, ap (at_place at) q))

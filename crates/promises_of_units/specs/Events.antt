@@ -2,10 +2,10 @@
 -- come to such a list of events, each with what it needs to happen. Assumes nothing.
 use Rattle.std.specs.Prelude.{◌≡◌, refl, Bool, true, false, List, [], ◌∷◌, ◌++◌, ℕ}
 use Rattle.std.proofs.Common.{arith}
-use Rattle.rules.specs.Numbers.{done, host_failed}
+use Rattle.rules.specs.Numbers.{done}
 use Rattle.rules.specs.Lists.{pushed}
 use Rattle.rules.specs.Lists.Found.{none}
-use Rattle.rules.specs.Judging.{refusal, Finding, without_place}
+use Rattle.rules.specs.Judging.{Finding, without_place}
 use Rattle.rules.specs.Judging.Finding.{fine, broken}
 use Rattle.rules.specs.Packets.{Progress, Belongings, left_by}
 use Rattle.rules.specs.State.{Work, State, World, made, with_regs, with_state, registering}
@@ -17,6 +17,7 @@ use Rattle.rules.specs.declared.Entry.{Entry}
 use Rattle.rules.specs.declared.Job.{Job}
 use Rattle.rules.specs.declared.Registers.{Registers}
 use Rattle.rules.specs.Loaded.{bad_place, loaded}
+use Rattle.rules.specs.declared.Refusal.TheVariants.{HostFailed}
 use Rattle.promises_of_units.specs.Writes.{resets}
 use Rattle.promises_of_units.specs.Called.{Call}
 use Rattle.promises_of_units.specs.Called.Call.{writes, reads, runs, records, answers}
@@ -35,7 +36,7 @@ pub data Event : Type 0 where
 -- what a host's answer comes to: "An answer "failed" is error 27", which has no place
 abbrev pub finding_of : Bool → Finding
 finding_of true = fine
-finding_of false = broken (without_place (refusal host_failed))
+finding_of false = broken (without_place HostFailed)
 
 -- the event of one unit, if it has one
 abbrev pub events_of_unit : {w w' : World} → Unit w w' → List Event

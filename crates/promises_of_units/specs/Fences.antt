@@ -4,8 +4,7 @@ use Rattle.std.specs.Prelude.{◌≡◌, true, false, List, ℕ}
 use Rattle.std.proofs.Math.Path.{ap}
 use Rattle.std.proofs.Common.{◌∙◌}
 use Rattle.machine.specs.Machine.{Out}
-use Rattle.rules.specs.Numbers.{host_failed}
-use Rattle.rules.specs.Judging.{refusal, without_place}
+use Rattle.rules.specs.Judging.{without_place}
 use Rattle.rules.specs.Judging.Finding.{fine, broken}
 use Rattle.rules.specs.Ring.{opening_of}
 use Rattle.rules.specs.Table.{entries_of}
@@ -22,6 +21,7 @@ use Rattle.rules.specs.declared.Opened.{Opened}
 use Rattle.rules.specs.declared.Fault.{Fault}
 use Rattle.rules.specs.declared.Refusal.{Refusal}
 use Rattle.rules.specs.declared.Opening.TheVariants.{Refused, Started}
+use Rattle.rules.specs.declared.Refusal.TheVariants.{HostFailed}
 
 module _ (w : World) (o : Opened) (opened : opening_of w.mem w.state.regs.ring w.state.regs.ringsize ≡ Started o) where
   -- the unsliced rules' word on what was opened
@@ -58,6 +58,6 @@ module _ (w : World) (j : Job) (es : List Entry) (h : Progress) (awaits : w.stat
   good-settles = rw awaits
 
   -- failed: those before it stay, and the error is 27
-  pub failed-settles : answered false w ≡ settled_keeping j (broken (without_place (refusal host_failed))) w
+  pub failed-settles : answered false w ≡ settled_keeping j (broken (without_place HostFailed)) w
   unfolding answered
   failed-settles = rw awaits

@@ -8,10 +8,10 @@ use mathlib.Core.List.{List, [], ◌∷◌}
 use native.Mathlib.Omega.{arith}
 use borrow.Author.Tests.{eqb-true, ltb-false, not-false}
 use Rattle.machine.specs.Machine.{pick, run_none, run-stop, run-go}
-use Rattle.rules.specs.Numbers.{bad_entry, clips}
+use Rattle.rules.specs.Numbers.{clips}
 use Rattle.rules.specs.Lists.{lookup}
 use Rattle.rules.specs.Lists.Found.{found}
-use Rattle.rules.specs.Judging.{refusal, rule, Finding, at_place, Verdict}
+use Rattle.rules.specs.Judging.{rule, Finding, at_place, Verdict}
 use Rattle.rules.specs.Judging.Finding.{fine, broken}
 use Rattle.rules.specs.Layouts.{entry}
 use Rattle.rules.specs.Table.{matching, entry_place, entry_rules, keep, in_reach, take_entry}
@@ -32,6 +32,7 @@ use Rattle.rules.specs.declared.Stream.{Stream}
 use Rattle.rules.specs.declared.Opened.{Opened}
 use Rattle.rules.specs.declared.Opening.{Opening}
 use Rattle.rules.specs.declared.Opening.TheVariants.{BadRing, NoWork, Refused, Started}
+use Rattle.rules.specs.declared.Refusal.TheVariants.{BadEntry}
 use Rattle.promises_of_packets.specs.Held.{Every, every-none, every-pushed, Within}
 use Rattle.rule_laws.specs.Fine.{fine-first, fine-later, kept_rule}
 use Rattle.settle.specs.Only.{answered-keeps-memory, answered-is-lent-alike}
@@ -57,10 +58,10 @@ module _ (m : List ℕ) (t : Table) (kept : List Entry) (s : Every (EndsIn (leng
   unfolding entry_rules
   ends e h =
       ltb-false (length m) (e.gpa + e.size)
-      (kept_rule bad_entry _ (fine-first _ _ (fine-later (rule bad_entry (eqb e.size 0)) _ (fine-later (rule bad_entry (eqb e.id 0)) _ h))))
+      (kept_rule BadEntry _ (fine-first _ _ (fine-later (rule BadEntry (eqb e.size 0)) _ (fine-later (rule BadEntry (eqb e.id 0)) _ h))))
 
   kept-lies : (v : Verdict) (e : Entry) → entry_rules (length m) kept e ≡ v → Every (EndsIn (length m)) (keep v kept e).kept
-  kept-lies (Ok tt) e h = every-pushed (EndsIn (length m)) kept e s (ends e h)
+  kept-lies (Ok _) e h = every-pushed (EndsIn (length m)) kept e s (ends e h)
   kept-lies (Err r) e h = s
 
   take-lies : Every (EndsIn (length m)) (take_entry m t kept).kept
@@ -68,7 +69,7 @@ module _ (m : List ℕ) (t : Table) (kept : List Entry) (s : Every (EndsIn (leng
   take-lies = by_test (in_reach m t (length kept))
     where
       by_test : (b : Bool)
-          → Every (EndsIn (length m)) (pick b (keep (entry_rules (length m) kept (entry m (entry_place t (length kept)))) kept (entry m (entry_place t (length kept)))) (record { verdict = Err (refusal bad_entry); kept = kept })).kept
+          → Every (EndsIn (length m)) (pick b (keep (entry_rules (length m) kept (entry m (entry_place t (length kept)))) kept (entry m (entry_place t (length kept)))) (record { verdict = Err BadEntry; kept = kept })).kept
       by_test true = kept-lies (entry_rules (length m) kept (entry m (entry_place t (length kept)))) (entry m (entry_place t (length kept))) refl
       by_test false = s
 

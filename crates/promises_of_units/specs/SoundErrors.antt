@@ -16,7 +16,7 @@ ListedFinding fine = 0 ≤ 0
 ListedFinding (broken f) = listed f.code ≡ true
 
 pub found-listed : (place : ℕ) (v : Verdict) → Listed v → ListedFinding (at_place place v)
-found-listed place (Ok tt) l = l
+found-listed place (Ok _) l = l
 found-listed place (Err r) l = l
 
 -- "count + 1 (stops at 4294967295)" is never 0

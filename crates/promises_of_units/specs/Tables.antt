@@ -6,9 +6,8 @@ use Rattle.std.proofs.Common.{arith}
 use Rattle.std.specs.Prelude.{Bool, List, [], ℕ, ◌≤◌, ◌<◌, length, Err, Ok}
 use Rattle.std.proofs.Math.Bool.{true, false}
 use Rattle.machine.specs.Machine.{pick}
-use Rattle.rules.specs.Numbers.{bad_entry}
 use Rattle.rules.specs.Lists.{pushed}
-use Rattle.rules.specs.Judging.{refusal, Verdict}
+use Rattle.rules.specs.Judging.{Verdict}
 use Rattle.rules.specs.Layouts.{entry, stream_header_size}
 use Rattle.rules.specs.Table.{Taken, entry_place, entry_rules, keep, in_reach, take_entry}
 use Rattle.rules.specs.Ring.{opening_of}
@@ -20,6 +19,7 @@ use Rattle.rules.specs.declared.Opened.{Opened}
 use Rattle.rules.specs.declared.Stream.{Stream}
 use Rattle.rules.specs.declared.Table.{Table}
 use Rattle.rules.specs.declared.Opening.TheVariants.{Started}
+use Rattle.rules.specs.declared.Refusal.TheVariants.{BadEntry}
 
 -- the table's entry after those that were kept, as it stands in some memory
 abbrev pub next_entry : List ℕ → Table → List Entry → Entry
@@ -32,14 +32,14 @@ module _ (m : List ℕ) (t : Table) (kept : List Entry) where
   Right x = x.verdict ≡ Ok tt → (x.kept ≡ pushed kept (next_entry m t kept)) × (entry_rules (length m) kept (next_entry m t kept) ≡ Ok tt)
 
   by-verdict : (v : Verdict) → entry_rules (length m) kept (next_entry m t kept) ≡ v → Right (keep v kept (next_entry m t kept))
-  by-verdict (Ok tt) e d = (refl, e)
+  by-verdict (Ok _) e d = (refl, e)
   by-verdict (Err r) e d = absurd (let z : ◌≡◌ {A = ℕ} 0 1 = cc in omega arith)
 
   pub good-entry-is-kept : Right (take_entry m t kept)
   unfolding take_entry
   good-entry-is-kept = by_test (in_reach m t (length kept))
     where
-      by_test : (b : Bool) → Right (pick b (keep (entry_rules (length m) kept (next_entry m t kept)) kept (next_entry m t kept)) (record { verdict = Err (refusal bad_entry); kept = kept }))
+      by_test : (b : Bool) → Right (pick b (keep (entry_rules (length m) kept (next_entry m t kept)) kept (next_entry m t kept)) (record { verdict = Err BadEntry; kept = kept }))
       by_test true d = by-verdict (entry_rules (length m) kept (next_entry m t kept)) refl d
       by_test false d = absurd (let z : ◌≡◌ {A = ℕ} 0 1 = cc in omega arith)
 

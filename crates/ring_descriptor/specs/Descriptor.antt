@@ -6,11 +6,12 @@ use Rattle.std.proofs.Math.Bool.{true, false}
 use borrow.Author.Tests.{eq-eqb, ne_eqb, lt-ltb, le-ltb}
 use Rattle.std.proofs.Math.Dec.{ltb}
 use Rattle.machine.specs.Machine.{pick}
-use Rattle.rules.specs.Numbers.{bad_descriptor, outside_memory}
-use Rattle.rules.specs.Judging.{refusal, rule, only, ◌▹◌, Verdict}
+use Rattle.rules.specs.Judging.{rule, only, ◌▹◌, Verdict}
 use Rattle.rules.specs.Layouts.{word, long, descriptor, descriptor_size}
 use Rattle.rules.specs.Ring.{half_there, present, descriptor_rules, range_rules}
 use Rattle.rules.specs.declared.Descriptor.{Descriptor}
+use Rattle.rules.specs.declared.Refusal.{Refusal}
+use Rattle.rules.specs.declared.Refusal.TheVariants.{BadDescriptor, OutsideMemory}
 
 pub descriptor-read : (m : List ℕ) (at a b c d e f g : ℕ) → a ≡ word m at → b ≡ word m (at + 4) → c ≡ long m (at + 16) → d ≡ word m (at + 24) → e ≡ long m (at + 32)
     → f ≡ word m (at + 40) → g ≡ long m (at + 48)
@@ -46,35 +47,35 @@ module _ (gpa size : ℕ) where
 pub ruleset ranging = (neither-there, size-alone, gpa-alone, both-there, rules)
 
 -- two rules with one number are one rule
-joined : (n : ℕ) (a b : Bool) (later : Verdict) → rule n a ▹ rule n b ▹ later ≡ rule n (a || b) ▹ later
+joined : (n : Refusal) (a b : Bool) (later : Verdict) → rule n a ▹ rule n b ▹ later ≡ rule n (a || b) ▹ later
 joined n true b later = refl
 joined n false b later = refl
 
 module _ (stride : ℕ) (d : Descriptor) where
-  both-ranges : descriptor_rules stride d ≡ rule bad_descriptor (ltb d.size descriptor_size) ▹ rule bad_descriptor (ltb stride d.size)
-      ▹ rule bad_descriptor (bad_range d.cmd d.cmdsize) ▹ rule bad_descriptor (bad_range d.table d.tablesize)
+  both-ranges : descriptor_rules stride d ≡ rule BadDescriptor (ltb d.size descriptor_size) ▹ rule BadDescriptor (ltb stride d.size)
+      ▹ rule BadDescriptor (bad_range d.cmd d.cmdsize) ▹ rule BadDescriptor (bad_range d.table d.tablesize)
   unfolding descriptor_rules bad_range
-  both-ranges = ap (λ v. rule bad_descriptor (ltb d.size descriptor_size) ▹ rule bad_descriptor (ltb stride d.size) ▹ v)
-      (joined bad_descriptor (half_there d.cmd d.cmdsize) (ltb (2 ^ 64 - 1) (d.cmd + d.cmdsize)) _
-      ∙ ap (λ v. rule bad_descriptor (half_there d.cmd d.cmdsize || ltb (2 ^ 64 - 1) (d.cmd + d.cmdsize)) ▹ v) (alone (half_there d.table d.tablesize) (ltb (2 ^ 64 - 1) (d.table + d.tablesize))))
+  both-ranges = ap (λ v. rule BadDescriptor (ltb d.size descriptor_size) ▹ rule BadDescriptor (ltb stride d.size) ▹ v)
+      (joined BadDescriptor (half_there d.cmd d.cmdsize) (ltb (2 ^ 64 - 1) (d.cmd + d.cmdsize)) _
+      ∙ ap (λ v. rule BadDescriptor (half_there d.cmd d.cmdsize || ltb (2 ^ 64 - 1) (d.cmd + d.cmdsize)) ▹ v) (alone (half_there d.table d.tablesize) (ltb (2 ^ 64 - 1) (d.table + d.tablesize))))
     where
-      alone : (a b : Bool) → rule bad_descriptor a ▹ rule bad_descriptor b ≡ rule bad_descriptor (a || b)
+      alone : (a b : Bool) → rule BadDescriptor a ▹ rule BadDescriptor b ≡ rule BadDescriptor (a || b)
       alone true b = refl
       alone false b = refl
 
-  pub short-descriptor : d.size < descriptor_size → Err (refusal bad_descriptor) ≡ descriptor_rules stride d
+  pub short-descriptor : d.size < descriptor_size → Err BadDescriptor ≡ descriptor_rules stride d
   short-descriptor p = sym (both-ranges ∙ rw (lt-ltb _ _ p))
 
   module _ (p : descriptor_size ≤ d.size) where
-    pub long-descriptor : stride < d.size → Err (refusal bad_descriptor) ≡ descriptor_rules stride d
+    pub long-descriptor : stride < d.size → Err BadDescriptor ≡ descriptor_rules stride d
     long-descriptor q = sym (both-ranges ∙ rw (le-ltb _ _ p, lt-ltb _ _ q))
 
     module _ (q : d.size ≤ stride) (a : Bool) (ea : a ≡ bad_range d.cmd d.cmdsize) where
-      pub bad-cmd : a ≡ true → Err (refusal bad_descriptor) ≡ descriptor_rules stride d
+      pub bad-cmd : a ≡ true → Err BadDescriptor ≡ descriptor_rules stride d
       bad-cmd t = sym (both-ranges ∙ rw (le-ltb _ _ p, le-ltb _ _ q, ← ea, t))
 
       module _ (u : a ≡ false) (b : Bool) (eb : b ≡ bad_range d.table d.tablesize) where
-        pub bad-table-range : b ≡ true → Err (refusal bad_descriptor) ≡ descriptor_rules stride d
+        pub bad-table-range : b ≡ true → Err BadDescriptor ≡ descriptor_rules stride d
         bad-table-range t = sym (both-ranges ∙ rw (le-ltb _ _ p, le-ltb _ _ q, ← ea, u, ← eb, t))
 
         pub good-descriptor : b ≡ false → Ok tt ≡ descriptor_rules stride d
@@ -99,21 +100,21 @@ module _ (memory gpa size s : ℕ) (same : (s ≡ size) × (s < 4294967296)) whe
 
 pub ruleset reaching = (not-present, there, rules)
 
-only-rule : (n : ℕ) (a b : Bool) → only a (rule n b) ≡ rule n (pick a b false)
+only-rule : (n : Refusal) (a b : Bool) → only a (rule n b) ≡ rule n (pick a b false)
 only-rule n true b = refl
 only-rule n false b = refl
 
 module _ (memory : ℕ) (d : Descriptor) (a : Bool) (ea : a ≡ past memory d.cmd d.cmdsize) where
-  two-ranges : range_rules memory d ≡ rule outside_memory (past memory d.cmd d.cmdsize) ▹ rule outside_memory (past memory d.table d.tablesize)
+  two-ranges : range_rules memory d ≡ rule OutsideMemory (past memory d.cmd d.cmdsize) ▹ rule OutsideMemory (past memory d.table d.tablesize)
   unfolding range_rules past
   two-ranges =
-      rw (only-rule outside_memory (present d.cmdsize) (ltb memory (d.cmd + d.cmdsize)), only-rule outside_memory (present d.tablesize) (ltb memory (d.table + d.tablesize)))
+      rw (only-rule OutsideMemory (present d.cmdsize) (ltb memory (d.cmd + d.cmdsize)), only-rule OutsideMemory (present d.tablesize) (ltb memory (d.table + d.tablesize)))
 
-  pub cmd-outside : a ≡ true → Err (refusal outside_memory) ≡ range_rules memory d
+  pub cmd-outside : a ≡ true → Err OutsideMemory ≡ range_rules memory d
   cmd-outside t = sym (two-ranges ∙ rw (← ea, t))
 
   module _ (u : a ≡ false) (b : Bool) (eb : b ≡ past memory d.table d.tablesize) where
-    pub table-outside : b ≡ true → Err (refusal outside_memory) ≡ range_rules memory d
+    pub table-outside : b ≡ true → Err OutsideMemory ≡ range_rules memory d
     table-outside t = sym (two-ranges ∙ rw (← ea, u, ← eb, t))
 
     pub ranges-inside : b ≡ false → Ok tt ≡ range_rules memory d

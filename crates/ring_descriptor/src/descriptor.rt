@@ -5,7 +5,7 @@ ghost use Rattle.rules.specs.Layouts.{descriptor, descriptor_size};
 ghost use Rattle.rules.specs.Ring.{descriptor_rules, range_rules};
 ghost use Rattle.ring_descriptor.specs.Descriptor.{bad_range, past};
 
-use rules::numbers::{BAD_DESCRIPTOR, DESCRIPTOR_SIZE, OUTSIDE_MEMORY};
+use rules::numbers::DESCRIPTOR_SIZE;
 use rules::{Descriptor, Refusal};
 use widths::{beyond, u32_to_word};
 
@@ -46,24 +46,16 @@ pub fn descriptor_verdict(stride: u32, d: Descriptor) -> Result<(), Refusal>
     ensures { result ≡ descriptor_rules stride d }
 {
     if d.size < DESCRIPTOR_SIZE {
-        return Err(Refusal {
-            code: BAD_DESCRIPTOR,
-        });
+        return Err(Refusal::BadDescriptor);
     }
     if stride < d.size {
-        return Err(Refusal {
-            code: BAD_DESCRIPTOR,
-        });
+        return Err(Refusal::BadDescriptor);
     }
     if bad(d.cmd, d.cmdsize) {
-        return Err(Refusal {
-            code: BAD_DESCRIPTOR,
-        });
+        return Err(Refusal::BadDescriptor);
     }
     if bad(d.table, d.tablesize) {
-        return Err(Refusal {
-            code: BAD_DESCRIPTOR,
-        });
+        return Err(Refusal::BadDescriptor);
     }
     Ok(())
 }
@@ -84,14 +76,10 @@ pub fn range_verdict(memory: u64, d: Descriptor) -> Result<(), Refusal>
     ensures { result ≡ range_rules memory d }
 {
     if outside(memory, d.cmd, d.cmdsize) {
-        return Err(Refusal {
-            code: OUTSIDE_MEMORY,
-        });
+        return Err(Refusal::OutsideMemory);
     }
     if outside(memory, d.table, d.tablesize) {
-        return Err(Refusal {
-            code: OUTSIDE_MEMORY,
-        });
+        return Err(Refusal::OutsideMemory);
     }
     Ok(())
 }

@@ -6,7 +6,7 @@ use borrow.Author.Tests.{eq-eqb, ne_eqb, le-leb, lt-leb, leb-true, ltb-false, no
 use Rattle.std.specs.Int.{w64}
 use Rattle.machine.specs.Machine.{pick}
 use Rattle.widths.specs.Beyond.{leb-ltb}
-use Rattle.rules.specs.Numbers.{outside_memory, slot_doublings, ring_magic}
+use Rattle.rules.specs.Numbers.{slot_doublings, ring_magic}
 use Rattle.rules.specs.Judging.{rule, only, ◌▹◌, Verdict}
 use Rattle.rules.specs.Layouts.{good_version, ring_header, ring_header_size, descriptor, descriptor_size, table_header, stream_header}
 use Rattle.rules.specs.Table.{header_rules, checked_table, no_table}
@@ -21,6 +21,7 @@ use Rattle.rules.specs.declared.Stream.{Stream}
 use Rattle.rules.specs.declared.Refusal.{Refusal}
 use Rattle.rules.specs.declared.Opening.{Opening}
 use Rattle.rules.specs.declared.Opening.TheVariants.{BadRing, NoWork, Refused, Started}
+use Rattle.rules.specs.declared.Refusal.TheVariants.{OutsideMemory}
 use Rattle.table_header.specs.Header.{headed}
 use Rattle.stream_header.specs.Header.{begun}
 use Rattle.rule_laws.specs.Fine.{fine-first, fine-later, kept_rule, kept-only, both_left, both_right}
@@ -76,19 +77,19 @@ ranges_of m j d =
     j (opened_of m j d)
 
 bad-table-says : (v : Verdict) (t : Table) (r : Refusal) → headed v t ≡ Err r → v ≡ Err r
-bad-table-says (Ok tt) t r e = absurd (let z : ◌≡◌ {A = ℕ} 0 1 = cc in omega arith)
+bad-table-says (Ok _) t r e = absurd (let z : ◌≡◌ {A = ℕ} 0 1 = cc in omega arith)
 bad-table-says (Err x) t r e = let same : x ≡ r = cc in ap Err same
 
 good-table-says : (v : Verdict) (t u : Table) → headed v t ≡ Ok u → (v ≡ Ok tt) × (u ≡ t)
-good-table-says (Ok tt) t u e = let same : u ≡ t = cc in (refl, same)
+good-table-says (Ok _) t u e = let same : u ≡ t = cc in (refl, same)
 good-table-says (Err x) t u e = absurd (let z : ◌≡◌ {A = ℕ} 0 1 = cc in omega arith)
 
 bad-stream-says : (v : Verdict) (t : Stream) (r : Refusal) → begun v t ≡ Err r → v ≡ Err r
-bad-stream-says (Ok tt) t r e = absurd (let z : ◌≡◌ {A = ℕ} 0 1 = cc in omega arith)
+bad-stream-says (Ok _) t r e = absurd (let z : ◌≡◌ {A = ℕ} 0 1 = cc in omega arith)
 bad-stream-says (Err x) t r e = let same : x ≡ r = cc in ap Err same
 
 good-stream-says : (v : Verdict) (t u : Stream) → begun v t ≡ Ok u → (v ≡ Ok tt) × (u ≡ t)
-good-stream-says (Ok tt) t u e = let same : u ≡ t = cc in (refl, same)
+good-stream-says (Ok _) t u e = let same : u ≡ t = cc in (refl, same)
 good-stream-says (Err x) t u e = absurd (let z : ◌≡◌ {A = ℕ} 0 1 = cc in omega arith)
 
 module _ (m : List ℕ) (j : Job) (d : Descriptor) (t : Result Table Refusal) (et : t ≡ table_of m d.table d.tablesize) where
@@ -129,12 +130,12 @@ unfolding range_rules
 ranges-lie memory d fine =
     record {
       cmd = record {
-        ends = λ n. ltb-false memory (d.cmd + d.cmdsize) (kept_rule outside_memory (ltb memory (d.cmd + d.cmdsize)) (kept-only (present d.cmdsize) _ (present-size d.cmdsize n) (fine-first _ _ fine)));
+        ends = λ n. ltb-false memory (d.cmd + d.cmdsize) (kept_rule OutsideMemory (ltb memory (d.cmd + d.cmdsize)) (kept-only (present d.cmdsize) _ (present-size d.cmdsize n) (fine-first _ _ fine)));
       };
       table = record {
         ends = λ n.
             ltb-false memory (d.table + d.tablesize)
-            (kept_rule outside_memory (ltb memory (d.table + d.tablesize)) (kept-only (present d.tablesize) _ (present-size d.tablesize n) (fine-later (only (present d.cmdsize) (rule outside_memory (ltb memory (d.cmd + d.cmdsize)))) _ fine)));
+            (kept_rule OutsideMemory (ltb memory (d.table + d.tablesize)) (kept-only (present d.tablesize) _ (present-size d.tablesize n) (fine-later (only (present d.cmdsize) (rule OutsideMemory (ltb memory (d.cmd + d.cmdsize)))) _ fine)));
       };
     }
 

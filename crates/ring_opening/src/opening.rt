@@ -8,8 +8,6 @@ use ring_descriptor::descriptor::{descriptor_at, descriptor_verdict, range_verdi
 use ring_header::header::{good, header_at, slot_offset};
 use rules::numbers::RING_HEADER_SIZE;
 use rules::{Descriptor, Job, Opened, Opening, Refusal, RingHeader, Stream, Table};
-use stream_header::header::Result<Stream, Refusal>;
-use table_header::header::Result<Table, Refusal>;
 use widths::{beyond, u32_to_word, usize_to_word, word_to_usize};
 
 // 13 and 19, where a table is present.

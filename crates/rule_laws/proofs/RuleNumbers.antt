@@ -4,8 +4,9 @@ use Rattle.std.specs.Prelude.{◌≡◌, refl, Bool, true, false, ◌&&◌, ◌|
 use Rattle.std.proofs.Common.{inl, inr}
 use native.Mathlib.Omega.{arith}
 use Rattle.machine.specs.Machine.{pick}
-use Rattle.rules.specs.Numbers.{bad_table, bad_entry, twice_in_table, bad_stream, bad_packet, bad_handle, too_many, not_in_table, unbound_token}
-use Rattle.rules.specs.Judging.{rule, only, ◌▹◌, Verdict}
+use Rattle.rules.specs.Numbers.{bad_entry, twice_in_table}
+use Rattle.rules.specs.declared.Refusal.{Refusal}
+use Rattle.rules.specs.Judging.{error_number, rule, only, ◌▹◌, Verdict}
 use Rattle.rules.specs.Layouts.{ring_header, descriptor}
 use Rattle.rules.specs.Table.{header_rules}
 use Rattle.rules.specs.Stream.{stream_rules, frame_rules, framed, frame_of, packet_of, Frame}
@@ -30,6 +31,7 @@ use Rattle.rules.specs.declared.RingHeader.{RingHeader}
 use Rattle.rules.specs.declared.TableHeader.{TableHeader}
 use Rattle.rules.specs.declared.StreamHeader.{StreamHeader}
 use Rattle.rules.specs.declared.Opening.TheVariants.{BadRing, NoWork}
+use Rattle.rules.specs.declared.Refusal.TheVariants.{BadHandle, NotInTable, UnboundToken}
 use Rattle.rule_laws.specs.RuleNumbers.{EntryRule, Numbered, NumberedFrame, NumberedOpening, NumberedOutcome, OfOpening, opening_number, packet_number}
 
 -- neither is an entry's
@@ -43,12 +45,12 @@ packet-number-is-no-entrys n h (inr e) = let w : packet_number twice_in_table �
 
 -- ---- an opening's rules, one after the other
 
-rule-numbered : (n : ℕ) (t : Bool) → opening_number n ≡ true → OfOpening (rule n t)
+rule-numbered : (n : Refusal) (t : Bool) → opening_number (error_number n) ≡ true → OfOpening (rule n t)
 rule-numbered n true l = l
 rule-numbered n false l = omega arith
 
 then-numbered : (a b : Verdict) → OfOpening a → OfOpening b → OfOpening (a ▹ b)
-then-numbered (Ok tt) b k l = l
+then-numbered (Ok _) b k l = l
 then-numbered (Err r) b k l = k
 
 only-numbered : (t : Bool) (v : Verdict) → OfOpening v → OfOpening (only t v)
@@ -78,7 +80,7 @@ unfolding submission_rules
 submission-numbered m stride d = search (numbering, descriptor-numbered, range-numbered, table-numbered, stream-numbered) depth 12
 
 concluded-numbered : (v : Verdict) (j : Job) (o : Opened) → OfOpening v → NumberedOpening (concluded v j o)
-concluded-numbered (Ok tt) j o l = l
+concluded-numbered (Ok _) j o l = l
 concluded-numbered (Err r) j o l = l
 
 submission-opening-numbered : (m : List ℕ) (stride : ℕ) (j : Job) (d : Descriptor) → NumberedOpening (submission_opening m stride j d)
@@ -106,12 +108,12 @@ opening-numbered m ring size = by_test (good_ring m ring size)
 
 -- ---- a packet's frame
 
-framing-numbered : (n : ℕ) (t : Bool) → packet_number n ≡ true → Numbered (rule n t)
+framing-numbered : (n : Refusal) (t : Bool) → packet_number (error_number n) ≡ true → Numbered (rule n t)
 framing-numbered n true l = l
 framing-numbered n false l = omega arith
 
 further-numbered : (a b : Verdict) → Numbered a → Numbered b → Numbered (a ▹ b)
-further-numbered (Ok tt) b k l = l
+further-numbered (Ok _) b k l = l
 further-numbered (Err r) b k l = k
 
 frame-numbered : (b : List ℕ) → Numbered (frame_rules b)
@@ -123,7 +125,7 @@ unfolding frame_of
 frame-of-numbered b = by-verdict (frame_rules b) (frame-numbered b) _ _
   where
     by-verdict : (v : Verdict) → Numbered v → (op size : ℕ) → NumberedFrame (framed v op size)
-    by-verdict (Ok tt) l op size = omega arith
+    by-verdict (Ok _) l op size = omega arith
     by-verdict (Err r) l op size = l
 
 -- ---- a packet
@@ -133,7 +135,7 @@ module _ (h : Holdings) where
   unfolding NumberedOutcome
   accepted-numbered g = omega arith
 
-  refused-numbered : (n : ℕ) → packet_number n ≡ true → NumberedOutcome (refused n h)
+  refused-numbered : (n : Refusal) → packet_number (error_number n) ≡ true → NumberedOutcome (refused n h)
   unfolding NumberedOutcome
   refused-numbered n l = l
 
@@ -142,23 +144,23 @@ module _ (h : Holdings) where
   pick-numbered false x y k l = l
 
   live-numbered : (f : Found Resource) (later : Resource → Outcome) → ((r : Resource) → NumberedOutcome (later r)) → NumberedOutcome (on_live f h later)
-  live-numbered none later l = refused-numbered bad_handle refl
+  live-numbered none later l = refused-numbered BadHandle refl
   live-numbered (found r) later l = l r
 
   kind-numbered : (k : Kind) (later : Outcome) → NumberedOutcome later → NumberedOutcome (on_kind k h later)
   kind-numbered BufferKind later l = l
-  kind-numbered (TextureKind s) later l = refused-numbered bad_handle refl
+  kind-numbered (TextureKind s) later l = refused-numbered BadHandle refl
 
   entry-or-numbered : (f : Found Entry) (later : Entry → Outcome) → ((e : Entry) → NumberedOutcome (later e)) → NumberedOutcome (on_entry f h later)
-  entry-or-numbered none later l = refused-numbered not_in_table refl
+  entry-or-numbered none later l = refused-numbered NotInTable refl
   entry-or-numbered (found e) later l = l e
 
-  texture-numbered : (n : ℕ) (f : Found Shape) (later : Shape → Outcome) → packet_number n ≡ true → ((s : Shape) → NumberedOutcome (later s)) → NumberedOutcome (on_texture n f h later)
+  texture-numbered : (n : Refusal) (f : Found Shape) (later : Shape → Outcome) → packet_number (error_number n) ≡ true → ((s : Shape) → NumberedOutcome (later s)) → NumberedOutcome (on_texture n f h later)
   texture-numbered n none later k l = refused-numbered n k
   texture-numbered n (found s) later k l = l s
 
   bound-numbered : (f : Found Resource) (later : Resource → Outcome) → ((r : Resource) → NumberedOutcome (later r)) → NumberedOutcome (on_bound f h later)
-  bound-numbered none later l = refused-numbered unbound_token refl
+  bound-numbered none later l = refused-numbered UnboundToken refl
   bound-numbered (found r) later l = l r
 
 ruleset outcomes = (accepted-numbered, refused-numbered, pick-numbered, live-numbered, kind-numbered, entry-or-numbered, texture-numbered, bound-numbered)

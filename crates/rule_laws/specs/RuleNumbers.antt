@@ -1,11 +1,11 @@
 -- Wish 9, "the entry index for 14 and 15, the packet's byte offset in the stream for packet errors, else 0": the numbers that an opening's rules have and
 -- those that a packet's rules have. None of them is 14 or 15, which are an entry's. Assumes nothing.
 use Rattle.std.specs.Prelude.{◌≡◌, Bool, true, not, ◌&&◌, ◌||◌, ℕ, ◌≤◌, ◌⊎◌, leb, eqb, Err, Ok}
-use Rattle.rules.specs.Numbers.{bad_descriptor, outside_memory, bad_table, bad_entry, twice_in_table, bad_stream, bad_packet, bad_handle, too_many, bad_state, host_failed, unbound_token}
+use Rattle.rules.specs.Numbers.{bad_descriptor, outside_memory, bad_table, bad_entry, twice_in_table, bad_stream, bad_packet, too_many, host_failed, bad_state}
 use Rattle.rules.specs.Packets.{Outcome}
 use Rattle.rules.specs.declared.Opening.{Opening}
 use Rattle.rules.specs.declared.Opening.TheVariants.{BadRing, NoWork, Refused, Started}
-use Rattle.rules.specs.Judging.{Verdict}
+use Rattle.rules.specs.Judging.{error_number, Verdict}
 use Rattle.rules.specs.Stream.{Frame}
 
 -- the numbers that an entry's rules have
@@ -23,25 +23,25 @@ packet_number n = leb bad_packet n && (leb n bad_state && not (eqb n host_failed
 -- ---- an opening's rules, one after the other
 
 abbrev pub OfOpening : Verdict → Type 0
-OfOpening (Ok tt) = 0 ≤ 0
-OfOpening (Err r) = opening_number r.code ≡ true
+OfOpening (Ok _) = 0 ≤ 0
+OfOpening (Err r) = opening_number (error_number r) ≡ true
 
 -- what an opening refuses a submission with
 abbrev pub NumberedOpening : Opening → Type 0
 NumberedOpening BadRing = 0 ≤ 0
 NumberedOpening NoWork = 0 ≤ 0
-NumberedOpening (Refused j r) = opening_number r.code ≡ true
+NumberedOpening (Refused j r) = opening_number (error_number r) ≡ true
 NumberedOpening (Started o) = 0 ≤ 0
 
 -- ---- a packet's frame
 
 abbrev pub Numbered : Verdict → Type 0
-Numbered (Ok tt) = 0 ≤ 0
-Numbered (Err r) = packet_number r.code ≡ true
+Numbered (Ok _) = 0 ≤ 0
+Numbered (Err r) = packet_number (error_number r) ≡ true
 
 abbrev pub NumberedFrame : Frame → Type 0
 NumberedFrame (Ok (op, size)) = 0 ≤ 0
-NumberedFrame (Err r) = packet_number r.code ≡ true
+NumberedFrame (Err r) = packet_number (error_number r) ≡ true
 
 -- ---- a packet
 

@@ -13,6 +13,7 @@ use Rattle.rules.specs.declared.Class.TheVariants.{Equal, SameOpcode, OtherOpcod
 use Rattle.rules.specs.declared.Cursor.{Cursor}
 use Rattle.rules.specs.declared.Pair.{Pair}
 use Rattle.rules.specs.Judging.{Verdict}
+use Rattle.rules.specs.declared.Refusal.{Refusal}
 
 -- ---- one stream
 
@@ -20,23 +21,25 @@ use Rattle.rules.specs.Judging.{Verdict}
 abbrev pub packets : List ℕ → List Listed
 packets b = (dump_of false b).packets
 
--- the number of the rule that it breaks, 16 or 17, or 0
-abbrev pub broken_by : Ending → ℕ
-broken_by complete = 0
-broken_by (stopped p) = 0
-broken_by (refused r) = r.code
+-- the rule that it breaks, 16 or 17
+abbrev pub broken_by : Ending → Verdict
+broken_by complete = Ok tt
+broken_by (stopped p) = Ok tt
+broken_by (refused r) = Err r
 
-abbrev pub fault : List ℕ → ℕ
+abbrev pub fault : List ℕ → Verdict
 fault b = broken_by (dump_of false b).ending
 
 -- ---- check
 
 -- "A stream that breaks the rules of 16 or 17 is refused with that number and which of the two it was, the first if both."
-abbrev pub refused_stream : ℕ → ℕ → RefusedStream
-refused_stream code which = record { code = code; which = which }
+abbrev pub refused_stream : Refusal → ℕ → RefusedStream
+refused_stream why which = record { why = why; which = which }
 
-abbrev pub checked : ℕ → ℕ → Result ⊤ RefusedStream
-checked m n = pick (eqb m 0) (pick (eqb n 0) (Ok tt) (Err (refused_stream n 2))) (Err (refused_stream m 1))
+abbrev pub checked : Verdict → Verdict → Result ⊤ RefusedStream
+checked (Ok _) (Ok _) = Ok tt
+checked (Ok _) (Err r) = Err (refused_stream r 2)
+checked (Err r) v = Err (refused_stream r 1)
 
 abbrev pub check : List ℕ → List ℕ → Result ⊤ RefusedStream
 check b c = checked (fault b) (fault c)
@@ -111,7 +114,7 @@ parted i (p ∷ ps) (q ∷ qs) = parted_by (class_both p.bytes q.bytes) i (parte
 
 -- what was asked for, or the refusal
 abbrev pub asked : {A : Type 0} → Result ⊤ RefusedStream → A → Result A RefusedStream
-asked (Ok tt) x = Ok x
+asked (Ok _) x = Ok x
 asked (Err r) x = Err r
 
 abbrev pub parts : List ℕ → List ℕ → Result (Option ℕ) RefusedStream
@@ -129,7 +132,7 @@ next_asked b c i from = asked (check b c) (next_from from (offsets_at b c i))
 
 -- a stream's own bytes, none where its header breaks 16
 abbrev pub own_in : Verdict → ℕ → List ℕ → List ℕ
-own_in (Ok tt) size b = take size b
+own_in (Ok _) size b = take size b
 own_in (Err r) size b = []
 
 unfoldable pub own : List ℕ → List ℕ

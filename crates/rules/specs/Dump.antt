@@ -13,7 +13,7 @@ use Rattle.rules.specs.declared.Refusal.{Refusal}
 use Rattle.rules.specs.declared.Packet.{Packet}
 use Rattle.rules.specs.declared.Packet.TheVariants.{Buffer, Texture, Destroy, Dirty, Copy, Target, Viewport, Scissor, Clear, Export, Import, Release, NotANumber, Unknown}
 use Rattle.rules.specs.Text.{ascii, hex, decimal, signed_decimal}
-use Rattle.rules.specs.Judging.{Verdict}
+use Rattle.rules.specs.Judging.{error_number, Verdict}
 
 -- ---- a line
 
@@ -71,7 +71,7 @@ pub data Ending : Type 0 where
 unfoldable pub ending_text : Ending → List ℕ
 ending_text complete = []
 ending_text (stopped p) = line p.at "STOPPED" p.size (opcode_text p.opcode)
-ending_text (refused r) = ascii "error=" ++ (decimal r.code ++ end_of_line)
+ending_text (refused r) = ascii "error=" ++ (decimal (error_number r) ++ end_of_line)
 
 -- the packets that are listed, in order, and how the listing ends
 pub record Dump : Type 0 where
@@ -121,7 +121,7 @@ listed strict (suc k) at b =
     (listed_before strict at (frame_of b) b (listed strict k (at + size_of (frame_of b)) (drop (size_of (frame_of b)) b)))
 
 abbrev pub dump_in : Bool → List ℕ → Verdict → ℕ → Dump
-dump_in strict b (Ok tt) size = listed strict size stream_header_size (drop stream_header_size (take size b))
+dump_in strict b (Ok _) size = listed strict size stream_header_size (drop stream_header_size (take size b))
 dump_in strict b (Err r) size = ends (refused r)
 
 -- a raw stream: its length is the cmd size of rule 16

@@ -46,7 +46,7 @@ abbrev pub where_true : Bool → List Named → List Named
 where_true t l = pick t l []
 
 abbrev pub where_fine : Verdict → List Named → List Named
-where_fine (Ok tt) l = l
+where_fine (Ok _) l = l
 where_fine (Err r) l = []
 
 -- ---- an opening

@@ -1,10 +1,10 @@
 -- 01, "Packet rules, checked in this order": what each packet does to a submission's resources and records; and by 02, wishes 7 and 5, to its target and its tokens.
 use Rattle.std.specs.Prelude.{Bool, true, false, not, ◌&&◌, ◌||◌, List, [], ℕ, ◌+◌, ◌%◌, ltb, leb, eqb, length, take, Err, Ok}
 use Rattle.machine.specs.Machine.{pick}
-use Rattle.rules.specs.Numbers.{bad_handle, too_many, bad_shape, not_in_table, past_entry, read_only, past_resource, host_backed, bad_copy, bad_token, unbound_token, bad_state, most, most_tokens, no_name, backs, reads, writes}
+use Rattle.rules.specs.Numbers.{most, most_tokens, no_name, backs, reads, writes}
 use Rattle.rules.specs.Lists.{Found, lookup, index_of, pushed, removed}
 use Rattle.rules.specs.Lists.Found.{none, found}
-use Rattle.rules.specs.Judging.{refusal, Verdict}
+use Rattle.rules.specs.Judging.{Verdict}
 use Rattle.rules.specs.Names.{token_of, shareable, names_left, tokens_left, names_with, tokens_with, of_another, is_new, with_token, without_token}
 use Rattle.rules.specs.Shapes.{good_shape, good_backed, packed_size}
 use Rattle.rules.specs.StatePackets.{bad_viewport, bad_clear, bad_sides, clip_of}
@@ -31,6 +31,8 @@ use Rattle.rules.specs.declared.Kind.{Kind}
 use Rattle.rules.specs.declared.Kind.TheVariants.{Buffer as BufferKind, Texture as TextureKind}
 use Rattle.rules.specs.declared.Packet.{Packet}
 use Rattle.rules.specs.declared.Packet.TheVariants.{Buffer, Texture, Destroy, Dirty, Copy, Target, Viewport, Scissor, Clear, Export, Import, Release, NotANumber, Unknown}
+use Rattle.rules.specs.declared.Refusal.{Refusal}
+use Rattle.rules.specs.declared.Refusal.TheVariants.{BadHandle, TooMany, BadShape, NotInTable, PastEntry, ReadOnly, PastResource, HostBacked, BadCopy, BadToken, UnboundToken, BadState}
 
 -- what a submission holds: its resources as its earlier packets left them, and the records they made
 pub record Holdings : Type 0 where
@@ -45,11 +47,11 @@ pub record Outcome : Type 0 where
 abbrev pub accepted : Holdings → Outcome
 accepted h = record { verdict = Ok tt; held = h }
 
-abbrev pub refused : ℕ → Holdings → Outcome
-refused n h = record { verdict = Err (refusal n); held = h }
+abbrev pub refused : Refusal → Holdings → Outcome
+refused n h = record { verdict = Err n; held = h }
 
 -- the rule with number n, and then those after it
-abbrev pub refuse : ℕ → Bool → Holdings → Outcome → Outcome
+abbrev pub refuse : Refusal → Bool → Holdings → Outcome → Outcome
 refuse n broken h later = pick broken (refused n h) later
 
 -- "if 64 resources are live", which "now counts names" (02, wish 5); "if 64 records exist"
@@ -70,12 +72,12 @@ is_live (found r) = true
 
 -- 18, unless the handle is live
 abbrev pub on_live : Found Resource → Holdings → (Resource → Outcome) → Outcome
-on_live none h later = refused bad_handle h
+on_live none h later = refused BadHandle h
 on_live (found r) h later = later r
 
 abbrev pub on_kind : Kind → Holdings → Outcome → Outcome
 on_kind BufferKind h later = later
-on_kind (TextureKind s) h later = refused bad_handle h
+on_kind (TextureKind s) h later = refused BadHandle h
 
 -- 18, unless the handle is a live buffer's
 abbrev pub on_buffer : Found Resource → Holdings → (Resource → Outcome) → Outcome
@@ -83,7 +85,7 @@ on_buffer f h later = on_live f h (λ r. on_kind r.kind h (later r))
 
 -- "21 id not in the table (or no table)"
 abbrev pub on_entry : Found Entry → Holdings → (Entry → Outcome) → Outcome
-on_entry none h later = refused not_in_table h
+on_entry none h later = refused NotInTable h
 on_entry (found e) h later = later e
 
 abbrev pub backed : ℕ → Bool
@@ -101,7 +103,7 @@ recorded c h = record { resources = h.resources; records = pushed h.records c }
 
 -- "19 records", and the record. "Dirty and copy of size 0 are put to every check except 19 and make no record."
 unfoldable pub hand_out : Record → Holdings → Outcome
-hand_out c h = pick (eqb c.length 0) (accepted h) (refuse too_many (full h.records) h (accepted (recorded c h)))
+hand_out c h = pick (eqb c.length 0) (accepted h) (refuse TooMany (full h.records) h (accepted (recorded c h)))
 
 -- ---- create
 
@@ -110,22 +112,22 @@ stored r h = record { resources = pushed h.resources r; records = h.records }
 
 -- "19 if 64 resources are live"
 unfoldable pub create_hosted : Holdings → Resource → Outcome
-create_hosted h r = refuse too_many (full h.resources) h (accepted (stored r h))
+create_hosted h r = refuse TooMany (full h.resources) h (accepted (stored r h))
 
 -- "21 .., 22 backing offset + bytes above the entry's size; 19 if 64 resources are live; backed only: 19 if 64 records exist. Record kind 1."
 unfoldable pub create_backed : List Entry → Holdings → Resource → Outcome
 create_backed es h r =
     on_entry (matching r.backing es) h (λ e.
-    refuse past_entry (ltb e.size (r.offset + r.bytes)) h
-    (refuse too_many (full h.resources) h
-    (refuse too_many (full h.records) h
+    refuse PastEntry (ltb e.size (r.offset + r.bytes)) h
+    (refuse TooMany (full h.resources) h
+    (refuse TooMany (full h.records) h
     (accepted (recorded (range_of backs r e 0 r.bytes) (stored r h))))))
 
 -- "Create: 18 handle 0 or live; 20 bad shape; if backing id is non-zero: .."
 unfoldable pub create : List Entry → Holdings → Bool → Resource → Outcome
 create es h good r =
-    refuse bad_handle (eqb r.handle 0 || is_live (live r.handle h)) h
-    (refuse bad_shape (not good) h
+    refuse BadHandle (eqb r.handle 0 || is_live (live r.handle h)) h
+    (refuse BadShape (not good) h
     (pick (backed r.backing) (create_backed es h r) (create_hosted h r)))
 
 -- "A resource keeps kind, shape, pitch, backing id and offset; host-backed ones ignore pitch and offset and keep them as 0."
@@ -162,19 +164,19 @@ on_destroy_packet h c =
 unfoldable pub on_dirty_packet : List Entry → Holdings → DirtyRange → Outcome
 on_dirty_packet es h c =
     on_live (live c.handle h) h (λ r.
-    refuse host_backed (not (backed r.backing)) h
-    (refuse past_resource (ltb r.bytes (c.offset + c.size)) h
+    refuse HostBacked (not (backed r.backing)) h
+    (refuse PastResource (ltb r.bytes (c.offset + c.size)) h
     (on_entry (matching r.backing es) h (λ e.
-    refuse past_entry (ltb e.size (r.offset + (c.offset + c.size))) h
+    refuse PastEntry (ltb e.size (r.offset + (c.offset + c.size))) h
     (hand_out (range_of reads r e c.offset c.size) h)))))
 
 -- "with writeback on dst: 25, 21, 22, 23 read_only, 19. 22 as for dirty. Kind 3 (write, of dst)"
 unfoldable pub write_back : List Entry → Holdings → CopyBuffer → Resource → Outcome
 write_back es h c r =
-    refuse host_backed (not (backed r.backing)) h
+    refuse HostBacked (not (backed r.backing)) h
     (on_entry (matching r.backing es) h (λ e.
-    refuse past_entry (ltb e.size (r.offset + (c.dstoffset + c.size))) h
-    (refuse read_only (eqb (e.flags % 2) 1) h
+    refuse PastEntry (ltb e.size (r.offset + (c.dstoffset + c.size))) h
+    (refuse ReadOnly (eqb (e.flags % 2) 1) h
     (hand_out (range_of writes r e c.dstoffset c.size) h))))
 
 -- "Copy: 18 dst, then src, not a live buffer; 26 same handle, or flags above 1; 24 dst, then src; with writeback on dst: .."
@@ -182,9 +184,9 @@ unfoldable pub on_copy_packet : List Entry → Holdings → CopyBuffer → Outco
 on_copy_packet es h c =
     on_buffer (live c.dst h) h (λ d.
     on_buffer (live c.src h) h (λ s.
-    refuse bad_copy (eqb c.dst c.src || ltb 1 c.flags) h
-    (refuse past_resource (ltb d.bytes (c.dstoffset + c.size)) h
-    (refuse past_resource (ltb s.bytes (c.srcoffset + c.size)) h
+    refuse BadCopy (eqb c.dst c.src || ltb 1 c.flags) h
+    (refuse PastResource (ltb d.bytes (c.dstoffset + c.size)) h
+    (refuse PastResource (ltb s.bytes (c.srcoffset + c.size)) h
     (pick (eqb c.flags 1) (write_back es h c d) (accepted h))))))
 
 -- ---- state packets (02, wish 7)
@@ -203,27 +205,27 @@ unfoldable pub live_texture : ℕ → Holdings → Found Shape
 live_texture k h = pick (eqb k 0) none (shape_in (live k h))
 
 -- the rule with number n, unless there is such a texture
-abbrev pub on_texture : ℕ → Found Shape → Holdings → (Shape → Outcome) → Outcome
+abbrev pub on_texture : Refusal → Found Shape → Holdings → (Shape → Outcome) → Outcome
 on_texture n none h later = refused n h
 on_texture n (found s) h later = later s
 
 -- "The target is a live texture, else 18"
 unfoldable pub on_target_packet : Holdings → SetTarget → Outcome
-on_target_packet h c = on_texture bad_handle (live_texture c.handle h) h (λ s. accepted h)
+on_target_packet h c = on_texture BadHandle (live_texture c.handle h) h (λ s. accepted h)
 
 unfoldable pub on_viewport_packet : Holdings → SetViewport → Outcome
-on_viewport_packet h v = refuse bad_state (bad_viewport v) h (accepted h)
+on_viewport_packet h v = refuse BadState (bad_viewport v) h (accepted h)
 
 unfoldable pub on_clear_packet : Holdings → ClearValues → Outcome
-on_clear_packet h c = refuse bad_state (bad_clear c) h (accepted h)
+on_clear_packet h c = refuse BadState (bad_clear c) h (accepted h)
 
 -- "scissor sides negative; scissor without a target": 30. The clipped rectangle is a record "which counts toward the 64": 19. "Order: 18, 30, 19."
 -- A target that is no live texture, which only made-up words hold, counts as none (docs/DECISIONS.md, 89).
 unfoldable pub on_scissor_packet : ℕ → Holdings → SetScissor → Outcome
 on_scissor_packet target h c =
-    on_texture bad_state (live_texture target h) h (λ s.
-    refuse bad_state (bad_sides c) h
-    (refuse too_many (full h.records) h (accepted (recorded (clip_of s c) h))))
+    on_texture BadState (live_texture target h) h (λ s.
+    refuse BadState (bad_sides c) h
+    (refuse TooMany (full h.records) h (accepted (recorded (clip_of s c) h))))
 
 -- ---- shared surfaces (02, wish 5): "The handle check (18, create's rule for import) comes first, then shape, token, room."
 
@@ -232,9 +234,9 @@ on_scissor_packet target h c =
 unfoldable pub on_export_packet : List Token → Holdings → ExportSurface → Outcome
 on_export_packet ts h c =
     on_live (live c.handle h) h (λ r.
-    refuse bad_shape (not (shareable r.kind)) h
-    (refuse bad_token (eqb c.token 0 || of_another (lookup token_of c.token ts) r.lowest) h
-    (refuse too_many (is_new (lookup token_of c.token ts) && leb most_tokens (length ts)) h (accepted h))))
+    refuse BadShape (not (shareable r.kind)) h
+    (refuse BadToken (eqb c.token 0 || of_another (lookup token_of c.token ts) r.lowest) h
+    (refuse TooMany (is_new (lookup token_of c.token ts) && leb most_tokens (length ts)) h (accepted h))))
 
 -- the live resource that a token is bound to
 abbrev pub bound_in : Found Token → List Resource → Found Resource
@@ -246,15 +248,15 @@ bound token ts rs = bound_in (lookup token_of token ts) rs
 
 -- "Import and release give 29 for a token not bound to a live resource."
 abbrev pub on_bound : Found Resource → Holdings → (Resource → Outcome) → Outcome
-on_bound none h later = refused unbound_token h
+on_bound none h later = refused UnboundToken h
 on_bound (found r) h later = later r
 
 -- "The limit of 64 now counts names."
 unfoldable pub on_import_packet : List Token → Holdings → ImportSurface → Outcome
 on_import_packet ts h c =
-    refuse bad_handle (eqb c.handle 0 || is_live (live c.handle h)) h
+    refuse BadHandle (eqb c.handle 0 || is_live (live c.handle h)) h
     (on_bound (bound c.token ts h.resources) h (λ r.
-    refuse too_many (full h.resources) h
+    refuse TooMany (full h.resources) h
     (accepted (record { resources = names_with c.handle r h.resources; records = h.records }))))
 
 unfoldable pub on_release_packet : List Token → Holdings → ReleaseToken → Outcome
@@ -275,7 +277,7 @@ apply es target ts h (Clear c) = on_clear_packet h c
 apply es target ts h (Export c) = on_export_packet ts h c
 apply es target ts h (Import c) = on_import_packet ts h c
 apply es target ts h (Release c) = on_release_packet ts h c
-apply es target ts h NotANumber = refused bad_state h
+apply es target ts h NotANumber = refused BadState h
 apply es target ts h Unknown = accepted h
 
 -- ---- what a submission carries from packet to packet
@@ -301,7 +303,7 @@ left_by h = record { resources = h.holdings.resources; tokens = h.tokens }
 
 -- a packet that is refused leaves target and tokens
 abbrev pub if-fine : {A : Type 0} → Verdict → A → A → A
-if-fine (Ok tt) new old = new
+if-fine (Ok _) new old = new
 if-fine (Err r) new old = old
 
 -- "it lasts until the submission ends or that handle is destroyed"

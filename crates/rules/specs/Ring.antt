@@ -1,7 +1,7 @@
 -- 01, "Open": the ring, its descriptor, and how an opening ends.
 use Rattle.std.specs.Prelude.{Bool, not, ◌&&◌, ◌||◌, List, ℕ, zero, suc, ◌+◌, ◌-◌, ◌*◌, ◌%◌, ◌^◌, ltb, leb, eqb, length, Err, Ok}
 use Rattle.machine.specs.Machine.{pick}
-use Rattle.rules.specs.Numbers.{bad_descriptor, outside_memory, ring_magic, slot_doublings}
+use Rattle.rules.specs.Numbers.{ring_magic, slot_doublings}
 use Rattle.rules.specs.Judging.{rule, only, ◌▹◌, Verdict}
 use Rattle.rules.specs.Layouts.{good_version, ring_header, ring_header_size, descriptor, descriptor_size, table_header, stream_header}
 use Rattle.rules.specs.Table.{header_rules, checked_table, no_table}
@@ -12,6 +12,7 @@ use Rattle.rules.specs.declared.Job.{Job}
 use Rattle.rules.specs.declared.Opened.{Opened}
 use Rattle.rules.specs.declared.Opening.{Opening}
 use Rattle.rules.specs.declared.Opening.TheVariants.{BadRing, NoWork, Refused, Started}
+use Rattle.rules.specs.declared.Refusal.TheVariants.{BadDescriptor, OutsideMemory}
 
 -- ---- the ring
 
@@ -64,18 +65,18 @@ present size = not (eqb size 0)
 -- then both rules for the table."
 unfoldable pub descriptor_rules : ℕ → Descriptor → Verdict
 descriptor_rules stride d =
-    rule bad_descriptor (ltb d.size descriptor_size)
-    ▹ rule bad_descriptor (ltb stride d.size)
-    ▹ rule bad_descriptor (half_there d.cmd d.cmdsize)
-    ▹ rule bad_descriptor (ltb (2 ^ 64 - 1) (d.cmd + d.cmdsize))
-    ▹ rule bad_descriptor (half_there d.table d.tablesize)
-    ▹ rule bad_descriptor (ltb (2 ^ 64 - 1) (d.table + d.tablesize))
+    rule BadDescriptor (ltb d.size descriptor_size)
+    ▹ rule BadDescriptor (ltb stride d.size)
+    ▹ rule BadDescriptor (half_there d.cmd d.cmdsize)
+    ▹ rule BadDescriptor (ltb (2 ^ 64 - 1) (d.cmd + d.cmdsize))
+    ▹ rule BadDescriptor (half_there d.table d.tablesize)
+    ▹ rule BadDescriptor (ltb (2 ^ 64 - 1) (d.table + d.tablesize))
 
 -- "12: cmd range, then table range, not within memory."
 unfoldable pub range_rules : ℕ → Descriptor → Verdict
 range_rules memory d =
-    only (present d.cmdsize) (rule outside_memory (ltb memory (d.cmd + d.cmdsize)))
-    ▹ only (present d.tablesize) (rule outside_memory (ltb memory (d.table + d.tablesize)))
+    only (present d.cmdsize) (rule OutsideMemory (ltb memory (d.cmd + d.cmdsize)))
+    ▹ only (present d.tablesize) (rule OutsideMemory (ltb memory (d.table + d.tablesize)))
 
 -- "then in order (12 to 16 only for a range that is present)"
 unfoldable pub submission_rules : List ℕ → ℕ → Descriptor → Verdict
@@ -101,7 +102,7 @@ opened_of m j d =
     }
 
 abbrev pub concluded : Verdict → Job → Opened → Opening
-concluded (Ok tt) j o = Started o
+concluded (Ok _) j o = Started o
 concluded (Err r) j o = Refused j r
 
 unfoldable pub submission_opening : List ℕ → ℕ → Job → Descriptor → Opening

@@ -1,8 +1,7 @@
 -- 01, "Settle": the error, the fence, the head and the fence page, in this order.
 use Rattle.std.specs.Prelude.{Bool, true, false, not, ◌&&◌, ◌||◌, List, ℕ, ◌+◌, ◌-◌, ◌%◌, ◌^◌, ltb, leb, eqb, length}
 use Rattle.machine.specs.Machine.{pick}
-use Rattle.rules.specs.Numbers.{bad_ring}
-use Rattle.rules.specs.Judging.{refusal, Finding, without_place}
+use Rattle.rules.specs.Judging.{Finding, without_place}
 use Rattle.rules.specs.Judging.Finding.{fine, broken}
 use Rattle.rules.specs.Bytes.{bytes_of}
 use Rattle.rules.specs.Lists.{over}
@@ -14,6 +13,7 @@ use Rattle.rules.specs.State.Work.{resting}
 use Rattle.rules.specs.declared.Registers.{Registers}
 use Rattle.rules.specs.declared.Job.{Job}
 use Rattle.rules.specs.declared.Fault.{Fault}
+use Rattle.rules.specs.declared.Refusal.TheVariants.{BadRing}
 
 -- "count + 1 (stops at 4294967295)"
 abbrev pub one_more : ℕ → ℕ
@@ -87,7 +87,7 @@ settled_keeping j v w = settled j v w.state.belongings w
 
 -- "A bad ring clears the flag, sets the error with fence 0 and settles nothing."
 abbrev pub ring_refused : World → World
-ring_refused w = registering (doorbell_cleared (faulted (without_place (refusal bad_ring)) 0 w.state.regs)) w
+ring_refused w = registering (doorbell_cleared (faulted (without_place BadRing) 0 w.state.regs)) w
 
 -- "Head = tail clears the flag."
 abbrev pub found_no_work : World → World

@@ -1,8 +1,7 @@
 -- 01, "The steps and their price": one unit over the state and the memory lent at that unit; a run; the host's answer.
 use Rattle.std.specs.Prelude.{Bool, true, false, ◌&&◌, List, [], ℕ, ◌+◌, ltb, length}
 use Rattle.machine.specs.Machine.{pick, Out, run_while}
-use Rattle.rules.specs.Numbers.{host_failed}
-use Rattle.rules.specs.Judging.{refusal, Finding, at_place, without_place}
+use Rattle.rules.specs.Judging.{Finding, at_place, without_place}
 use Rattle.rules.specs.Judging.Finding.{fine, broken}
 use Rattle.rules.specs.Layouts.{stream_header_size}
 use Rattle.rules.specs.Table.{take_entry}
@@ -18,6 +17,7 @@ use Rattle.rules.specs.declared.Stream.{Stream}
 use Rattle.rules.specs.declared.Opened.{Opened}
 use Rattle.rules.specs.declared.Opening.{Opening}
 use Rattle.rules.specs.declared.Opening.TheVariants.{BadRing, NoWork, Refused, Started}
+use Rattle.rules.specs.declared.Refusal.TheVariants.{HostFailed}
 
 -- ---- what comes next: "After the last step the submission waits for the host."
 
@@ -112,7 +112,7 @@ answer_on good w resting = w
 answer_on good w (entries o kept) = w
 answer_on good w (packets j s at es h) = w
 answer_on true w (waiting j es h) = settled j fine (left_by h) w
-answer_on false w (waiting j es h) = settled_keeping j (broken (without_place (refusal host_failed))) w
+answer_on false w (waiting j es h) = settled_keeping j (broken (without_place HostFailed)) w
 
 unfoldable pub answered : Bool → World → World
 answered good w = answer_on good w w.state.work

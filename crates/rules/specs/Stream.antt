@@ -1,7 +1,7 @@
 -- 01, "Open" 16, and the framing of "Packet": the command stream.
 use Rattle.std.specs.Prelude.{not, List, [], ◌∷◌, ℕ, zero, suc, ◌+◌, ◌%◌, ltb, eqb, length, take, drop, Result, Ok, Err}
 use Rattle.machine.specs.Machine.{pick}
-use Rattle.rules.specs.Numbers.{bad_stream, bad_packet, stream_magic, create_buffer, create_texture, destroy, dirty_range, copy_buffer, set_target, set_viewport, set_scissor, clear, export_surface, import_surface, release_token, create_buffer_size, create_texture_size, destroy_size, dirty_range_size, copy_buffer_size, set_target_size, set_viewport_size, set_scissor_size, clear_size, export_surface_size, import_surface_size, release_token_size}
+use Rattle.rules.specs.Numbers.{stream_magic, create_buffer, create_texture, destroy, dirty_range, copy_buffer, set_target, set_viewport, set_scissor, clear, export_surface, import_surface, release_token, create_buffer_size, create_texture_size, destroy_size, dirty_range_size, copy_buffer_size, set_target_size, set_viewport_size, set_scissor_size, clear_size, export_surface_size, import_surface_size, release_token_size}
 use Rattle.rules.specs.Judging.{rule, ◌▹◌, Verdict}
 use Rattle.rules.specs.Layouts.{word, stream_header_size, packet_header_size, buffer_fields, texture_fields, destroy_fields, dirty_fields, copy_fields, target_fields, viewport_floats, viewport_fields, scissor_fields, clear_floats, clear_fields, export_fields, import_fields, release_fields}
 use Rattle.rules.specs.Floats.{nan_among}
@@ -13,11 +13,12 @@ use Rattle.rules.specs.declared.Stream.{Stream}
 use Rattle.rules.specs.declared.Refusal.{Refusal}
 use Rattle.rules.specs.declared.Packet.{Packet}
 use Rattle.rules.specs.declared.Packet.TheVariants.{Buffer, Texture, Destroy, Dirty, Copy, Target, Viewport, Scissor, Clear, Export, Import, Release, NotANumber, Unknown}
+use Rattle.rules.specs.declared.Refusal.TheVariants.{BadStream, BadPacket}
 
 -- "16: cmd size below 24; magic; version; stream size below 24 or above cmd size."
 unfoldable pub stream_rules : ℕ → StreamHeader → Verdict
 stream_rules cmdsize h =
-    rule bad_stream (wrong_header stream_magic stream_header_size cmdsize h.magic h.version h.size)
+    rule BadStream (wrong_header stream_magic stream_header_size cmdsize h.magic h.version h.size)
 
 -- the numbers kept of it
 abbrev pub stream_of : ℕ → StreamHeader → Stream
@@ -76,18 +77,18 @@ packet_of op b = says_in (known op) b
 -- Put to the bytes that are left of a stream.
 unfoldable pub frame_rules : List ℕ → Verdict
 frame_rules b =
-    rule bad_packet (ltb (length b) packet_header_size)
-    ▹ rule bad_packet (ltb (word b 4) packet_header_size)
-    ▹ rule bad_packet (not (eqb (word b 4 % 4) 0))
-    ▹ rule bad_packet (ltb (length b) (word b 4))
-    ▹ rule bad_packet (ltb (word b 4) (least_size (word b 0)))
+    rule BadPacket (ltb (length b) packet_header_size)
+    ▹ rule BadPacket (ltb (word b 4) packet_header_size)
+    ▹ rule BadPacket (not (eqb (word b 4 % 4) 0))
+    ▹ rule BadPacket (ltb (length b) (word b 4))
+    ▹ rule BadPacket (ltb (word b 4) (least_size (word b 0)))
 
 -- what the bytes left of a stream begin with: a whole packet, by opcode and size, or the rule that is broken
 abbrev pub Frame : Type 0
 Frame = Result (ℕ × ℕ) Refusal
 
 abbrev pub framed : Verdict → ℕ → ℕ → Frame
-framed (Ok tt) op size = Ok (op, size)
+framed (Ok _) op size = Ok (op, size)
 framed (Err r) op size = Err r
 
 -- the frame of the packet that the bytes left begin with

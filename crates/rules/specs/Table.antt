@@ -1,25 +1,26 @@
 -- 01, "Open" 13 and 19, and "Entry": the allocation table.
 use Rattle.std.specs.Prelude.{Bool, true, false, ◌&&◌, List, [], ◌∷◌, ℕ, zero, suc, ◌+◌, ◌*◌, ltb, leb, eqb, length, Err, Ok}
 use Rattle.machine.specs.Machine.{pick}
-use Rattle.rules.specs.Numbers.{bad_table, bad_entry, twice_in_table, too_many, most, table_magic}
+use Rattle.rules.specs.Numbers.{most, table_magic}
 use Rattle.rules.specs.Lists.{Found, lookup, pushed}
 use Rattle.rules.specs.Lists.Found.{none, found}
-use Rattle.rules.specs.Judging.{refusal, rule, ◌▹◌, Finding, fault_at, without_place, number, place_of, Verdict}
+use Rattle.rules.specs.Judging.{rule, ◌▹◌, Finding, fault_at, without_place, number, place_of, Verdict}
 use Rattle.rules.specs.Judging.Finding.{fine, broken}
 use Rattle.rules.specs.Layouts.{table_header, table_header_size, entry, entry_size}
 use Rattle.rules.specs.Headers.{wrong_header}
 use Rattle.rules.specs.declared.TableHeader.{TableHeader}
 use Rattle.rules.specs.declared.Entry.{Entry}
 use Rattle.rules.specs.declared.Table.{Table}
+use Rattle.rules.specs.declared.Refusal.TheVariants.{BadTable, BadEntry, TwiceInTable, TooMany}
 
 -- "13: table size below 24; magic; version; header size below 24 or above table size; entry stride below 32;
 -- 24 + count*stride above header size. Then 19: count above 64."
 unfoldable pub header_rules : ℕ → TableHeader → Verdict
 header_rules tablesize h =
-    rule bad_table (wrong_header table_magic table_header_size tablesize h.magic h.version h.size)
-    ▹ rule bad_table (ltb h.stride entry_size)
-    ▹ rule bad_table (ltb h.size (table_header_size + h.count * h.stride))
-    ▹ rule too_many (ltb most h.count)
+    rule BadTable (wrong_header table_magic table_header_size tablesize h.magic h.version h.size)
+    ▹ rule BadTable (ltb h.stride entry_size)
+    ▹ rule BadTable (ltb h.size (table_header_size + h.count * h.stride))
+    ▹ rule TooMany (ltb most h.count)
 
 -- the numbers kept of it
 abbrev pub checked_table : ℕ → TableHeader → Table
@@ -49,10 +50,10 @@ entry_place t i = t.gpa + (table_header_size + i * t.stride)
 -- "15: an earlier entry has this id."
 unfoldable pub entry_rules : ℕ → List Entry → Entry → Verdict
 entry_rules memory earlier e =
-    rule bad_entry (eqb e.id 0)
-    ▹ rule bad_entry (eqb e.size 0)
-    ▹ rule bad_entry (ltb memory (e.gpa + e.size))
-    ▹ rule twice_in_table (is_found (matching e.id earlier))
+    rule BadEntry (eqb e.id 0)
+    ▹ rule BadEntry (eqb e.size 0)
+    ▹ rule BadEntry (ltb memory (e.gpa + e.size))
+    ▹ rule TwiceInTable (is_found (matching e.id earlier))
 
 -- ---- one entry, over the memory lent at its step
 
@@ -62,7 +63,7 @@ pub record Taken : Type 0 where
   pub kept : List Entry
 
 abbrev pub keep : Verdict → List Entry → Entry → Taken
-keep (Ok tt) kept e = record { verdict = Ok tt; kept = pushed kept e }
+keep (Ok _) kept e = record { verdict = Ok tt; kept = pushed kept e }
 keep (Err r) kept e = record { verdict = Err r; kept = kept }
 
 -- an entry lies within memory and has room: so does each of a table that was opened
@@ -74,7 +75,7 @@ unfoldable pub take_entry : List ℕ → Table → List Entry → Taken
 take_entry m t kept =
     pick (in_reach m t (length kept))
     (keep (entry_rules (length m) kept (entry m (entry_place t (length kept)))) kept (entry m (entry_place t (length kept))))
-    (record { verdict = Err (refusal bad_entry); kept = kept })
+    (record { verdict = Err BadEntry; kept = kept })
 
 -- ---- the table as a list
 
@@ -92,7 +93,7 @@ pub record Judged : Type 0 where
   pub count : ℕ
 
 abbrev pub stop_or_go : ℕ → Verdict → Judged → Judged
-stop_or_go place (Ok tt) later = record { finding = later.finding; count = suc later.count }
+stop_or_go place (Ok _) later = record { finding = later.finding; count = suc later.count }
 stop_or_go place (Err r) later = record { finding = broken (fault_at place r); count = 1 }
 
 -- "in table order". An entry's place is its index: as many are earlier.
@@ -102,7 +103,7 @@ judge_entries memory earlier (e ∷ es) = stop_or_go (length earlier) (entry_rul
 
 -- the header's rules come first; theirs has no place
 abbrev pub after_header : Verdict → Finding → Finding
-after_header (Ok tt) later = later
+after_header (Ok _) later = later
 after_header (Err r) later = broken (without_place r)
 
 -- "a table's first error ..: takes the lent length as table size and a memory length, and finds 13, 19, 14, 15 as the steps do"

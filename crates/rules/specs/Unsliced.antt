@@ -27,7 +27,7 @@ pub record Reckoned : Type 0 where
   pub count : ℕ
 
 abbrev pub one_further : ℕ → Verdict → Progress → Reckoned → Reckoned
-one_further at (Ok tt) h later = record { finding = later.finding; held = later.held; count = suc later.count }
+one_further at (Ok _) h later = record { finding = later.finding; held = later.held; count = suc later.count }
 one_further at (Err r) h later = record { finding = broken (fault_at at r); held = h; count = 1 }
 
 -- "the packet's byte offset in the stream for packet errors" (02, wish 9)

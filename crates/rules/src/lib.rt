@@ -234,10 +234,30 @@ pub struct Record {
 
 // ---- Judgement
 
-// The rule that was broken, by its number.
-#[derive(Clone, Copy)]
-pub struct Refusal {
-    pub code: u32,
+// The rule that was broken, with its number.
+#[derive(Clone, Copy, Debug, PartialEq, Eq)]
+pub enum Refusal {
+    BadRing = 10,
+    BadDescriptor = 11,
+    OutsideMemory = 12,
+    BadTable = 13,
+    BadEntry = 14,
+    TwiceInTable = 15,
+    BadStream = 16,
+    BadPacket = 17,
+    BadHandle = 18,
+    TooMany = 19,
+    BadShape = 20,
+    NotInTable = 21,
+    PastEntry = 22,
+    ReadOnly = 23,
+    PastResource = 24,
+    HostBacked = 25,
+    BadCopy = 26,
+    HostFailed = 27,
+    BadToken = 28,
+    UnboundToken = 29,
+    BadState = 30,
 }
 
 // A broken rule by its number, and where it broke: the index of an entry, the offset of a packet in the stream, or 0.
@@ -342,10 +362,10 @@ pub enum FileCheck {
 
 // ---- What differs between two dumps (02, wish 8)
 
-// A stream that breaks a rule: the rule's number, and which of the two streams it is, 1 or 2.
+// A stream that breaks a rule, and which of the two it is, 1 or 2.
 #[derive(Clone, Copy, Debug, PartialEq, Eq)]
 pub struct RefusedStream {
-    pub code: u32,
+    pub why: Refusal,
     pub which: u32,
 }
 

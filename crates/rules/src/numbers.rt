@@ -1,48 +1,5 @@
 // The numbers of document 01, and of the wishes of 02, for code. Each has the name that specs/Numbers.antt gives it.
 
-// ---- errors
-pub const BAD_RING: u32 = 10;
-
-pub const BAD_DESCRIPTOR: u32 = 11;
-
-pub const OUTSIDE_MEMORY: u32 = 12;
-
-pub const BAD_TABLE: u32 = 13;
-
-pub const BAD_ENTRY: u32 = 14;
-
-pub const TWICE_IN_TABLE: u32 = 15;
-
-pub const BAD_STREAM: u32 = 16;
-
-pub const BAD_PACKET: u32 = 17;
-
-pub const BAD_HANDLE: u32 = 18;
-
-pub const TOO_MANY: u32 = 19;
-
-pub const BAD_SHAPE: u32 = 20;
-
-pub const NOT_IN_TABLE: u32 = 21;
-
-pub const PAST_ENTRY: u32 = 22;
-
-pub const READ_ONLY: u32 = 23;
-
-pub const PAST_RESOURCE: u32 = 24;
-
-pub const HOST_BACKED: u32 = 25;
-
-pub const BAD_COPY: u32 = 26;
-
-pub const HOST_FAILED: u32 = 27;
-
-pub const BAD_TOKEN: u32 = 28;
-
-pub const UNBOUND_TOKEN: u32 = 29;
-
-pub const BAD_STATE: u32 = 30;
-
 // ---- limits
 pub const MOST_ROWS: usize = 64;
 

@@ -2,7 +2,7 @@
 use Rattle.std.specs.Prelude.{◌≡◌, List, ℕ, ◌≤◌, ◌<◌, length, set}
 use Rattle.std.proofs.Common.{sym, ap, ◌∙◌, rules}
 use Rattle.rules.specs.Numbers.{most}
-use Rattle.rules.specs.Judging.{refusal, fault_at}
+use Rattle.rules.specs.Judging.{fault_at}
 use Rattle.rules.specs.Judging.Finding.{broken}
 use Rattle.rules.specs.Settle.{settled_keeping}
 use Rattle.rules.specs.declared.Fault.{Fault}
@@ -23,7 +23,7 @@ use Rattle.run_after_phase.specs.Views.{laid_on, played_on, LandsEntries, LandsP
 
 -- ---- fault
 
-pub fault-is : (why at x place : ℕ) → (x ≡ at) × (x < 18446744073709551616) → place ≡ small_in x → record { code = why; place = place } ≡ fault_at at (refusal why)
+pub fault-is : (why at x place : ℕ) → (x ≡ at) × (x < 18446744073709551616) → place ≡ small_in x → record { code = why; place = place } ≡ fault_at at why
 fault-is why at x place is cut = rw (cut, is.0)
 
 pub ruleset faulting = (fault-is, rules)
@@ -46,13 +46,13 @@ module _ (s : List ℕ) (p : EntriesPlace) (m : List ℕ) (pre : (tag_in s ≡ 1
   pub lands-done : (s' : List ℕ) → p.ending ≡ 1 → Begins s p.kept s' → LandsEntries s p m s' m
   lands-done s' q b = record { world = λ e r h dt ot c. b.world e r h dt ot c m ∙ ended Done (is_done p.ending p.why q) e r dt; side = b.side }
 
-  pub lands-broken : (s' m' : List ℕ) (x : Fault) → (p.ending ≡ 0 → ⊥) → (p.ending ≡ 1 → ⊥) → x ≡ fault_at p.kept (refusal p.why) → Refuses s m x s' m' → LandsEntries s p m s' m'
+  pub lands-broken : (s' m' : List ℕ) (x : Fault) → (p.ending ≡ 0 → ⊥) → (p.ending ≡ 1 → ⊥) → x ≡ fault_at p.kept p.why → Refuses s m x s' m' → LandsEntries s p m s' m'
   lands-broken s' m' x a b is f =
       record {
         world = λ e r h dt ot c.
             f.world e r h dt ot c
-            ∙ (ap (λ y. settled_keeping (job_in s) (broken y) (bare_in s r dt m)) (is ∙ ap (λ k. fault_at k (refusal p.why)) (sym (length-table entry_of 4 p.kept e)))
-            ∙ ended (Broken (refusal p.why)) (is-broken p.ending p.why a b) e r dt);
+            ∙ (ap (λ y. settled_keeping (job_in s) (broken y) (bare_in s r dt m)) (is ∙ ap (λ k. fault_at k p.why) (sym (length-table entry_of 4 p.kept e)))
+            ∙ ended (Broken p.why) (is-broken p.ending p.why a b) e r dt);
         side = f.side;
       }
 
@@ -66,10 +66,10 @@ module _ (s : List ℕ) (p : PacketsPlace) (m : List ℕ) (pre : (tag_in s ≡ 2
       → played_on (bare_in s r dt m) (job_in s) (stream_in s) (kept_in s e) (playing p (packet_tables e r h c) (held_tokens_in s dt ot)) k ≡ played_on (bare_in s r dt m) (job_in s) (stream_in s) (kept_in s e) (playing p (packet_tables e r h c) (held_tokens_in s dt ot)) (playing p (packet_tables e r h c) (held_tokens_in s dt ot)).ending
   played-to k q e r h dt ot c = ap (played_on (bare_in s r dt m) (job_in s) (stream_in s) (kept_in s e) (playing p (packet_tables e r h c) (held_tokens_in s dt ot))) (sym q)
 
-  pub plays-broken : (s' m' : List ℕ) (x : Fault) → (p.ending ≡ 0 → ⊥) → (p.ending ≡ 1 → ⊥) → x ≡ fault_at p.at (refusal p.why) → Refuses s m x s' m' → LandsPackets s p m s' m'
+  pub plays-broken : (s' m' : List ℕ) (x : Fault) → (p.ending ≡ 0 → ⊥) → (p.ending ≡ 1 → ⊥) → x ≡ fault_at p.at p.why → Refuses s m x s' m' → LandsPackets s p m s' m'
   plays-broken s' m' x a b is f =
       record {
-        world = λ e r h dt ot c. f.world e r h dt ot c ∙ rw is (played-to (Broken (refusal p.why)) (is-broken p.ending p.why a b) e r h dt ot c);
+        world = λ e r h dt ot c. f.world e r h dt ot c ∙ rw is (played-to (Broken p.why) (is-broken p.ending p.why a b) e r h dt ot c);
         side = f.side;
       }
 

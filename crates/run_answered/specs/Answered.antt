@@ -5,13 +5,14 @@ use Rattle.std.proofs.Common.{sym, ◌∙◌, rules}
 use Rattle.std.proofs.Math.Bool.{true, false, and-false}
 use Rattle.machine.specs.Machine.{pick}
 use Rattle.rules.specs.Numbers.{host_failed}
-use Rattle.rules.specs.Judging.{refusal, without_place}
+use Rattle.rules.specs.Judging.{without_place}
 use Rattle.rules.specs.Judging.Finding.{fine, broken}
 use Rattle.rules.specs.Packets.{left_by}
 use Rattle.rules.specs.Steps.{answer_on, answered}
 use Rattle.rules.specs.Settle.{settled, settled_keeping}
 use Rattle.rules.specs.Calls.{ending}
 use Rattle.rules.specs.declared.Ended.TheVariants.{Idle, Waiting, Paused}
+use Rattle.rules.specs.declared.Refusal.TheVariants.{HostFailed}
 use Rattle.run_state.specs.Views.{set_in, tag_in, job_in, held_in, world_in, bare_in, side_in, token_side_in, Sides}
 use Rattle.run_state.specs.Reading.{unset, is_set}
 use Rattle.run_state.specs.Stages.{rests-in, waits_in, works-on, works-in}
@@ -66,7 +67,7 @@ module _ (s e r h dt ot c m : List ℕ) (asked : 3 ≤ tag_in s) where
   unfolding answered settled world_in
   good-answer = ap (answer_on true (world_in s e r h dt ot c m)) (waits_in s e r h dt ot c m asked)
 
-  failed-answer : answered false (world_in s e r h dt ot c m) ≡ settled_keeping (job_in s) (broken (without_place (refusal host_failed))) (bare_in s r dt m)
+  failed-answer : answered false (world_in s e r h dt ot c m) ≡ settled_keeping (job_in s) (broken (without_place HostFailed)) (bare_in s r dt m)
   unfolding answered settled world_in
   failed-answer = ap (answer_on false (world_in s e r h dt ot c m)) (waits_in s e r h dt ot c m asked)
 

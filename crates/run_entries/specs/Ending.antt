@@ -5,7 +5,6 @@ use Rattle.std.proofs.Common.{sym}
 use Rattle.std.proofs.Math.Bool.{true, false}
 use borrow.Author.Tests.{eq-eqb, ne_eqb}
 use Rattle.machine.specs.Machine.{pick, Out, spent, run_while, loop-turn, loop-stop}
-use Rattle.rules.specs.Judging.{refusal}
 use Rattle.rules.specs.declared.Refusal.{Refusal}
 
 pub data Ending : Type 0 where
@@ -27,7 +26,7 @@ ending_at at end = pick (ltb at end) Going Done
 
 -- an ending's number, and the rule's
 unfoldable pub ending_of : ℕ → ℕ → Ending
-ending_of e why = pick (eqb e 0) Going (pick (eqb e 1) Done (Broken (refusal why)))
+ending_of e why = pick (eqb e 0) Going (pick (eqb e 1) Done (Broken why))
 
 module _ (e why : ℕ) where
   pub is-going : e ≡ 0 → ending_of e why ≡ Going
@@ -38,7 +37,7 @@ module _ (e why : ℕ) where
   unfolding ending_of
   is_done h = rw h
 
-  pub is-broken : (e ≡ 0 → ⊥) → (e ≡ 1 → ⊥) → ending_of e why ≡ Broken (refusal why)
+  pub is-broken : (e ≡ 0 → ⊥) → (e ≡ 1 → ⊥) → ending_of e why ≡ Broken why
   unfolding ending_of
   is-broken h k = rw (ne_eqb _ _ h, ne_eqb _ _ k)
 
@@ -49,7 +48,7 @@ module _ (e why : ℕ) where
   unfolding ending_of
   ends h = rw (ne_eqb _ _ h) (by_number (eqb e 1))
     where
-      by_number : (t : Bool) → onward (pick t Done (Broken (refusal why))) ≡ false
+      by_number : (t : Bool) → onward (pick t Done (Broken why)) ≡ false
       by_number true = refl
       by_number false = refl
 

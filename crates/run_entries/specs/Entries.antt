@@ -4,13 +4,14 @@ use Rattle.std.proofs.Math.Path.{refl}
 use Rattle.std.proofs.Common.{sym, ap, arith, rules}
 use borrow.Author.Tests.{lt-ltb, le-ltb, ltb-true}
 use Rattle.machine.specs.Machine.{pick, Out, spent, run_while, loop-start, loop-out}
-use Rattle.rules.specs.Numbers.{most, bad_entry}
-use Rattle.rules.specs.Judging.{refusal, Verdict}
+use Rattle.rules.specs.Numbers.{most}
+use Rattle.rules.specs.Judging.{Verdict}
 use Rattle.rules.specs.Layouts.{entry}
 use Rattle.rules.specs.Table.{Taken, entry_place, entry_rules, keep, in_reach, take_entry}
 use Rattle.rules.specs.declared.Entry.{Entry}
 use Rattle.rules.specs.declared.Table.{Table}
 use Rattle.rules.specs.declared.Refusal.{Refusal}
+use Rattle.rules.specs.declared.Refusal.TheVariants.{BadEntry}
 use Rattle.rule_laws.specs.Fine.{both_left}
 use Rattle.rows.specs.Rows.{length-table}
 use Rattle.kept_entries.specs.Views.{entry_of, entries_of, taken_of}
@@ -27,7 +28,7 @@ abbrev pub reading_goes : Reading → Bool
 reading_goes s = onward s.ending
 
 abbrev pub read_on : ℕ → Verdict → List Entry → Reading
-read_on count (Ok tt) kept = record { kept = kept; ending = ending_at (length kept) count }
+read_on count (Ok _) kept = record { kept = kept; ending = ending_at (length kept) count }
 read_on count (Err r) kept = record { kept = kept; ending = Broken r }
 
 unfoldable pub read_step : List ℕ → Table → Reading → Reading
@@ -60,7 +61,7 @@ unfolding take_entry
 fine-room m t kept h = by-reach (in_reach m t (length kept)) refl h
   where
     by-reach : (b : Bool) → in_reach m t (length kept) ≡ b
-        → (pick b (keep (entry_rules (length m) kept (entry m (entry_place t (length kept)))) kept (entry m (entry_place t (length kept)))) (record { verdict = Err (refusal bad_entry); kept = kept })).verdict ≡ Ok tt
+        → (pick b (keep (entry_rules (length m) kept (entry m (entry_place t (length kept)))) kept (entry m (entry_place t (length kept)))) (record { verdict = Err BadEntry; kept = kept })).verdict ≡ Ok tt
         → length kept < most
     by-reach true e f = ltb-true (length kept) most (both_left (ltb (length kept) most) _ e)
     by-reach false e f = absurd (let z : ◌≡◌ {A = ℕ} 0 1 = cc in omega arith)

@@ -1,7 +1,7 @@
 -- Where an opening comes to, on the device's words; and what its code asks. Assumes nothing.
 use Rattle.std.specs.Prelude.{◌≡◌, List, ℕ, ◌<◌, length, get_or, set}
 use Rattle.std.proofs.Common.{sym, ap, ◌∙◌, rules}
-use Rattle.rules.specs.Judging.{without_place}
+use Rattle.rules.specs.Judging.{without_place, error_number}
 use Rattle.rules.specs.Judging.Finding.{broken}
 use Rattle.rules.specs.Ring.{opening_of}
 use Rattle.rules.specs.State.{World}
@@ -63,7 +63,7 @@ module _ (s m : List ℕ) (none : tag_in s ≡ 0) (size : ℕ) (is : size ≡ sm
         side = spell (λ w. sides_in (set w 12 0)) s long;
       }
 
-  pub opens-refused : (j : Job) (why : Refusal) (s₁ s' m' : List ℕ) → v ≡ Refused j why → StoresJob s j s₁ → Refuses s₁ m (record { code = why.code; place = 0 }) s' m' → Opens s m s' m'
+  pub opens-refused : (j : Job) (why : Refusal) (s₁ s' m' : List ℕ) → v ≡ Refused j why → StoresJob s j s₁ → Refuses s₁ m (record { code = error_number why; place = 0 }) s' m' → Opens s m s' m'
   opens-refused j why s₁ s' m' e k f =
       record {
         world = λ x r h dt ot c.

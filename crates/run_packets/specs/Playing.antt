@@ -41,7 +41,7 @@ abbrev pub playing_goes : Playing → Bool
 playing_goes s = onward s.ending
 
 abbrev pub play_on : ℕ → ℕ → ℕ → Progress → Verdict → Playing
-play_on at next end h (Ok tt) = record { at = next; held = h; ending = ending_at next end }
+play_on at next end h (Ok _) = record { at = next; held = h; ending = ending_at next end }
 play_on at next end h (Err r) = record { at = at; held = h; ending = Broken r }
 
 -- the packet at the place, of the stream's bytes
@@ -133,7 +133,7 @@ module _ (at next end : ℕ) (x : Changed) (t : PacketTables) (ts : List Token) 
   after-plays o listed why held = by-verdict o.verdict listed why
     where
       by-verdict : (v : Verdict) → Listed v → x.why ≡ number_of v → playing (place_after at next end x) t ts ≡ play_on at next end o.held v
-      by-verdict (Ok tt) l w = rw (w, by_end (ltb next end)) (ap (λ (h : Progress). record { at = next; held = h; ending = ending_at next end }) held)
+      by-verdict (Ok _) l w = rw (w, by_end (ltb next end)) (ap (λ (h : Progress). record { at = next; held = h; ending = ending_at next end }) held)
       by-verdict (Err r) l w =
           let some : r.code ≡ 0 → ⊥ = λ z. absurd (let e : ◌≡◌ {A = ℕ} 0 1 = cc in omega arith) in
           rw (w, ne_eqb _ _ some, is-broken 2 r.code (omega arith) (omega arith)) (ap (λ (h : Progress). record { at = at; held = h; ending = Broken r }) held)

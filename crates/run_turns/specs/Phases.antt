@@ -6,8 +6,7 @@ use Rattle.std.proofs.Math.Bool.{true, false}
 use Rattle.std.proofs.Math.Seq.{take-nil}
 use Rattle.std.specs.Int.{w64}
 use Rattle.machine.specs.Machine.{pick}
-use Rattle.rules.specs.Numbers.{bad_entry}
-use Rattle.rules.specs.Judging.{refusal, at_place, Verdict}
+use Rattle.rules.specs.Judging.{at_place, Verdict}
 use Rattle.rules.specs.Layouts.{entry, stream_header_size}
 use Rattle.rules.specs.Table.{entry_place, entry_rules, keep, in_reach, take_entry}
 use Rattle.rules.specs.Stream.{stream_bytes}
@@ -22,6 +21,7 @@ use Rattle.rules.specs.declared.Table.{Table}
 use Rattle.rules.specs.declared.Refusal.{Refusal}
 use Rattle.rules.specs.declared.Stream.{Stream}
 use Rattle.rules.specs.declared.Opened.{Opened}
+use Rattle.rules.specs.declared.Refusal.TheVariants.{BadEntry}
 use Rattle.run_entries.specs.Ending.{Ending, onward}
 use Rattle.run_entries.specs.Ending.Ending.{Going, Done, Broken}
 use Rattle.run_entries.specs.Entries.{Reading, reading_goes, read_on, read_step}
@@ -74,9 +74,9 @@ unfolding take_entry
 refused-not-kept m t kept r = by_tests (in_reach m t (length kept)) (entry_rules (length m) kept (entry m (entry_place t (length kept))))
   where
     by_tests : (b : Bool) (v : Verdict)
-        → (pick b (keep v kept (entry m (entry_place t (length kept)))) (record { verdict = Err (refusal bad_entry); kept = kept })).verdict ≡ Err r
-        → length (pick b (keep v kept (entry m (entry_place t (length kept)))) (record { verdict = Err (refusal bad_entry); kept = kept })).kept ≡ length kept
-    by_tests true (Ok tt) h = absurd (let z : ◌≡◌ {A = ℕ} 0 1 = cc in omega arith)
+        → (pick b (keep v kept (entry m (entry_place t (length kept)))) (record { verdict = Err BadEntry; kept = kept })).verdict ≡ Err r
+        → length (pick b (keep v kept (entry m (entry_place t (length kept)))) (record { verdict = Err BadEntry; kept = kept })).kept ≡ length kept
+    by_tests true (Ok _) h = absurd (let z : ◌≡◌ {A = ℕ} 0 1 = cc in omega arith)
     by_tests true (Err x) h = refl
     by_tests false v h = refl
 
@@ -93,7 +93,7 @@ module _ (w : World) (on : w.state.regs.enabled ≡ true) (o : Opened) where
   read-lays : (k : Work) (n : ℕ) (kept : List Entry) (v : Verdict) → ((r : Refusal) → v ≡ Err r → length kept ≡ n)
       → after_entry (working k w) o kept (at_place n v) ≡ laid w o (read_on o.table.count v kept)
   unfolding settled
-  read-lays k n kept (Ok tt) same = by_test (ltb (length kept) o.table.count)
+  read-lays k n kept (Ok _) same = by_test (ltb (length kept) o.table.count)
     where
       by_test : (b : Bool) → working (pick b (entries o kept) (packets_at o.job o.stream stream_header_size kept (at_first w.state.belongings))) (working k w) ≡ laid_on w o kept (pick b Going Done)
       by_test true = refl
@@ -124,7 +124,7 @@ module _ (w : World) (on : w.state.regs.enabled ≡ true) (j : Job) (t : Stream)
 
   play-lays : (k : Work) (at next : ℕ) (h : Progress) (v : Verdict) → after_packet (working k w) j t next es h (at_place at v) ≡ played w j t es (play_on at next t.size h v)
   unfolding settled
-  play-lays k at next h (Ok tt) = by_test (ltb next t.size)
+  play-lays k at next h (Ok _) = by_test (ltb next t.size)
     where
       by_test : (b : Bool) → working (pick b (packets j t next es h) (waiting j es h)) (working k w)
           ≡ played_on w j t es (record { at = next; held = h; ending = pick b Going Done }) (pick b Going Done)

@@ -1,20 +1,21 @@
 -- What the check of a stream's header gives, and the laws that the check asks for. Assumes nothing.
 use Rattle.std.specs.Prelude.{◌≡◌, refl, ℕ, ◌+◌, ◌≤◌, ◌<◌, Bool, true, false, List, length, Err, Ok, Result}
 use Rattle.std.proofs.Common.{arith, rules, lt-ltb}
-use Rattle.rules.specs.Numbers.{bad_stream, stream_magic}
-use Rattle.rules.specs.Judging.{refusal, Verdict}
+use Rattle.rules.specs.Numbers.{stream_magic}
+use Rattle.rules.specs.Judging.{Verdict}
 use Rattle.rules.specs.Layouts.{word, stream_header, stream_header_size}
 use Rattle.rules.specs.Headers.{wrong_header}
 use Rattle.rules.specs.Stream.{stream_rules, stream_of}
 use Rattle.rules.specs.declared.Refusal.{Refusal}
 use Rattle.rules.specs.declared.Stream.{Stream}
 use Rattle.rules.specs.declared.StreamHeader.{StreamHeader}
+use Rattle.rules.specs.declared.Refusal.TheVariants.{BadStream}
 use Rattle.rule_laws.specs.Fine.{kept_rule}
 use Rattle.headers.specs.Header.{GoodHeader, header-good}
 
 -- the stream where its header is fine, and the broken rule where it is not
 abbrev pub begun : Verdict → Stream → Result Stream Refusal
-begun (Ok tt) s = Ok s
+begun (Ok _) s = Ok s
 begun (Err r) s = Err r
 
 -- ---- header_at
@@ -27,12 +28,12 @@ header_is m at k v s p q r = rw (p, q, r)
 -- ---- header_verdict
 
 module _ (cmdsize : ℕ) (h : StreamHeader) where
-  pub range-short : cmdsize < stream_header_size → Err (refusal bad_stream) ≡ stream_rules cmdsize h
+  pub range-short : cmdsize < stream_header_size → Err BadStream ≡ stream_rules cmdsize h
   unfolding stream_rules wrong_header
   range-short p = rw (lt-ltb cmdsize stream_header_size p)
 
   module _ (wrong : Bool) (front : wrong ≡ wrong_header stream_magic stream_header_size cmdsize h.magic h.version h.size) where
-    pub stream-wrong : wrong ≡ true → Err (refusal bad_stream) ≡ stream_rules cmdsize h
+    pub stream-wrong : wrong ≡ true → Err BadStream ≡ stream_rules cmdsize h
     unfolding stream_rules
     stream-wrong p = rw (← front, p)
 
@@ -43,7 +44,7 @@ module _ (cmdsize : ℕ) (h : StreamHeader) where
 -- ---- check_header
 
 module _ (cmdsize : ℕ) (s : Stream) where
-  pub begins-short : (h : StreamHeader) → cmdsize < stream_header_size → Err (refusal bad_stream) ≡ begun (stream_rules cmdsize h) s
+  pub begins-short : (h : StreamHeader) → cmdsize < stream_header_size → Err BadStream ≡ begun (stream_rules cmdsize h) s
   begins-short h p = rw (← range-short cmdsize h p)
 
 pub begins-good : (cmdsize at gpa : ℕ) (v : Verdict) (h h' : StreamHeader) → h ≡ h' → gpa ≡ at → v ≡ stream_rules cmdsize h → v ≡ Ok tt
@@ -63,10 +64,10 @@ GoodStreamHeader cmdsize h = GoodHeader stream_magic stream_header_size cmdsize 
 
 pub stream-sound : (cmdsize : ℕ) (h : StreamHeader) → stream_rules cmdsize h ≡ Ok tt → GoodStreamHeader cmdsize h
 unfolding stream_rules
-stream-sound cmdsize h e = header-good stream_magic stream_header_size cmdsize h.magic h.version h.size (kept_rule bad_stream _ e)
+stream-sound cmdsize h e = header-good stream_magic stream_header_size cmdsize h.magic h.version h.size (kept_rule BadStream _ e)
 
 begun-good : (v : Verdict) (s s' : Stream) → begun v s ≡ Ok s' → (v ≡ Ok tt) × (s ≡ s')
-begun-good (Ok tt) s s' e = (refl, cc)
+begun-good (Ok _) s s' e = (refl, cc)
 begun-good (Err r) s s' e = let z : ◌≡◌ {A = ℕ} 0 1 = cc in absurd (omega arith)
 
 -- a stream that was begun lies in memory, header and all, where the command range does

@@ -6,9 +6,8 @@ ghost use Rattle.rules.specs.Stream.{stream_rules, stream_of};
 ghost use Rattle.stream_header.specs.Header.{begun};
 
 use headers::wrong_header;
-use rules::numbers::{BAD_STREAM, STREAM_MAGIC};
+use rules::numbers::STREAM_MAGIC;
 use rules::{Refusal, Stream, StreamHeader};
-use widths::usize_to_word;
 use words::u32_at;
 
 const STREAM_HEADER_SIZE: u64 = rules::numbers::STREAM_HEADER_SIZE as u64;
@@ -37,24 +36,24 @@ pub fn header_verdict(cmdsize: u64, h: StreamHeader) -> Result<(), Refusal>
         h.version,
         h.size,
     ) {
-        return Err(Refusal { code: BAD_STREAM });
+        return Err(Refusal::BadStream);
     }
     Ok(())
 }
 
 // Checks the header at the start of the command range. Too short a range is not read.
+#[tactic(auto, using(crate::specs::Header::heading))]
 pub fn check_header(mem: &[u8], at: usize, cmdsize: u64) -> Result<Stream, Refusal>
     requires { at + cmdsize ≤ length mem.now }
     ensures { result ≡ begun (stream_rules cmdsize (stream_header mem.now at)) (stream_of at (stream_header mem.now at)) }
 {
     if cmdsize < STREAM_HEADER_SIZE {
-        return Err(Refusal { code: BAD_STREAM });
+        return Err(Refusal::BadStream);
     }
     let h = header_at(mem, at);
-    let gpa = usize_to_word(at);
-    let size = h.size;
-    match header_verdict(cmdsize, h) {
-        Ok(()) => Ok(Stream { gpa, size }),
-        Err(r) => Err(r),
-    }
+    header_verdict(cmdsize, h)?;
+    Ok(Stream {
+        gpa: at as u64,
+        size: h.size,
+    })
 }

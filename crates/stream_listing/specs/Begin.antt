@@ -17,11 +17,11 @@ use Rattle.rules.specs.Judging.{Verdict}
 module _ (strict : Bool) (s : List ℕ) (n : ℕ) (all_of : n ≡ length s) (x : Result Stream Refusal)
     (is : x ≡ begun (stream_rules n (stream_header s 0)) (stream_of 0 (stream_header s 0))) where
   by-bad : (v : Verdict) (st : Stream) (r : Refusal) → begun v st ≡ Err r → v ≡ Err r
-  by-bad (Ok tt) st r e = absurd (let z : ◌≡◌ {A = ℕ} 0 1 = cc in omega arith)
+  by-bad (Ok _) st r e = absurd (let z : ◌≡◌ {A = ℕ} 0 1 = cc in omega arith)
   by-bad (Err q) st r e = let p : q ≡ r = cc in rw p
 
   by_good : (v : Verdict) (st st' : Stream) → begun v st ≡ Ok st' → (v ≡ Ok tt) × (st ≡ st')
-  by_good (Ok tt) st st' e = (refl, cc)
+  by_good (Ok _) st st' e = (refl, cc)
   by_good (Err r) st st' e = absurd (let z : ◌≡◌ {A = ℕ} 0 1 = cc in omega arith)
 
   pub begins-bad : (r : Refusal) → x ≡ Err r → dump_of strict s ≡ ends (refused r)

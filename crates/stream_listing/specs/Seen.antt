@@ -3,7 +3,6 @@ use Rattle.std.specs.Prelude.{◌≡◌, Bool, true, false, List, ℕ, ◌+◌, 
 use Rattle.std.proofs.Math.Path.{refl}
 use Rattle.std.proofs.Common.{sym, ap, ◌∙◌, add-zero, arith, rules, length-drop, drop-drop}
 use Rattle.machine.specs.Machine.{pick}
-use Rattle.rules.specs.Judging.{refusal}
 use Rattle.rules.specs.Layouts.{word}
 use Rattle.rules.specs.Stream.{frame_of, packet_of, Frame}
 use Rattle.rules.specs.declared.Refusal.{Refusal}
@@ -15,14 +14,14 @@ use Rattle.stream_listing.specs.declared.Seen.TheVariants.{Known, Unknown, Bad}
 
 abbrev pub seen_in : Frame → List ℕ → Seen
 seen_in (Ok (op, size)) b = pick (is_unknown (packet_of op (take size b))) (Unknown op size) (Known op size)
-seen_in (Err r) b = Bad r.code
+seen_in (Err r) b = Bad r
 
 -- what the bytes left of a stream begin with
 unfoldable pub seen : List ℕ → Seen
 seen b = seen_in (frame_of b) b
 
 module _ (m : List ℕ) (at : ℕ) (x : Result (ℕ × Packet) Refusal) (is : x ≡ packet_read_at (drop at m)) where
-  pub seen-bad : (r : Refusal) → x ≡ Err r → Bad r.code ≡ seen (drop at m)
+  pub seen-bad : (r : Refusal) → x ≡ Err r → Bad r ≡ seen (drop at m)
   unfolding seen
   seen-bad r e = rw (was-misframed (drop at m) x is r e)
 
@@ -89,13 +88,13 @@ module _ (b : List ℕ) where
   by-unknown (Ok (o, n)) f op size e = unknown-whole o n (is_unknown (packet_of o (take n b))) f refl op size e
   by-unknown (Err r) f op size e = absurd (let z : ◌≡◌ {A = ℕ} 0 1 = cc in omega arith)
 
-  bad-whole : (o n : ℕ) (u : Bool) (code : ℕ) → by_test u o n ≡ Bad code → ⊥
-  bad-whole o n true code e = let z : ◌≡◌ {A = ℕ} 0 1 = cc in omega arith
-  bad-whole o n false code e = let z : ◌≡◌ {A = ℕ} 0 1 = cc in omega arith
+  bad-whole : (o n : ℕ) (u : Bool) (why : Refusal) → by_test u o n ≡ Bad why → ⊥
+  bad-whole o n true why e = let z : ◌≡◌ {A = ℕ} 0 1 = cc in omega arith
+  bad-whole o n false why e = let z : ◌≡◌ {A = ℕ} 0 1 = cc in omega arith
 
-  by-bad : (f : Frame) → frame_of b ≡ f → (code : ℕ) → seen_in f b ≡ Bad code → frame_of b ≡ Err (refusal code)
-  by-bad (Ok (o, n)) f code e = absurd (bad-whole o n (is_unknown (packet_of o (take n b))) code e)
-  by-bad (Err r) f code e = let p : r.code ≡ code = cc in f ∙ ap (λ c. Err (refusal c)) p
+  by-bad : (f : Frame) → frame_of b ≡ f → (why : Refusal) → seen_in f b ≡ Bad why → frame_of b ≡ Err why
+  by-bad (Ok (o, n)) f why e = absurd (bad-whole o n (is_unknown (packet_of o (take n b))) why e)
+  by-bad (Err r) f why e = let p : r ≡ why = cc in rw p at f
 
   module _ (x : Seen) (is : x ≡ seen b) where
     pub was-known : (op size : ℕ) → x ≡ Known op size → SeenPacket b op size false
@@ -106,6 +105,6 @@ module _ (b : List ℕ) where
     unfolding seen
     was-unknown op size e = by-unknown (frame_of b) refl op size (sym is ∙ e)
 
-    pub was-bad : (code : ℕ) → x ≡ Bad code → frame_of b ≡ Err (refusal code)
+    pub was-bad : (why : Refusal) → x ≡ Bad why → frame_of b ≡ Err why
     unfolding seen
-    was-bad code e = by-bad (frame_of b) refl code (sym is ∙ e)
+    was-bad why e = by-bad (frame_of b) refl why (sym is ∙ e)

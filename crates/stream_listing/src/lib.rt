@@ -6,37 +6,22 @@ ghost use Rattle.std.specs.Prelude.{◌≡◌, drop};
 ghost use Rattle.rules.specs.Dump.{is_unknown};
 ghost use Rattle.stream_listing.specs.Seen.{seen};
 
-use rules::Packet;
+use rules::{Packet, Refusal};
 use stream_packets::framing::packet_at;
 use words::u32_at;
 
-// A packet by its opcode and its size, whose opcode is in the table or is not; or no packet, by the number of the rule that is broken.
+// A packet by its opcode and its size, whose opcode is in the table or is not; or no packet, by the rule that is broken.
 #[derive(Clone, Copy)]
 pub enum Seen {
     Known(u32, u32),
     Unknown(u32, u32),
-    Bad(u32),
+    Bad(Refusal),
 }
 
 fn unknown(packet: Packet) -> bool
     ensures { result ≡ is_unknown packet }
 {
-    match packet {
-        Packet::Buffer(_) => false,
-        Packet::Texture(_) => false,
-        Packet::Destroy(_) => false,
-        Packet::Dirty(_) => false,
-        Packet::Copy(_) => false,
-        Packet::Target(_) => false,
-        Packet::Viewport(_) => false,
-        Packet::Scissor(_) => false,
-        Packet::Clear(_) => false,
-        Packet::Export(_) => false,
-        Packet::Import(_) => false,
-        Packet::Release(_) => false,
-        Packet::NotANumber => false,
-        Packet::Unknown => true,
-    }
+    matches!(packet, Packet::Unknown)
 }
 
 // What is at a place of a stream, whatever the bytes and the place are.
@@ -44,7 +29,7 @@ pub fn seen_at(stream: &[u8], at: usize) -> Seen
     ensures { result ≡ seen (drop at stream.now) }
 {
     match packet_at(stream, at) {
-        Err(r) => Seen::Bad(r.code),
+        Err(why) => Seen::Bad(why),
         Ok((size, packet)) => {
             let op = u32_at(stream, at);
             if unknown(packet) {

@@ -7,24 +7,24 @@ use borrow.Author.Tests.{eq-eqb, ne_eqb, lt-ltb, le-ltb, ltb-false, eqb-true, no
 use Rattle.std.proofs.Math.Dec.{ltb}
 use Rattle.std.proofs.Math.Seq.{drop-drop}
 use Rattle.stream_opcodes.specs.Opcodes.{reading, none-known, known-none, says_nothing, part-short, part_says}
-use Rattle.rules.specs.Numbers.{bad_packet}
 use Rattle.rule_laws.specs.Fine.{all-kept}
-use Rattle.rules.specs.Judging.{refusal, rule, ◌▹◌, Verdict}
+use Rattle.rules.specs.Judging.{rule, ◌▹◌, Verdict}
 use Rattle.rules.specs.Layouts.{word, packet_header_size}
 use Rattle.rules.specs.Lists.Found.{none}
 use Rattle.rules.specs.Stream.{known, least_size, frame_rules, framed, frame_of, packet_of, Frame}
 use Rattle.rules.specs.declared.Refusal.{Refusal}
 use Rattle.rules.specs.declared.Packet.{Packet}
 use Rattle.rules.specs.declared.Packet.TheVariants.{Unknown}
+use Rattle.rules.specs.declared.Refusal.TheVariants.{BadPacket}
 
 -- the frame of a packet whose header is there, from the number of bytes left and what the header says
 unfoldable pub frame_by : ℕ → ℕ → ℕ → Frame
 frame_by left op size =
     framed
-    (rule bad_packet (ltb size packet_header_size)
-    ▹ rule bad_packet (not (eqb (size % 4) 0))
-    ▹ rule bad_packet (ltb left size)
-    ▹ rule bad_packet (ltb size (least_size op)))
+    (rule BadPacket (ltb size packet_header_size)
+    ▹ rule BadPacket (not (eqb (size % 4) 0))
+    ▹ rule BadPacket (ltb left size)
+    ▹ rule BadPacket (ltb size (least_size op)))
     op
     size
 
@@ -53,25 +53,25 @@ pub ruleset judging_size = (past_end, small_size, odd-size, rules)
 -- the frame, by that test and by the opcode's
 module _ (left op size : ℕ) where
   by_tests : (a b c w : Bool) → b || (a || c) ≡ true
-      → framed (rule bad_packet a ▹ rule bad_packet c ▹ rule bad_packet b ▹ rule bad_packet w) op size ≡ Err (refusal bad_packet)
+      → framed (rule BadPacket a ▹ rule BadPacket c ▹ rule BadPacket b ▹ rule BadPacket w) op size ≡ Err BadPacket
   by_tests true b c w h = refl
   by_tests false b true w h = refl
   by_tests false true false w h = refl
   by_tests false false false w h = absurd (let z : ◌≡◌ {A = ℕ} 0 1 = cc in omega arith)
 
-  pub frame-bad : misframed left size ≡ true → frame_by left op size ≡ Err (refusal bad_packet)
+  pub frame-bad : misframed left size ≡ true → frame_by left op size ≡ Err BadPacket
   unfolding misframed frame_by
   frame-bad h = by_tests (ltb size packet_header_size) (ltb left size) (not (eqb (size % 4) 0)) (ltb size (least_size op)) h
 
   by-none : (a b c w : Bool) → b || (a || c) ≡ false
-      → framed (rule bad_packet a ▹ rule bad_packet c ▹ rule bad_packet b ▹ rule bad_packet w) op size ≡ framed (rule bad_packet w) op size
+      → framed (rule BadPacket a ▹ rule BadPacket c ▹ rule BadPacket b ▹ rule BadPacket w) op size ≡ framed (rule BadPacket w) op size
   by-none true true c w h = absurd (let z : ◌≡◌ {A = ℕ} 0 1 = cc in omega arith)
   by-none true false c w h = absurd (let z : ◌≡◌ {A = ℕ} 0 1 = cc in omega arith)
   by-none false true c w h = absurd (let z : ◌≡◌ {A = ℕ} 0 1 = cc in omega arith)
   by-none false false true w h = absurd (let z : ◌≡◌ {A = ℕ} 0 1 = cc in omega arith)
   by-none false false false w h = refl
 
-  pub frame-rest : misframed left size ≡ false → frame_by left op size ≡ framed (rule bad_packet (ltb size (least_size op))) op size
+  pub frame-rest : misframed left size ≡ false → frame_by left op size ≡ framed (rule BadPacket (ltb size (least_size op))) op size
   unfolding misframed frame_by
   frame-rest h = by-none (ltb size packet_header_size) (ltb left size) (not (eqb (size % 4) 0)) (ltb size (least_size op)) h
 
@@ -86,7 +86,7 @@ module _ (left op size : ℕ) where
 -- ---- the frame of a packet whose header is there
 
 module _ (m : List ℕ) (at : ℕ) where
-  few : length m - at < packet_header_size → frame_of (drop at m) ≡ Err (refusal bad_packet)
+  few : length m - at < packet_header_size → frame_of (drop at m) ≡ Err BadPacket
   unfolding frame_of frame_rules
   few h = rw (length-drop, lt-ltb (length m - at) packet_header_size h)
 
@@ -97,7 +97,7 @@ module _ (m : List ℕ) (at : ℕ) where
 -- ---- what a whole packet is known by
 
 framed-fine : (v : Verdict) (o s op size : ℕ) → framed v o s ≡ Ok (op, size) → (v ≡ Ok tt) × ((o ≡ op) × (s ≡ size))
-framed-fine (Ok tt) o s op size e = (refl, (cc, cc))
+framed-fine (Ok _) o s op size e = let same : ◌≡◌ {A = ℕ × ℕ} (o, s) (op, size) = cc in (refl, (ap (λ p. p.0) same, ap (λ p. p.1) same))
 framed-fine (Err r) o s op size e = let z : ◌≡◌ {A = ℕ} 0 1 = cc in absurd (omega arith)
 
 pub record FrameFits (b : List ℕ) (op size : ℕ) : Type 0 where
@@ -115,7 +115,7 @@ unfolding frame_of frame_rules
 frame-sound b op size e =
     let f = framed-fine (frame_rules b) (word b 0) (word b 4) op size e in
     let k =
-    all-kept bad_packet (ltb (length b) packet_header_size) (ltb (word b 4) packet_header_size) (not (eqb (word b 4 % 4) 0)) (ltb (length b) (word b 4))
+    all-kept BadPacket (ltb (length b) packet_header_size) (ltb (word b 4) packet_header_size) (not (eqb (word b 4 % 4) 0)) (ltb (length b) (word b 4))
     (ltb (word b 4) (least_size (word b 0))) f.0 in
     let head : packet_header_size ≤ word b 4 = ltb-false (word b 4) packet_header_size k.1.0 in
     let end : word b 4 ≤ length b = ltb-false (length b) (word b 4) k.1.1.1.0 in
@@ -148,20 +148,20 @@ module _ (m : List ℕ) (at : ℕ) where
   unfolding packet_read_at
   no-packet r h = rw h
 
-  pub short-stream : length m < packet_header_size → Err (refusal bad_packet) ≡ packet_read_at (drop at m)
-  short-stream h = no-packet (refusal bad_packet) (few m at (omega arith))
+  pub short-stream : length m < packet_header_size → Err BadPacket ≡ packet_read_at (drop at m)
+  short-stream h = no-packet BadPacket (few m at (omega arith))
 
   module _ (long : packet_header_size ≤ length m) where
-    pub last-bytes : length m - packet_header_size < at → Err (refusal bad_packet) ≡ packet_read_at (drop at m)
-    last-bytes h = no-packet (refusal bad_packet) (few m at (omega arith))
+    pub last-bytes : length m - packet_header_size < at → Err BadPacket ≡ packet_read_at (drop at m)
+    last-bytes h = no-packet BadPacket (few m at (omega arith))
 
     module _ (here : at ≤ length m - packet_header_size) (op size : ℕ) (po : op ≡ word m at) (ps : size ≡ word m (at + 4)) (bad : Bool)
         (is : bad ≡ misframed (length m - at) size) where
       header : frame_of (drop at m) ≡ frame_by (length m - at) op size
       header = frame-read m at op size (omega arith) po ps
 
-      pub bad-size : bad ≡ true → Err (refusal bad_packet) ≡ packet_read_at (drop at m)
-      bad-size h = no-packet (refusal bad_packet) (header ∙ frame-bad (length m - at) op size (sym is ∙ h))
+      pub bad-size : bad ≡ true → Err BadPacket ≡ packet_read_at (drop at m)
+      bad-size h = no-packet BadPacket (header ∙ frame-bad (length m - at) op size (sym is ∙ h))
 
       module _ (good : bad ≡ false) (room : ℕ) (same : room ≡ size) where
         inside : size ≤ length m - at
@@ -174,13 +174,13 @@ module _ (m : List ℕ) (at : ℕ) where
           long_as : length p ≡ size
           long_as = rw own (length-take-le room (drop at m) (rw length-drop (omega (arith, inside)))) ∙ same
 
-          frame : frame_of (drop at m) ≡ framed (rule bad_packet (ltb size (least_size op))) op size
+          frame : frame_of (drop at m) ≡ framed (rule BadPacket (ltb size (least_size op))) op size
           frame = header ∙ frame-rest (length m - at) op size (sym is ∙ good)
 
-          pub short-packet : x ≡ None → Err (refusal bad_packet) ≡ packet_read_at (drop at m)
+          pub short-packet : x ≡ None → Err BadPacket ≡ packet_read_at (drop at m)
           short-packet h =
               let short : ltb size (least_size op) ≡ true = rw long_as at (part-short op p x says h) in
-              no-packet (refusal bad_packet) (rw short at frame)
+              no-packet BadPacket (rw short at frame)
 
           pub whole-packet : (k : Packet) → x ≡ Some k → Ok (size, k) ≡ packet_read_at (drop at m)
           unfolding packet_read_at
@@ -202,8 +202,9 @@ module _ (b : List ℕ) where
 
   by_whole : (f : Frame) → frame_of b ≡ f → (size : ℕ) (k : Packet) → packet_in f b ≡ Ok (size, k) → WasWhole size k
   by_whole (Ok (op, n)) e size k h =
-      let same : n ≡ size = cc in
-      let is : packet_of op (take n b) ≡ k = cc in
+      let both : ◌≡◌ {A = ℕ × Packet} (n, packet_of op (take n b)) (size, k) = cc in
+      let same : n ≡ size = ap (λ p. p.0) both in
+      let is : packet_of op (take n b) ≡ k = ap (λ p. p.1) both in
       record { opcode = op; frame = rw same at e; says = rw same at (sym is) }
   by_whole (Err r) e size k h = absurd (let z : ◌≡◌ {A = ℕ} 0 1 = cc in omega arith)
 
@@ -283,7 +284,7 @@ module _ (b : List ℕ) (at room : ℕ) where
         let unknown : known op ≡ none = none_of not-that in
         let no-least : 0 ≡ least_size op = known-none op unknown in
         let fits : misframed (length b - at) size ≡ false = rw (le-ltb (length b - at) size (omega arith), le-ltb size packet_header_size (omega arith), eq-eqb (size % 4) 0 fours) in
-        let is : frame_of (drop at b) ≡ framed (rule bad_packet (ltb size (least_size op))) op size = frame-read b at op size (omega arith) po ps ∙ frame-rest (length b - at) op size fits in
+        let is : frame_of (drop at b) ≡ framed (rule BadPacket (ltb size (least_size op))) op size = frame-read b at op size (omega arith) po ps ∙ frame-rest (length b - at) op size fits in
         record {
           whole = λ _. is ∙ rw (← no-least, le-ltb size 0 (omega arith), po, same);
           nothing = λ _. rw (← po) (says_nothing op unknown (take long (drop at b)));

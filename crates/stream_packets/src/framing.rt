@@ -3,7 +3,7 @@
 ghost use Rattle.std.specs.Prelude.{◌≡◌, ◌+◌, ◌-◌, ◌≤◌, ◌<◌, length, take, drop};
 ghost use Rattle.stream_packets.specs.Framing.{misframed, in_blocks, packet_read_at, Passed};
 
-use rules::numbers::{BAD_PACKET, CLEAR, CREATE_BUFFER, EXPORT_SURFACE, SET_TARGET};
+use rules::numbers::{CLEAR, CREATE_BUFFER, EXPORT_SURFACE, SET_TARGET};
 use rules::{Packet, Refusal};
 use stream_opcodes::read_part;
 use widths::u32_to_usize;
@@ -92,19 +92,19 @@ pub fn packet_at(stream: &[u8], at: usize) -> Result<(u32, Packet), Refusal>
 {
     let end = stream.len();
     if end < PACKET_HEADER_SIZE {
-        return Err(Refusal { code: BAD_PACKET });
+        return Err(Refusal::BadPacket);
     }
     if at > end - PACKET_HEADER_SIZE {
-        return Err(Refusal { code: BAD_PACKET }); // the last 1 to 7 bytes
+        return Err(Refusal::BadPacket); // the last 1 to 7 bytes
     }
     let left = end - at;
     let op = u32_at(stream, at);
     let size = u32_at(stream, at + 4);
     if misframed(left, size) {
-        return Err(Refusal { code: BAD_PACKET });
+        return Err(Refusal::BadPacket);
     }
     match read_part(op, packet_part(stream, at, u32_to_usize(size))) {
-        None => Err(Refusal { code: BAD_PACKET }),
+        None => Err(Refusal::BadPacket),
         Some(packet) => Ok((size, packet)),
     }
 }

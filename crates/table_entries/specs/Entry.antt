@@ -5,14 +5,15 @@ use Rattle.std.proofs.Common.{sym, ap, ◌∙◌, mod-eq_of_lt, arith, rules}
 use Rattle.std.proofs.Math.Bool.{true, false}
 use Rattle.std.proofs.Math.Numerals.{towards_suc}
 use borrow.Author.Tests.{lt-ltb, le-ltb, ltb-false, leb-true, eq-eqb, ne_eqb, not-true, not-false}
-use Rattle.rules.specs.Numbers.{bad_entry, twice_in_table, most}
+use Rattle.rules.specs.Numbers.{most}
 use Rattle.rules.specs.Lists.{pushed, index_of}
-use Rattle.rules.specs.Judging.{refusal, rule, ◌▹◌, Verdict}
+use Rattle.rules.specs.Judging.{rule, ◌▹◌, Verdict}
 use Rattle.rules.specs.Layouts.{entry, entry_size, table_header_size}
 use Rattle.rules.specs.Table.{entry_id, matching, is_found, entry_rules, entry_place, take_entry, in_reach}
 use Rattle.rules.specs.declared.Entry.{Entry}
 use Rattle.rules.specs.declared.Refusal.{Refusal}
 use Rattle.rules.specs.declared.Table.{Table}
+use Rattle.rules.specs.declared.Refusal.TheVariants.{BadEntry, TwiceInTable}
 use Rattle.rows.specs.Rows.{length-table, table-push-sets}
 use Rattle.widths.specs.Beyond.{leb-ltb}
 use Rattle.kept_entries.specs.Views.{entry_of, entries_of, taken_of}
@@ -44,14 +45,14 @@ pub ruleset sounding = (sound-no-id, sound-no-size, sound-ends, rules)
 
 -- the rules that look at an entry alone: one is broken, or the next rule decides
 alone : (a b c : Bool) (later : Verdict) → not a && (not b && not c) ≡ false
-    → rule bad_entry a ▹ rule bad_entry b ▹ rule bad_entry c ▹ later ≡ Err (refusal bad_entry)
+    → rule BadEntry a ▹ rule BadEntry b ▹ rule BadEntry c ▹ later ≡ Err BadEntry
 alone true b c later h = refl
 alone false true c later h = refl
 alone false false true later h = refl
 alone false false false later h = let z : ◌≡◌ {A = ℕ} 0 1 = cc in absurd (omega arith)
 
 past_all : (a b c : Bool) (later : Verdict) → not a && (not b && not c) ≡ true
-    → rule bad_entry a ▹ rule bad_entry b ▹ rule bad_entry c ▹ later ≡ later
+    → rule BadEntry a ▹ rule BadEntry b ▹ rule BadEntry c ▹ later ≡ later
 past_all false false false later h = refl
 past_all true b c later h = let z : ◌≡◌ {A = ℕ} 0 1 = cc in absurd (omega arith)
 past_all false true c later h = let z : ◌≡◌ {A = ℕ} 0 1 = cc in absurd (omega arith)
@@ -59,23 +60,23 @@ past_all false false true later h = let z : ◌≡◌ {A = ℕ} 0 1 = cc in absu
 
 -- over any earlier entries: what the sound ones and the others come to
 module _ (memory : ℕ) (earlier : List Entry) (e : Entry) where
-  pub unsound : sound memory e ≡ false → entry_rules memory earlier e ≡ Err (refusal bad_entry)
+  pub unsound : sound memory e ≡ false → entry_rules memory earlier e ≡ Err BadEntry
   unfolding sound entry_rules
   unsound h = alone (eqb e.id 0) (eqb e.size 0) (ltb memory (e.gpa + e.size)) _ (rw (← leb-ltb (e.gpa + e.size) memory) h)
 
-  pub sound-once : sound memory e ≡ true → entry_rules memory earlier e ≡ rule twice_in_table (is_found (matching e.id earlier))
+  pub sound-once : sound memory e ≡ true → entry_rules memory earlier e ≡ rule TwiceInTable (is_found (matching e.id earlier))
   unfolding sound entry_rules
   sound-once h = past_all (eqb e.id 0) (eqb e.size 0) (ltb memory (e.gpa + e.size)) _ (rw (← leb-ltb (e.gpa + e.size) memory) h)
 
 module _ (memory n : ℕ) (l : List ℕ) (e : Entry) (good : Bool) (is : good ≡ sound memory e) where
-  pub judged-unsound : not good ≡ true → Err (refusal bad_entry) ≡ entry_rules memory (entries_of n l) e
+  pub judged-unsound : not good ≡ true → Err BadEntry ≡ entry_rules memory (entries_of n l) e
   judged-unsound h = sym (unsound memory (entries_of n l) e (sym is ∙ not-true good h))
 
   module _ (h : not good ≡ false) (i : ℕ) (place : i ≡ index_of entry_id e.id (entries_of n l)) where
-    once : entry_rules memory (entries_of n l) e ≡ rule twice_in_table (is_found (matching e.id (entries_of n l)))
+    once : entry_rules memory (entries_of n l) e ≡ rule TwiceInTable (is_found (matching e.id (entries_of n l)))
     once = sound-once memory (entries_of n l) e (sym is ∙ not-false good h)
 
-    pub judged-twice : i < n → Err (refusal twice_in_table) ≡ entry_rules memory (entries_of n l) e
+    pub judged-twice : i < n → Err TwiceInTable ≡ entry_rules memory (entries_of n l) e
     judged-twice p = rw (once, entry_found n i e.id l place p)
 
     pub judged-fine : n ≤ i → Ok tt ≡ entry_rules memory (entries_of n l) e
@@ -104,11 +105,11 @@ pub ruleset pushing = (pushes, rules)
 -- ---- take_entry
 
 module _ (m : List ℕ) (t : Table) (n : ℕ) (l : List ℕ) where
-  missed : in_reach m t n ≡ false → taken_of (Err (refusal bad_entry)) n l ≡ take_entry m t (entries_of n l)
+  missed : in_reach m t n ≡ false → taken_of (Err BadEntry) n l ≡ take_entry m t (entries_of n l)
   unfolding take_entry
   missed h = rw (length-table entry_of 4 n l, h)
 
-  pub take-full : most ≤ n → taken_of (Err (refusal bad_entry)) n l ≡ take_entry m t (entries_of n l)
+  pub take-full : most ≤ n → taken_of (Err BadEntry) n l ≡ take_entry m t (entries_of n l)
   take-full h = missed (rw (le-ltb _ _ h))
 
   module _ (h : n < most) (o : ℕ) (offset : (o ≡ table_header_size + n * t.stride) × (o + 2 ^ 32 ≤ 2 ^ 64))
@@ -118,7 +119,7 @@ module _ (m : List ℕ) (t : Table) (n : ℕ) (l : List ℕ) where
         let same : entry_place t n + entry_size ≡ t.gpa + (o + entry_size) = omega arith in
         leb-ltb (entry_place t n + entry_size) (length m) ∙ rw (same, is)
 
-    pub take_past : b ≡ true → taken_of (Err (refusal bad_entry)) n l ≡ take_entry m t (entries_of n l)
+    pub take_past : b ≡ true → taken_of (Err BadEntry) n l ≡ take_entry m t (entries_of n l)
     take_past q = missed (rw (lt-ltb _ _ h, ends, q))
 
     module _ (q : b ≡ false) where
@@ -154,7 +155,7 @@ module _ (n : ℕ) (l : List ℕ) (m : List ℕ) (e : Entry) (v : Verdict) (judg
   unfolding sound
   fine-ends true h = leb-true _ _ (third (not (eqb e.id 0)) (not (eqb e.size 0)) (leb (e.gpa + e.size) (length m)) h)
   fine-ends false h =
-      let broken : entry_rules (length m) (entries_of n l) e ≡ Err (refusal bad_entry) = unsound (length m) (entries_of n l) e h in
+      let broken : entry_rules (length m) (entries_of n l) e ≡ Err BadEntry = unsound (length m) (entries_of n l) e h in
       let z : ◌≡◌ {A = ℕ} 0 1 = cc in absurd (omega arith)
 
   pub fine-kept : length m < 2 ^ 64 → e.gpa + e.size < 18446744073709551616

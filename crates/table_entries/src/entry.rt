@@ -9,7 +9,7 @@ ghost use Rattle.kept_entries.specs.Views.{entries_of, taken_of};
 ghost use Rattle.table_entries.specs.Entry.{sound as sound-entry};
 
 use kept_entries::{Entries, WORDS, entry_at, find_entry};
-use rules::numbers::{BAD_ENTRY, MOST_ROWS, TWICE_IN_TABLE};
+use rules::numbers::MOST_ROWS;
 use rules::{Entry, Refusal, Table};
 use table_header::header::{ENTRY_SIZE, entry_offset};
 use widths::{beyond, u32_to_word};
@@ -33,13 +33,11 @@ pub fn judge_entry(memory: u64, e: Entry, entries: &Entries, kept: usize) -> Res
     ensures { result ≡ entry_rules memory (entries_of kept entries.now) e }
 {
     if !sound(memory, e) {
-        return Err(Refusal { code: BAD_ENTRY });
+        return Err(Refusal::BadEntry);
     }
     let place = find_entry(entries, kept, e.id);
     if place < kept {
-        return Err(Refusal {
-            code: TWICE_IN_TABLE,
-        });
+        return Err(Refusal::TwiceInTable);
     }
     Ok(())
 }
@@ -65,15 +63,14 @@ pub fn take_entry(mem: &[u8], t: Table, entries: &mut Entries, kept: usize) -> R
 {
     let memory = mem.len() as u64;
     if kept >= MOST_ROWS {
-        return Err(Refusal { code: BAD_ENTRY });
+        return Err(Refusal::BadEntry);
     }
     let offset = entry_offset(t.stride, kept as u32);
     if beyond(t.gpa, offset + ENTRY_SIZE, memory) {
-        return Err(Refusal { code: BAD_ENTRY });
+        return Err(Refusal::BadEntry);
     }
     let e = entry_at(mem, (t.gpa + offset) as usize);
-    let verdict = judge_entry(memory, e, entries, kept);
-    match verdict {
+    match judge_entry(memory, e, entries, kept) {
         Ok(()) => {
             push_entry(entries, kept, e);
             Ok(())

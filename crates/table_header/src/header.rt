@@ -6,7 +6,7 @@ ghost use Rattle.rules.specs.Table.{header_rules, checked_table};
 ghost use Rattle.table_header.specs.Header.{headed};
 
 use headers::wrong_header;
-use rules::numbers::{BAD_TABLE, MOST_ROWS, TABLE_HEADER_SIZE, TABLE_MAGIC, TOO_MANY};
+use rules::numbers::{MOST_ROWS, TABLE_HEADER_SIZE, TABLE_MAGIC};
 use rules::{Refusal, Table, TableHeader};
 
 // The bytes of a table's header and of an entry that are named; more may follow them.
@@ -47,36 +47,35 @@ pub fn header_verdict(tablesize: u64, h: TableHeader) -> Result<(), Refusal>
         h.version,
         h.size,
     ) {
-        return Err(Refusal { code: BAD_TABLE });
+        return Err(Refusal::BadTable);
     }
     if (h.stride as u64) < ENTRY_SIZE {
-        return Err(Refusal { code: BAD_TABLE });
+        return Err(Refusal::BadTable);
     }
     let end = entry_offset(h.stride, h.count);
     if (h.size as u64) < end {
-        return Err(Refusal { code: BAD_TABLE });
+        return Err(Refusal::BadTable);
     }
     if (MOST_ROWS as u64) < h.count as u64 {
-        return Err(Refusal { code: TOO_MANY });
+        return Err(Refusal::TooMany);
     }
     Ok(())
 }
 
 // Reads and judges the header of a table that lies within memory. A table too short for one is not read.
+#[tactic(auto, using(crate::specs::Header::checking_header))]
 pub fn check_header(mem: &[u8], at: usize, tablesize: u64) -> Result<Table, Refusal>
     requires { at + tablesize ≤ length mem.now }
     ensures { result ≡ headed (header_rules tablesize (table_header mem.now at)) (checked_table at (table_header mem.now at)) }
 {
     if tablesize < HEADER_SIZE {
-        return Err(Refusal { code: BAD_TABLE });
+        return Err(Refusal::BadTable);
     }
     let h = header_at(mem, at);
-    match header_verdict(tablesize, h) {
-        Ok(()) => Ok(Table {
-            gpa: at as u64,
-            count: h.count,
-            stride: h.stride,
-        }),
-        Err(why) => Err(why),
-    }
+    header_verdict(tablesize, h)?;
+    Ok(Table {
+        gpa: at as u64,
+        count: h.count,
+        stride: h.stride,
+    })
 }

@@ -29,7 +29,7 @@ stepped m t (suc n) kept = stop_or_go (length kept) (take_entry m t kept).verdic
 -- whatever the verdict on an entry, the list goes on with what is kept
 go_on : (memory : ℕ) (kept : List Entry) (e : Entry) (es : List Entry) (v : Verdict)
     → stop_or_go (length kept) v (judge_entries memory (pushed kept e) es) ≡ stop_or_go (length kept) (keep v kept e).verdict (judge_entries memory (keep v kept e).kept es)
-go_on memory kept e es (Ok tt) = refl
+go_on memory kept e es (Ok _) = refl
 go_on memory kept e es (Err r) = refl
 
 -- a step judges what the list judges next, and keeps what the list goes on with
@@ -47,7 +47,7 @@ module _ (m : List ℕ) (t : Table) (n : ℕ) (kept : List Entry) (e : Entry)
     (later : stepped m t n (pushed kept e) ≡ judge_entries (length m) (pushed kept e) (entries_from m t (suc (length kept)) n)) where
   by-verdict : (v : Verdict) → stop_or_go (length kept) (keep v kept e).verdict (stepped m t n (keep v kept e).kept)
       ≡ stop_or_go (length kept) v (judge_entries (length m) (pushed kept e) (entries_from m t (suc (length kept)) n))
-  by-verdict (Ok tt) = rw later
+  by-verdict (Ok _) = rw later
   by-verdict (Err r) = refl
 
 -- steps find the broken rule that the list of the entries has first, and spend its count
@@ -66,7 +66,7 @@ steps-agree m t (suc n) kept reach =
 -- as long as all is fine, what is kept are the table's first entries
 module _ (m : List ℕ) (t : Table) (i : ℕ) (reach : in_reach m t i ≡ true) where
   keeps-one : (kept : List Entry) (e : Entry) (v : Verdict) → (keep v kept e).verdict ≡ Ok tt → (keep v kept e).kept ≡ pushed kept e
-  keeps-one kept e (Ok tt) h = refl
+  keeps-one kept e (Ok _) h = refl
   keeps-one kept e (Err r) h = let z : ◌≡◌ {A = ℕ} 0 1 = cc in absurd (omega arith)
 
   pub steps-keep : (take_entry m t (entries_from m t 0 i)).verdict ≡ Ok tt → (take_entry m t (entries_from m t 0 i)).kept ≡ entries_from m t 0 (i + 1)
@@ -135,7 +135,7 @@ module _ (m : List ℕ) (at tablesize : ℕ) (room : at + tablesize ≤ length m
     judged-same : (v : Verdict) → header_rules tablesize h ≡ v
         → after_header v (judge_entries (length m) [] (entries_of bytes (checked_table 0 h))).finding ≡ after_header v (stepped m (checked_table at h) h.count []).finding
     judged-same (Err r) e = refl
-    judged-same (Ok tt) e =
+    judged-same (Ok _) e =
         rw (
           steps-agree m (checked_table at h) h.count [] (λ k p q. checked-in-reach m at tablesize h e room k (omega arith)),
           entries-same h (fine-sized tablesize h e) 0 h.count (omega arith),

@@ -8,13 +8,14 @@ use Rattle.std.proofs.Math.Nat.{sub-zero}
 use Rattle.std.proofs.lemmas.Bool.{not-true, not-false}
 use Rattle.rules.specs.Numbers.{bad_entry, twice_in_table, most, no_place}
 use Rattle.rules.specs.Lists.{pushed}
-use Rattle.rules.specs.Judging.{Finding, rule, number, place_of, Verdict}
+use Rattle.rules.specs.Judging.{Finding, rule, number, place_of, Verdict, error_number}
 use Rattle.rules.specs.Layouts.{word, entry, entry_size, table_header, table_header_size}
 use Rattle.rules.specs.Table.{entry_id, matching, is_found, entry_rules, entry_place, entries_from, entries_of, stop_or_go, judge_entries, header_rules, checked_table, table_finding}
 use Rattle.rules.specs.declared.Entry.{Entry}
 use Rattle.rules.specs.declared.Refusal.{Refusal}
 use Rattle.rules.specs.declared.Fault.{Fault}
 use Rattle.rules.specs.declared.Table.{Table}
+use Rattle.rules.specs.declared.Refusal.TheVariants.{TwiceInTable}
 use Rattle.rows.specs.Rows.{tab, tab-first, tab-none, tab-snoc}
 use Rattle.rows.specs.Keys.{lookup-here, lookup-later, lookup-nil}
 use Rattle.table_header.specs.Header.{headed, Sized, fine-sized}
@@ -112,7 +113,7 @@ module _ (b : List ℕ) (memory : ℕ) (t : Table) where
     scan-unsound p = rw (here, unsound memory (entries_from b t 0 i) e (sym is ∙ not-true good p), uncut)
 
     module _ (p : not good ≡ false) (j : ℕ) (so_far : Sought e.id i j) where
-      once : entry_rules memory (entries_from b t 0 i) e ≡ rule twice_in_table (is_found (matching e.id (entries_from b t j (i - j))))
+      once : entry_rules memory (entries_from b t 0 i) e ≡ rule TwiceInTable (is_found (matching e.id (entries_from b t j (i - j))))
       once = sound-once memory (entries_from b t 0 i) e (sym is ∙ not-false good p) ∙ rw so_far
 
       pub scan-next : i ≤ j → Scanned (i + 1)
@@ -139,15 +140,15 @@ pub ruleset scanning = (entry-room, id-room, scan-start, scan-end, sought_start,
 
 -- what the end of a header's check says of its rules
 bad-rules : (v : Verdict) (t : Table) (why : Refusal) → headed v t ≡ Err why → v ≡ Err why
-bad-rules (Ok tt) t why e = let z : ◌≡◌ {A = ℕ} 0 1 = cc in absurd (omega arith)
+bad-rules (Ok _) t why e = let z : ◌≡◌ {A = ℕ} 0 1 = cc in absurd (omega arith)
 bad-rules (Err x) t why e = cc
 
 good-rules : (v : Verdict) (t t' : Table) → headed v t ≡ Ok t' → (v ≡ Ok tt) × (t' ≡ t)
-good-rules (Ok tt) t t' e = (refl, cc)
+good-rules (Ok _) t t' e = (refl, cc)
 good-rules (Err x) t t' e = let z : ◌≡◌ {A = ℕ} 0 1 = cc in absurd (omega arith)
 
 module _ (b : List ℕ) (memory : ℕ) (r : Result Table Refusal) (checked : r ≡ headed (header_rules (length b) (table_header b 0)) (checked_table 0 (table_header b 0))) where
-  pub first-in-header : (why : Refusal) → r ≡ Err why → record { code = why.code; place = no_place } ≡ shown (table_finding b memory)
+  pub first-in-header : (why : Refusal) → r ≡ Err why → record { code = error_number why; place = no_place } ≡ shown (table_finding b memory)
   unfolding table_finding
   first-in-header why told =
       let e : header_rules (length b) (table_header b 0) ≡ Err why =

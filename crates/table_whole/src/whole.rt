@@ -5,8 +5,7 @@ ghost use Rattle.rules.specs.Table.{entries_of, judge_entries, table_finding};
 ghost use Rattle.table_whole.specs.Whole.{shown, Within};
 
 use kept_entries::entry_at;
-use rules::numbers::{BAD_ENTRY, TWICE_IN_TABLE};
-use rules::{Fault, Table};
+use rules::{Fault, Refusal, Table};
 use table_entries::entry::sound;
 use table_header::header::{check_header, entry_offset};
 
@@ -23,7 +22,7 @@ fn entries_fault(table: &[u8], memory: u64, t: Table) -> Fault
         let e = entry_at(table, entry_offset(t.stride, i) as usize);
         if !sound(memory, e) {
             break 'scan Fault {
-                code: BAD_ENTRY,
+                code: Refusal::BadEntry as u32,
                 place: i,
             };
         }
@@ -35,7 +34,7 @@ fn entries_fault(table: &[u8], memory: u64, t: Table) -> Fault
             let earlier = words::u32_at(table, entry_offset(t.stride, j) as usize);
             if earlier == e.id {
                 break 'scan Fault {
-                    code: TWICE_IN_TABLE,
+                    code: Refusal::TwiceInTable as u32,
                     place: i,
                 };
             }
@@ -53,7 +52,7 @@ pub fn first_fault(table: &[u8], memory: u64) -> Fault
     match check_header(table, 0, table.len() as u64) {
         Ok(t) => entries_fault(table, memory, t),
         Err(why) => Fault {
-            code: why.code,
+            code: why as u32,
             place: 0,
         },
     }
