@@ -6,6 +6,7 @@ use Rattle.rules.specs.Lists.{lookup, pushed}
 use Rattle.rules.specs.Lists.Found.{none, found}
 use Rattle.rules.specs.Names.{token_of, shareable, without_token}
 use Rattle.rules.specs.Packets.{live, bound, on_import_packet, on_release_packet, apply, Progress, Passed, target_after, tokens_after, pass}
+use Rattle.rules.specs.declared.Refusal.{Refusal}
 use Rattle.rules.specs.declared.Entry.{Entry}
 use Rattle.rules.specs.declared.Resource.{Resource}
 use Rattle.rules.specs.declared.Token.{Token}
@@ -28,7 +29,7 @@ or-true true = refl
 or-true false = refl
 
 module _ (es : List Entry) (h : Progress) where
-  abbrev pub refused_with : ℕ → Passed
+  abbrev pub refused_with : Refusal → Passed
   refused_with n = record { verdict = Err n; held = h }
 
   -- "Only textures with one mip and one layer may be exported, else 20. Export gives 28 for token 0, a token ever bound to another resource or
