@@ -4,6 +4,7 @@
 ghost use Rattle.std.specs.Prelude.{◌≡◌, [], ◌∷◌};
 ghost use Rattle.export_difference.specs.Numbers.{class_number, said_is, said_none, said_refused, Says, checked_said, parting_said, parts_said, class_said, offset_said, next_said, cursor_in, cursor_words, pair_words, SaysStart};
 
+use refusals::number;
 use rules::{Class, Cursor, Pair, RefusedStream};
 use widths::{u32_to_word, usize_to_word, word_to_usize};
 
@@ -63,7 +64,7 @@ pub fn say_checked(said: &mut [u64; 1], x: Result<(), RefusedStream>) -> u32
 {
     match x {
         Ok(()) => say_number(said, 0),
-        Err(e) => say_refused(said, e.why as u32, e.which),
+        Err(e) => say_refused(said, number(e.why), e.which),
     }
 }
 
@@ -82,7 +83,7 @@ pub fn say_parts(said: &mut [u64; 1], x: Result<Option<usize>, RefusedStream>) -
 {
     match x {
         Ok(p) => say_parting(said, p),
-        Err(e) => say_refused(said, e.why as u32, e.which),
+        Err(e) => say_refused(said, number(e.why), e.which),
     }
 }
 
@@ -99,7 +100,7 @@ pub fn say_class(said: &mut [u64; 1], x: Result<Class, RefusedStream>) -> u32
 {
     match x {
         Ok(class) => say_class_number(said, class),
-        Err(e) => say_refused(said, e.why as u32, e.which),
+        Err(e) => say_refused(said, number(e.why), e.which),
     }
 }
 
@@ -119,7 +120,7 @@ pub fn say_next(said: &mut [u64; 1], x: Result<Option<usize>, RefusedStream>) ->
 {
     match x {
         Ok(o) => say_offset(said, o),
-        Err(e) => say_refused(said, e.why as u32, e.which),
+        Err(e) => say_refused(said, number(e.why), e.which),
     }
 }
 
@@ -157,7 +158,7 @@ pub fn say_start(
             put_cursor(cursor, k);
             say_number(said, 0)
         }
-        Err(e) => say_refused(said, e.why as u32, e.which),
+        Err(e) => say_refused(said, number(e.why), e.which),
     }
 }
 
