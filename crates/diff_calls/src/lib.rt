@@ -25,6 +25,7 @@ pub fn check(first: &[u8], second: &[u8]) -> Result<(), RefusedStream>
 }
 
 // The first packet index that is not equal.
+#[tactic(auto, using(crate::specs::Calls::asking_parts))]
 pub fn parts(first: &[u8], second: &[u8]) -> Result<Option<usize>, RefusedStream>
     ensures { result ≡ parts first.now second.now }
 {
@@ -36,14 +37,20 @@ pub fn parts(first: &[u8], second: &[u8]) -> Result<Option<usize>, RefusedStream
 pub fn class_of(first: &[u8], second: &[u8], index: usize) -> Result<Class, RefusedStream>
     ensures { result ≡ class_asked first.now second.now index }
 {
-    check(first, second)?;
-    let a = own_bytes(first);
-    let b = own_bytes(second);
-    let pair = pair_in(a, place_of(a, index), b, place_of(b, index));
-    Ok(pair.class)
+    match check(first, second) {
+        Err(refused) => Err(refused),
+        Ok(()) => {
+            let a = own_bytes(first);
+            let b = own_bytes(second);
+            let pair = pair_in(a, place_of(a, index), b, place_of(b, index));
+            let class = pair.class;
+            Ok(class)
+        }
+    }
 }
 
 // The next differing offset of the packets with an index, from a given one on.
+#[tactic(auto, using(crate::specs::Calls::asking_next))]
 pub fn next_offset(
     first: &[u8],
     second: &[u8],
@@ -59,6 +66,7 @@ pub fn next_offset(
 }
 
 // A cursor at the first packets.
+#[tactic(auto, using(crate::specs::Calls::asking_start))]
 pub fn start(first: &[u8], second: &[u8]) -> Result<Cursor, RefusedStream>
     ensures { result ≡ start first.now second.now }
 {
