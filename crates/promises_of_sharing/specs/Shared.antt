@@ -2,6 +2,7 @@
 -- others, and destroying the last frees the room." Of any sound progress, as a submission of any device made and called has it. Assumes nothing.
 use Rattle.std.specs.Prelude.{◌≡◌, refl, true, List, ℕ, suc, eqb, length, Err, Ok}
 use Rattle.std.proofs.Common.{sym, ap, ◌∙◌, arith, eqb-true}
+use Rattle.rules.specs.Judging.{Verdict}
 use Rattle.rules.specs.Numbers.{no_name}
 use Rattle.rules.specs.Lists.{Found, lookup}
 use Rattle.rules.specs.Lists.Found.{none, found}
@@ -101,7 +102,7 @@ pub record NameOf (token k : ℕ) (ts : List Token) (rs : List Resource) : Type 
   pub here : lookup handle_of k rs ≡ found resource
   pub same : resource.lowest ≡ what.name
 
-fine-not-broken : (r : Refusal) → Err r ≡ Ok tt → ⊥
+fine-not-broken : (r : Refusal) → ◌≡◌ {A = Verdict} (Err r) (Ok tt) → ⊥
 fine-not-broken r e = let z : ◌≡◌ {A = ℕ} 0 1 = cc in omega arith
 
 -- ---- what an accepted destroy and an accepted import come to

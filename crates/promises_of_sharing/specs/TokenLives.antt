@@ -6,6 +6,7 @@ use Rattle.std.proofs.Common.{sym, ◌∙◌, arith, ne_eqb}
 use Rattle.std.proofs.Math.Path.{ap}
 use mathlib.Core.List.{List, [], ◌∷◌, ◌++◌}
 use Rattle.std.proofs.Math.Logic.{inl, inr, ⊎_elim}
+use Rattle.rules.specs.Judging.{Verdict}
 use Rattle.rules.specs.Numbers.{no_name}
 use Rattle.rules.specs.Lists.{Found, lookup}
 use Rattle.rules.specs.Lists.Found.{none, found}
@@ -77,7 +78,7 @@ pub record TokensLive (xs : List Taken) (before after : List Token) : Type 0 whe
 
 -- ---- each packet that is accepted
 
-pub fine-not-broken : (r : Refusal) → Err r ≡ Ok tt → ⊥
+pub fine-not-broken : (r : Refusal) → ◌≡◌ {A = Verdict} (Err r) (Ok tt) → ⊥
 fine-not-broken r e = let z : ◌≡◌ {A = ℕ} 0 1 = cc in omega arith
 
 -- a token that followed its resource to another name was bound before
