@@ -3,7 +3,8 @@ use Rattle.std.specs.Prelude.{◌≡◌, true, [], ◌∷◌, ℕ, ◌+◌, ◌*
 use Rattle.std.proofs.Math.Path.{refl, ap}
 use Rattle.std.proofs.Common.{sym, subst, ◌∙◌}
 use Rattle.machine.specs.Machine.{run_while}
-use Rattle.rules.specs.Numbers.{create_buffer}
+use Rattle.rules.specs.Numbers.{create_buffer, create_buffer_size}
+use Rattle.rule_laws.specs.Frames.{same-packet}
 use Rattle.rules.specs.Bytes.{le, bytes_of}
 use Rattle.rules.specs.Lists.{lookup}
 use Rattle.rules.specs.Judging.Finding.{fine, broken}
@@ -98,7 +99,7 @@ read_alone =
     (λ _. record { header = λ _ _. refl; pending = λ _ _. record { slot = refl; ranges = λ _ _. record { table = λ _. refl; stream = λ _ _. refl } } })
     (unit {s = after_one (asking 1).state (guest 1)} (guest 1) entry_alone refl (λ _. refl)
     (unit {s = after_one (after_one (asking 1).state (guest 1)) (guest 1)} (guest 1) packet_alone refl
-    (λ _. record { header = λ _. refl; packet = λ op size e. let is : create_buffer ≡ op = cc in subst (λ (n : ℕ). Agree (guest 1) packet_alone 208 (least_size n)) is refl })
+    (λ _. record { header = λ _. refl; packet = λ op size e. let is : create_buffer ≡ op = (same-packet create_buffer create_buffer_size op size e).0 in subst (λ (n : ℕ). Agree (guest 1) packet_alone 208 (least_size n)) is refl })
     ends))
 
 -- and so it waits with the same entry, resource and record
