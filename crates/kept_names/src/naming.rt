@@ -16,12 +16,7 @@ pub fn shareable(kind: Kind) -> bool
 {
     match kind {
         Kind::Buffer => false,
-        Kind::Texture(s) => {
-            if s.mips != 1 {
-                return false;
-            }
-            s.layers == 1
-        }
+        Kind::Texture(s) => s.mips == 1 && s.layers == 1,
     }
 }
 
@@ -43,13 +38,11 @@ fn lower_name(resources: &Resources, i: usize, low: u32, best: u32) -> u32
         return best;
     }
     let handle = low32(resources[b]);
-    if best == 0 {
-        return handle;
+    if best == 0 || handle < best {
+        handle
+    } else {
+        best
     }
-    if handle < best {
-        return handle;
-    }
-    best
 }
 
 // The lowest name that is left of the resource whose lowest name was `low`, or 0 where none is.
@@ -58,9 +51,7 @@ pub fn lowest_left(resources: &Resources, live: usize, low: u32) -> u32
     ensures { result ≡ lowest_left low (resources_of live resources.now) }
 {
     let mut best: u32 = 0;
-    let mut i = live;
-    while i > 0 {
-        i -= 1;
+    for i in (0..live).rev() {
         best = lower_name(resources, i, low, best);
     }
     best

@@ -1,5 +1,5 @@
 -- When a submission is not refused with 10, and the word that counts its error. Assumes nothing.
-use Rattle.std.specs.Prelude.{◌≡◌, Bool, true, false, ◌&&◌, ◌⊎◌, ℕ, zero, suc, ◌+◌, ◌-◌, ◌≤◌, ◌<◌, leb, set, replicate}
+use Rattle.std.specs.Prelude.{◌≡◌, Bool, true, false, ◌&&◌, ◌⊎◌, ℕ, zero, suc, ◌+◌, ◌-◌, ◌≤◌, ◌<◌, eqb, leb, set, replicate}
 use Rattle.std.proofs.Math.Path.{refl, ap}
 use Rattle.std.proofs.Common.{sym, subst, ◌∙◌, ⊎_elim, arith, rules}
 use mathlib.Core.List.{List, [], ◌∷◌, ◌++◌}
@@ -38,15 +38,21 @@ module _ (e u n : ℕ) (l : List ℕ) where
       nothing [] h = refl
       nothing (x ∷ xs) h = absurd (omega arith)
 
+  pub error-counted : (e ≡ 0 → ⊥) → 10 ≤ e → e ≤ 30 → eqb n 0 ≡ good_feed (finished e u n l)
+  error-counted p g h = ⊎_elim (λ q. rw (eq-eqb n 0 q) (error-alone p g h q)) (λ q. rw (ne_eqb n 0 q) (error-records p g h q)) (same_or_not n 0)
+
   pub too_long : e ≡ 0 → 64 < n → false ≡ good_feed (finished e u n l)
   unfolding good_feed
   too_long p h = rw (eq-eqb e 0 p, many, lt-leb n 64 h)
+
+  pub too-many : e ≡ 0 → 64 < n → leb n 64 ≡ good_feed (finished e u n l)
+  too-many p h = rw (lt-leb n 64 h) (too_long p h)
 
   pub by-kinds : e ≡ 0 → n ≤ 64 → (k : ℕ) → k ≡ n → (t : Bool) → t ≡ every listed_kind (records_of k l) → t ≡ good_feed (finished e u n l)
   unfolding good_feed
   by-kinds p h k q t r = rw (eq-eqb e 0 p, many, le-leb n 64 h) (r ∙ ap (λ i. every listed_kind (records_of i l)) q)
 
-pub ruleset judging = (error-low, error-high, error-records, error-alone, too_long, by-kinds, rules)
+pub ruleset judging = (error-low, error-high, error-records, error-alone, error-counted, too_long, too-many, by-kinds, rules)
 
 -- ---- the word that counts an error
 

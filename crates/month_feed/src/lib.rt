@@ -1,7 +1,7 @@
 // Feeds a finished submission to the totals of a month (02, wish 13): its error, its units and its records, which are the first rows of a table.
 #![tactic(auto)]
 
-ghost use Rattle.std.specs.Prelude.{◌≡◌, true, ◌≤◌, ◌<◌, max};
+ghost use Rattle.std.specs.Prelude.{◌≡◌, true, ◌≤◌, ◌<◌};
 ghost use Rattle.rules.specs.Numbers.{most, writes};
 ghost use Rattle.kept_resources.specs.Views.{records_of};
 ghost use Rattle.rules.specs.Month.{sum, greatest, every, length_in, listed_kind, good_feed};
@@ -28,13 +28,7 @@ const MOST_RECORDS: u32 = 64;
 fn is_listed(c: Record) -> bool
     ensures { result ≡ listed_kind c }
 {
-    if c.kind < BACKS {
-        return false;
-    }
-    if c.kind > CLIPS {
-        return false;
-    }
-    true
+    matches!(c.kind, BACKS..=CLIPS)
 }
 
 // Whether every record is of a listed kind.
@@ -42,24 +36,14 @@ fn all_listed(records: &Records, count: usize) -> bool
     requires { count ≤ most }
     ensures { result ≡ every listed_kind (records_of count records.now) }
 {
-    let mut i: usize = 0;
-    while i < count {
-        if !is_listed(record_row(records, i)) {
-            return false;
-        }
-        i += 1;
-    }
-    true
+    (0..count).all(|i| is_listed(record_row(records, i)))
 }
 
 // The length of a record of this kind, 0 of any other.
 fn length_of(kind: u32, c: Record) -> u64
     ensures { result ≡ length_in kind c }
 {
-    if c.kind == kind {
-        return c.length;
-    }
-    0
+    if c.kind == kind { c.length } else { 0 }
 }
 
 // The bytes of all records of a kind.
@@ -68,22 +52,14 @@ fn bytes(records: &Records, count: usize, kind: u32) -> Option<u64>
     ensures { result ≡ within (sum (length_in kind) (records_of count records.now)) }
 {
     let mut total: u64 = 0;
-    let mut i: usize = 0;
-    while i < count {
+    for i in 0..count {
         let n = length_of(kind, record_row(records, i));
         if reaches(total, n) {
             return None;
         }
         total += n;
-        i += 1;
     }
     Some(total)
-}
-
-fn larger(a: u64, b: u64) -> u64
-    ensures { result ≡ max a b }
-{
-    if a < b { b } else { a }
 }
 
 // The largest write of one record.
@@ -92,11 +68,8 @@ fn largest(records: &Records, count: usize) -> u64
     ensures { result ≡ greatest (length_in writes) (records_of count records.now) }
 {
     let mut top: u64 = 0;
-    let mut i: usize = 0;
-    while i < count {
-        let n = length_of(WRITES, record_row(records, i));
-        top = larger(top, n);
-        i += 1;
+    for i in 0..count {
+        top = top.max(length_of(WRITES, record_row(records, i)));
     }
     top
 }
@@ -107,22 +80,11 @@ fn largest(records: &Records, count: usize) -> u64
 fn is_good(error: u32, count: u32, records: &Records) -> bool
     ensures { result ≡ good_feed (finished error 0 count records.now) }
 {
-    if error != 0 {
-        if error < FIRST_ERROR {
-            return false;
-        }
-        if error > LAST_ERROR {
-            return false;
-        }
-        if count != 0 {
-            return false;
-        }
-        return true;
+    match error {
+        0 => count <= MOST_RECORDS && all_listed(records, u32_to_usize(count)),
+        FIRST_ERROR..=LAST_ERROR => count == 0,
+        _ => false,
     }
-    if count > MOST_RECORDS {
-        return false;
-    }
-    all_listed(records, u32_to_usize(count))
 }
 
 // The place of the word that counts submissions with this error, or accepted ones.
@@ -131,9 +93,10 @@ fn place(error: u32) -> usize
     ensures { (result ≡ place_of error) × (result < 22) }
 {
     if error == 0 {
-        return 0;
+        0
+    } else {
+        u32_to_usize(error - BEFORE_PLACE)
     }
-    u32_to_usize(error - BEFORE_PLACE)
 }
 
 // The totals of one submission.
@@ -156,7 +119,6 @@ fn single(error: u32, units: u32, read: u64, written: u64, top: u64) -> TotalsWo
 pub fn feed(totals: &mut TotalsWords, error: u32, units: u32, count: u32, records: &Records) -> u32
     ensures { Feeds totals.old (finished error units count records.now) result totals.new }
 {
-    let all = &totals[..];
     if !is_good(error, count, records) {
         return BAD_FEED;
     }

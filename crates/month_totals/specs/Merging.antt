@@ -190,7 +190,13 @@ module _ (a b : List ℕ) (long : length a ≡ 26) (long-b : length b ≡ 26) wh
         let s : get_or (set m 25 (get_or b 25 0)) 25 0 ≡ get_or b 25 0 = get_or-set_same m 25 (get_or b 25 0) 0 (omega arith) in
         leaves (set m 25 (get_or b 25 0)) (take-set-le 25 m 25 (get_or b 25 0) (omega arith) ∙ merge-front) (omega arith)
 
-pub ruleset merging = (merge-refused, merge-may, merge-kept, merge-larger, rules)
+    pub merge-greatest : length m ≡ 26 → (v : ℕ) → v ≡ max (get_or m 25 0) (get_or b 25 0) → Merges a (totals_in b) 0 (set m 25 v)
+    merge-greatest w v e =
+        let l : get_or m 25 0 ≡ get_or a 25 0 = merge-last in
+        let s : get_or (set m 25 v) 25 0 ≡ v = get_or-set_same m 25 v 0 (omega arith) in
+        leaves (set m 25 v) (take-set-le 25 m 25 v (omega arith) ∙ merge-front) (s ∙ (e ∙ ap (λ k. max k (get_or b 25 0)) l))
+
+pub ruleset merging = (merge-refused, merge-may, merge-kept, merge-larger, merge-greatest, rules)
 
 -- ---- one total
 

@@ -41,28 +41,17 @@ pub fn reaches(a: u64, b: u64) -> bool
 pub fn zero(totals: &mut TotalsWords)
     ensures { Zeroes totals.new }
 {
-    let all = &totals[..];
-    let mut i: usize = 0;
-    while i < WORDS {
-        totals[i] = 0;
-        i += 1;
-    }
+    *totals = [0; WORDS];
 }
 
 // Whether every sum of two totals stays below 2^64.
 fn fit(a: &TotalsWords, b: &TotalsWords) -> bool
     ensures { result ≡ below (joined (totals_in a.now) (totals_in b.now)) }
 {
-    let all = &a[..];
-    let other = &b[..];
-    let mut i: usize = 0;
-    while i < SUMS {
-        if reaches(a[i], b[i]) {
-            return false;
-        }
-        i += 1;
-    }
-    true
+    a[..SUMS]
+        .iter()
+        .zip(&b[..SUMS])
+        .all(|(x, y)| !reaches(*x, *y))
 }
 
 // Adds the sums of the second totals, which fit, to those of the first.
@@ -70,12 +59,8 @@ fn add(a: &mut TotalsWords, b: &TotalsWords)
     requires { below (joined (totals_in a.old) (totals_in b.now)) ≡ true }
     ensures { a.new ≡ over 0 (added (take 25 a.old) (take 25 b.now)) a.old }
 {
-    let all = &a[..];
-    let other = &b[..];
-    let mut i: usize = 0;
-    while i < SUMS {
-        a[i] = a[i] + b[i];
-        i += 1;
+    for i in 0..SUMS {
+        a[i] += b[i];
     }
 }
 
@@ -83,16 +68,11 @@ fn add(a: &mut TotalsWords, b: &TotalsWords)
 pub fn merge(a: &mut TotalsWords, b: &TotalsWords) -> u32
     ensures { Merges a.old (totals_in b.now) result a.new }
 {
-    let before = &a[..];
     if !fit(a, b) {
         return TOO_MUCH;
     }
     add(a, b);
-    let all = &a[..];
-    let other = &b[..];
-    if a[LARGEST] < b[LARGEST] {
-        a[LARGEST] = b[LARGEST];
-    }
+    a[LARGEST] = a[LARGEST].max(b[LARGEST]);
     DONE
 }
 
@@ -100,10 +80,5 @@ pub fn merge(a: &mut TotalsWords, b: &TotalsWords) -> u32
 pub fn total(totals: &TotalsWords, i: u32) -> u64
     ensures { result ≡ get_or totals.now i 0 }
 {
-    let all = &totals[..];
-    let at = u32_to_usize(i);
-    if at < WORDS {
-        return totals[at];
-    }
-    0
+    totals.get(u32_to_usize(i)).copied().unwrap_or(0)
 }

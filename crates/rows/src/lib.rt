@@ -12,12 +12,7 @@ pub fn move_row(rows: &mut [u64], width: usize, from: usize, to: usize)
     ensures { rows.new ≡ over (width * to) (row_at width rows.old from) rows.old }
 {
     let source = width * from;
-    let target = width * to;
-    let mut k: usize = 0;
-    while k < width {
-        rows[target + k] = rows[source + k];
-        k += 1;
-    }
+    rows.copy_within(source..source + width, width * to);
 }
 
 // Copies the first `n` words of one list over another's.
@@ -25,11 +20,7 @@ pub fn copy_words(from: &[u64], to: &mut [u64], n: usize)
     requires { (n ≤ length from.now) × (n ≤ length to.old) }
     ensures { to.new ≡ over 0 (take n from.now) to.old }
 {
-    let mut done: usize = 0;
-    while done < n {
-        to[done] = from[done];
-        done += 1;
-    }
+    to[..n].copy_from_slice(&from[..n]);
 }
 
 // Where row `i` of a guest's table stands, by the table's own header size and stride. Nothing wraps, and another word still fits.

@@ -23,9 +23,7 @@ pub fn rename_rows(rows: &mut [u64], width: usize, at: usize, count: usize, old:
     ensures { rows.new ≡ rows_renamed width at old new count rows.old }
 {
     let word = u32_to_word(new);
-    let mut i: usize = 0;
-    while i < count {
+    for i in 0..count {
         rename_word(rows, width * i + at, old, word);
-        i += 1;
     }
 }

@@ -19,10 +19,7 @@ const LAST_WORD: u64 = 4294967295;
 fn below_zero(word: u64) -> u64
     ensures { result ≡ less_than_zero word }
 {
-    if word > LAST_WORD {
-        return 1;
-    }
-    LAST_WORD - word + 1
+    LAST_WORD.saturating_sub(word) + 1
 }
 
 // Writes a word as a signed number.
@@ -41,16 +38,10 @@ fn put_signed(out: &mut [u8], at: usize, word: u64) -> usize
 fn takes(c: u8) -> usize
     ensures { result ≡ Takes-of c }
 {
-    if c == b'%' {
-        return 1;
+    match c {
+        b'%' | b'#' | b'~' => 1,
+        _ => 0,
     }
-    if c == b'#' {
-        return 1;
-    }
-    if c == b'~' {
-        return 1;
-    }
-    0
 }
 
 // Writes what a byte of a pattern says, and gives the place behind it.
@@ -58,27 +49,22 @@ fn put_piece(out: &mut [u8], at: usize, c: u8, v: u64) -> usize
     requires { at + length (piece c v) ≤ length out.old }
     ensures { Puts at (piece c v) out.old result out.new }
 {
-    if c == b'%' {
-        return put_decimal(out, at, v);
+    match c {
+        b'%' => put_decimal(out, at, v),
+        b'#' => put_hex(out, at, 8, v),
+        b'~' => put_signed(out, at, v),
+        _ => {
+            out[at] = c;
+            at + 1
+        }
     }
-    if c == b'#' {
-        return put_hex(out, at, 8, v);
-    }
-    if c == b'~' {
-        return put_signed(out, at, v);
-    }
-    out[at] = c;
-    at + 1
 }
 
 // The number at a place, 0 behind the last.
 fn number_at(numbers: &[u64], i: usize) -> u64
     ensures { result ≡ get_or numbers.now i 0 }
 {
-    if i < numbers.len() {
-        return numbers[i];
-    }
-    0
+    numbers.get(i).copied().unwrap_or(0)
 }
 
 // Writes a pattern with its numbers, and gives the place behind it.
@@ -88,19 +74,9 @@ pub fn fill(out: &mut [u8], at: usize, pattern: &[u8], numbers: &[u64]) -> usize
 {
     let mut end = at;
     let mut next: usize = 0;
-    let mut i: usize = 0;
-    while i < pattern.len() {
-        let c = pattern[i];
-        let taken = takes(c);
-        if taken == 0 {
-            out[end] = c;
-            end += 1;
-            i += 1;
-            continue;
-        }
+    for &c in pattern {
         end = put_piece(out, end, c, number_at(numbers, next));
-        next += taken;
-        i += 1;
+        next += takes(c);
     }
     end
 }

@@ -1,6 +1,6 @@
 -- Numbers as text: laws of their digits, and those that their writers ask for. Assumes nothing.
 use Rattle.std.specs.Prelude.{◌≡◌, refl, Bool, true, false, ltb, length, set}
-use Rattle.std.proofs.Common.{sym, ⊎_elim, pow-suc, rules, lt-ltb, le-ltb, Fits, length-append}
+use Rattle.std.proofs.Common.{sym, subst, ⊎_elim, pow-suc, rules, lt-ltb, le-ltb, Fits, length-append}
 use Rattle.std.proofs.Math.Path.{ap}
 use mathlib.Core.List.{List, [], ◌∷◌, ◌++◌}
 use Prim.Native.Nat.{ℕ, zero, suc, ◌+◌, ◌-◌, ◌/◌, ◌%◌, ◌^◌, ◌≤◌, ◌<◌}
@@ -76,7 +76,62 @@ module _ (n at : ℕ) (b : List ℕ) (room : at + length (decimal n) ≤ length 
           rw (k, e)
           (rw z at (backs-end at (decimal n) b (i - 1) (set m (at + (i - 1)) (digit rest)) (backs-next at (decimal n) b room [] (digit rest) i m v)))
 
-pub ruleset writing_decimal = (decimal-start, decimal-left, decimal-kept, decimal-place, decimal-fits, decimal-first, decimal-whole, rules)
+-- what is left of a number's text while i of its digits are
+unfoldable pub digits_left : ℕ → ℕ → List ℕ
+digits_left zero rest = []
+digits_left (suc i) rest = decimal rest
+
+module _ (n at : ℕ) (b : List ℕ) (room : at + length (decimal n) ≤ length b) where
+  pub digits-start : (i : ℕ) → i ≡ length (decimal n) → Backs at (decimal n) b (digits_left i n) i b
+  unfolding digits_left
+  digits-start zero e = absurd (omega (arith, decimal-some n))
+  digits-start (suc i) e = backs-start at (decimal n) b (suc i) e
+
+  digits-step : (rest i : ℕ) (m : List ℕ) → Backs at (decimal n) b (decimal rest) (suc i) m → rest < 2 ^ 64
+      → Backs at (decimal n) b (digits_left i (rest / 10)) i (set m (at + i) (digit (rest % 10)))
+  unfolding digits_left
+  digits-step rest zero m w g =
+      ⊎_elim
+      (λ h.
+      let same : rest % 10 ≡ rest = omega arith in
+      let v : Backs at (decimal n) b ([] ++ (digit rest ∷ [])) 1 m = rw (decimal_digit rest h) at w in
+      rw same (backs-next at (decimal n) b room [] (digit rest) 1 m v))
+      (λ h. absurd (omega (arith, w.left, decimal-some (rest / 10), ap length (decimal-more rest h g), length-append (decimal (rest / 10)) (digit (rest % 10) ∷ []))))
+      (below_or_not rest 10)
+  digits-step rest (suc i) m w g =
+      ⊎_elim
+      (λ h. absurd (omega (arith, w.left, ap length (decimal_digit rest h))))
+      (λ h.
+      let less : suc (suc i) - 1 ≡ suc i = omega arith in
+      rw less at (backs-next at (decimal n) b room (decimal (rest / 10)) (digit (rest % 10)) (suc (suc i)) m (rw (decimal-more rest h g) at w)))
+      (below_or_not rest 10)
+
+  module _ (rest i : ℕ) (m : List ℕ) (w : Backs at (decimal n) b (digits_left i rest) i m) where
+    pub digits-kept : length m ≡ length b
+    digits-kept = backs-length at (decimal n) b room (digits_left i rest) i m w
+
+    pub digits-end : i ≤ 0 → (count : ℕ) → count ≡ length (decimal n) → Puts at (decimal n) b (at + count) m
+    unfolding digits_left
+    digits-end h count k =
+        let z : i ≡ 0 = omega arith in
+        let v : Backs at (decimal n) b [] 0 m = rw z at w in
+        rw k (backs-end at (decimal n) b 0 m v)
+
+    module _ (some : 0 < i) where
+      pub digits-place : at + (i - 1) < length m
+      digits-place = omega (arith, backs-room at (decimal n) b room (digits_left i rest) i m w)
+
+      pub digits-fit : length b < 2 ^ 64 → Fits w64 (at + (i - 1))
+      digits-fit h = record { fits = omega (arith, digits-place, digits-kept) }
+
+      pub digits-next : rest < 2 ^ 64 → (d : ℕ) → d ≡ digit (rest % 10) → Backs at (decimal n) b (digits_left (i - 1) (rest / 10)) (i - 1) (set m (at + (i - 1)) d)
+      unfolding digits_left
+      digits-next g d e =
+          let s : i ≡ suc (i - 1) = omega arith in
+          let v : Backs at (decimal n) b (digits_left (suc (i - 1)) rest) (suc (i - 1)) m = subst (λ (k : ℕ). Backs at (decimal n) b (digits_left k rest) k m) s w in
+          rw e (digits-step rest (i - 1) m v g)
+
+pub ruleset writing_decimal = (decimal-start, decimal-left, decimal-kept, decimal-place, decimal-fits, decimal-first, decimal-whole, digits-start, digits-kept, digits-end, digits-place, digits-fit, rules)
 
 -- ---- hex_digit, put_hex
 

@@ -19,9 +19,10 @@ fn hex_digit(d: u64) -> u8
     ensures { result ≡ hex-digit-of d }
 {
     if d < 10 {
-        return b'0' + d as u8;
+        b'0' + d as u8
+    } else {
+        b'a' - 10 + d as u8
     }
-    b'a' - 10 + d as u8
 }
 
 // How many digits a number below 10000 has.
@@ -29,35 +30,25 @@ fn few_digits(n: u64) -> usize
     requires { n < 10000 }
     ensures { result ≡ length (decimal n) }
 {
-    if n < 10 {
-        return 1;
+    match n {
+        0..10 => 1,
+        10..100 => 2,
+        100..1000 => 3,
+        _ => 4,
     }
-    if n < 100 {
-        return 2;
-    }
-    if n < 1000 {
-        return 3;
-    }
-    4
 }
 
 // How many digits a number has.
 fn digits(n: u64) -> usize
     ensures { result ≡ length (decimal n) }
 {
-    if n < 10000 {
-        return few_digits(n);
+    match n {
+        0..10_000 => few_digits(n),
+        10_000..100_000_000 => 4 + few_digits(n / 10_000),
+        100_000_000..1_000_000_000_000 => 8 + few_digits(n / 100_000_000),
+        1_000_000_000_000..10_000_000_000_000_000 => 12 + few_digits(n / 1_000_000_000_000),
+        _ => 16 + few_digits(n / 10_000_000_000_000_000),
     }
-    if n < 100000000 {
-        return 4 + few_digits(n / 10000);
-    }
-    if n < 1000000000000 {
-        return 8 + few_digits(n / 100000000);
-    }
-    if n < 10000000000000000 {
-        return 12 + few_digits(n / 1000000000000);
-    }
-    16 + few_digits(n / 10000000000000000)
 }
 
 // Writes the decimal digits of a number, the last one first, and gives the place behind them.
@@ -67,13 +58,10 @@ pub fn put_decimal(out: &mut [u8], at: usize, n: u64) -> usize
 {
     let count = digits(n);
     let mut rest = n;
-    let mut i = count;
-    while rest >= 10 {
-        i -= 1;
+    for i in (0..count).rev() {
         out[at + i] = digit(rest % 10);
         rest /= 10;
     }
-    out[at] = digit(rest);
     at + count
 }
 
@@ -83,9 +71,7 @@ pub fn put_hex(out: &mut [u8], at: usize, count: usize, n: u64) -> usize
     ensures { Puts at (hex count n) out.old result out.new }
 {
     let mut rest = n;
-    let mut i = count;
-    while i > 0 {
-        i -= 1;
+    for i in (0..count).rev() {
         out[at + i] = hex_digit(rest % 16);
         rest /= 16;
     }

@@ -17,9 +17,10 @@ fn bytes_of_mip(s: Shape, pitch: u32, mip: u32) -> u64
 {
     let rows = blocks_of(s.format, side_at(s.height, mip));
     if mip == 0 {
-        return (pitch as u64) * rows;
+        pitch as u64 * rows
+    } else {
+        tight_row(s, mip) * rows
     }
-    tight_row(s, mip) * rows
 }
 
 // The bytes of a layer's mips below `end`: where that mip starts in its layer.
@@ -28,10 +29,8 @@ fn bytes_below(s: Shape, pitch: u32, end: u32) -> u64
     ensures { (result ≡ offset_of s pitch end) × (result ≤ end * most_of_mip) }
 {
     let mut sum: u64 = 0;
-    let mut mip: u32 = 0;
-    while mip < end {
+    for mip in 0..end {
         sum += bytes_of_mip(s, pitch, mip);
-        mip += 1;
     }
     sum
 }
@@ -64,10 +63,7 @@ pub fn packed_size(format: u32, width: u32, height: u32, mips: u32, layers: u32,
 pub fn subresource_start(s: Shape, pitch: u32, index: u32) -> Option<u64>
     ensures { result ≡ start_of s pitch index }
 {
-    if !good_backed(s, pitch) {
-        return None;
-    }
-    if index >= s.layers * s.mips {
+    if !good_backed(s, pitch) || index >= s.layers * s.mips {
         return None;
     }
     let layer = index / s.mips;

@@ -1,24 +1,26 @@
-use Rattle.std.proofs.Common.{arith}
-use Rattle.month_feed.specs.Scanning.{scanning_kinds}
+-- `all_listed` meets its contract: the row of each number below `count` is judged. Assumes nothing.
+use Rattle.std.specs.Prelude.{◌≡◌, List, ℕ, zero, suc, ◌&&◌}
+use Rattle.std.proofs.Common.{refl, ap, ◌∙◌, rules, arith, add-one}
+use Rattle.std.proofs.lemmas.Iterator.{YieldsList-from_range}
+use Rattle.std.proofs.lemmas.Iterator.Search.{all_from_yields_List}
+use Rattle.std.specs.List.{list_all, range_with_len}
+use borrow.Author.Tests.{tests}
+use Rattle.rows.specs.Rows.{row_at, tab, table}
+use Rattle.kept_resources.specs.Views.{record_of}
+use Rattle.rules.specs.Month.{every, listed_kind}
+use Rattle.rules.specs.declared.Record.{Record}
 use Rattle.month_feed.proofs.all_listed.Goals as goal
 
-pub loop-i-init : goal.loop-i-init
-loop-i-init c = search scanning_kinds
+row : List ℕ → ℕ → Record
+row l i = record_of (row_at 5 l i)
 
-pub record_row-requires : goal.record_row-requires
-record_row-requires c = search scanning_kinds
-
-pub is_listed-requires : goal.is_listed-requires
-is_listed-requires c = search scanning_kinds
-
-pub returns-then-not-is_listed : goal.returns-then-not-is_listed
-returns-then-not-is_listed c = search scanning_kinds
-
-pub overflow_add-i : goal.overflow_add-i
-overflow_add-i c = search scanning_kinds
-
-pub loop-i-preserved : goal.loop-i-preserved
-loop-i-preserved c = (omega arith, search scanning_kinds)
+every-row : (l : List ℕ) (i n : ℕ) → list_all (λ k. listed_kind (row l k)) (range_with_len i n) ≡ every listed_kind (tab (row l) i n)
+unfolding every tab
+every-row l i zero = refl
+every-row l i (suc n) = rw add-one (ap (λ t. listed_kind (row l i) && t) (every-row l (suc i) n))
 
 pub returns : goal.returns
-returns c = search scanning_kinds
+unfolding table row
+returns c =
+    let l : List ℕ = c.args.records.now in
+    all_from_yields_List (λ k. listed_kind (row l k)) c.all.new.self _ c.all.result c.all.ensures.ran (YieldsList-from_range 0 c.args.count c.args.count refl (omega arith)) (λ x b q k. search (rules, tests)) ∙ every-row l 0 c.args.count

@@ -1,11 +1,8 @@
-use Rattle.month_totals.specs.Merging.{clearing}
+-- `zero` meets its contract: the words are those of the totals of nothing. Assumes nothing.
+use Rattle.std.proofs.Common.{refl}
+use Rattle.rules.specs.Month.{totals, sum, greatest}
 use Rattle.month_totals.proofs.zero.Goals as goal
 
-pub loop-i-init : goal.loop-i-init
-loop-i-init c = search clearing
-
-pub loop-i-preserved : goal.loop-i-preserved
-loop-i-preserved c = search clearing
-
 pub returns : goal.returns
-returns c = search clearing
+unfolding totals sum greatest
+returns c = record { words = refl }

@@ -2,14 +2,8 @@
 use Rattle.text_filling.specs.Filling.{writing_piece}
 use Rattle.text_filling.proofs.takes.Goals as goal
 
-pub returns-then-c-eq37 : goal.returns-then-c-eq37
-returns-then-c-eq37 c = search writing_piece
+pub returns-in-37 : goal.returns-in-37
+returns-in-37 c = search writing_piece
 
-pub returns-then-c-eq35 : goal.returns-then-c-eq35
-returns-then-c-eq35 c = search writing_piece
-
-pub returns-then-c-eq126 : goal.returns-then-c-eq126
-returns-then-c-eq126 c = search writing_piece
-
-pub returns : goal.returns
-returns c = search writing_piece
+pub returns-in_default : goal.returns-in_default
+returns-in_default c = search writing_piece

@@ -3,10 +3,7 @@ use Rattle.texture_sizes.specs.Layers.{summing}
 use Rattle.texture_sizes.proofs.bytes_below.Goals as goal
 
 pub loop-mip-init : goal.loop-mip-init
-loop-mip-init c = (omega arith, (search summing, omega arith))
+loop-mip-init c = (search summing, omega arith)
 
 pub loop-mip-preserved : goal.loop-mip-preserved
-loop-mip-preserved c = (omega arith, (search summing, omega arith))
-
-pub returns : goal.returns
-returns c = (search summing, omega arith)
+loop-mip-preserved c = (search summing, omega arith)

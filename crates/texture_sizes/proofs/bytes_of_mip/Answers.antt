@@ -12,8 +12,8 @@ overflow_mul-result c = search weighing
 pub returns-then-mip-eq0 : goal.returns-then-mip-eq0
 returns-then-mip-eq0 c = search weighing
 
-pub overflow_mul-result-2 : goal.overflow_mul-result-2
-overflow_mul-result-2 c = search weighing
+pub overflow_mul-result-else-mip-eq0 : goal.overflow_mul-result-else-mip-eq0
+overflow_mul-result-else-mip-eq0 c = search weighing
 
-pub returns : goal.returns
-returns c = search weighing
+pub returns-else-mip-eq0 : goal.returns-else-mip-eq0
+returns-else-mip-eq0 c = search weighing

@@ -1,28 +1,15 @@
--- `subresource_start` goes over whole layers, then over the mips of the last.
--- Assumes nothing.
+-- `subresource_start` meets its contract. Assumes nothing.
 use Rattle.texture_sizes.proofs.Places.{starting}
 use Rattle.texture_sizes.proofs.subresource_start.Goals as goal
-
-pub returns-then-not-good_backed : goal.returns-then-not-good_backed
-returns-then-not-good_backed c = search starting
 
 pub overflow_mul-s : goal.overflow_mul-s
 overflow_mul-s c = search starting
 
-pub returns-then-index-s : goal.returns-then-index-s
-returns-then-index-s c = search starting
-
-pub nonzero_div-layer : goal.nonzero_div-layer
-nonzero_div-layer c = search starting
-
-pub nonzero_rem-mip : goal.nonzero_rem-mip
-nonzero_rem-mip c = search starting
+pub returns-then-not-good_backed : goal.returns-then-not-good_backed
+returns-then-not-good_backed c = search starting
 
 pub bytes_below-requires : goal.bytes_below-requires
 bytes_below-requires c = search starting
-
-pub overflow_cast-layers_before : goal.overflow_cast-layers_before
-overflow_cast-layers_before c = search starting
 
 pub overflow_mul-layers_before : goal.overflow_mul-layers_before
 overflow_mul-layers_before c = search starting

@@ -2,8 +2,5 @@
 use Rattle.kept_names.specs.Naming.{renaming_left}
 use Rattle.kept_names.proofs.naming.rename_left.Goals as goal
 
-pub returns-then-new-low : goal.returns-then-new-low
-returns-then-new-low c = search renaming_left
-
 pub returns-else-new-low : goal.returns-else-new-low
 returns-else-new-low c = search renaming_left
