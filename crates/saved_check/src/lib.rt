@@ -30,13 +30,11 @@ fn check_resources(sofar: FileCheck, file: &[u8], first: u32, count: u32) -> Fil
     let mut check = sofar;
     let mut before: u32 = 0;
     let mut at: u32 = first;
-    let mut i: u32 = 0;
-    while i < count {
+    for _ in 0..count {
         let s = read_resource(file, at);
         check = judge_resource(check, file.len(), at, before, s);
         before = s.handle;
         at += RESOURCE_BYTES;
-        i += 1;
     }
     check
 }

@@ -30,16 +30,7 @@ fn name_at(resources: &Resources, live: usize, file: &[u8], at: usize) -> Resour
     let handle = u32_at(file, at);
     let i = find_resource(resources, live, u32_at(file, at + 4));
     let r = resource_row(resources, i);
-    let kind = r.kind;
-    Resource {
-        handle,
-        kind,
-        bytes: r.bytes,
-        pitch: r.pitch,
-        backing: r.backing,
-        offset: r.offset,
-        lowest: r.lowest,
-    }
+    Resource { handle, ..r }
 }
 
 // Stores so many other names of the first `live` resources, of which the first one's fields stand from a place on, after them.
@@ -49,12 +40,9 @@ pub fn load_names(resources: &mut Resources, live: usize, file: &[u8], start: u3
     ensures { resources_of (live + count) resources.new
         ≡ resources_of live resources.old ++ loaded_names count (resources_of live resources.old) file.now start }
 {
-    let mut at: usize = u32_to_usize(start);
-    let mut i: usize = 0;
-    while i < count {
-        let r = name_at(resources, live, file, at);
+    let first = u32_to_usize(start);
+    for i in 0..count {
+        let r = name_at(resources, live, file, first + NAME_BYTES * i);
         push_resource(resources, live + i, r);
-        at += NAME_BYTES;
-        i += 1;
     }
 }

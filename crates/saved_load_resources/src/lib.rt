@@ -85,11 +85,9 @@ pub fn load_resources(resources: &mut Resources, file: &[u8], start: u32, count:
     ensures { resources_of count resources.new ≡ loaded_resources count file.now start }
 {
     let mut at: u32 = start;
-    let mut i: usize = 0;
-    while i < count {
+    for i in 0..count {
         let r = resource_at(file, at);
         push_resource(resources, i, r);
         at += RESOURCE_BYTES;
-        i += 1;
     }
 }

@@ -32,12 +32,9 @@ pub fn load_tokens(tokens: &mut Tokens, file: &[u8], start: u32, count: usize)
     requires { (count ≤ most_tokens) × (start + token_bytes * count ≤ length file.now) }
     ensures { tokens_of count tokens.new ≡ loaded_tokens count file.now start }
 {
-    let mut at: usize = u32_to_usize(start);
-    let mut i: usize = 0;
-    while i < count {
-        let t = token_at(file, at);
+    let first = u32_to_usize(start);
+    for i in 0..count {
+        let t = token_at(file, first + TOKEN_BYTES * i);
         push_token(tokens, i, t);
-        at += TOKEN_BYTES;
-        i += 1;
     }
 }

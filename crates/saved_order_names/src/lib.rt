@@ -27,14 +27,7 @@ fn has_other_name(resources: &Resources, live: usize) -> bool
     requires { live ≤ most }
     ensures { result ≡ other_name_among (resources_of live resources.now) }
 {
-    let mut i: usize = 0;
-    while i < live {
-        if is_other(resources, i) {
-            return true;
-        }
-        i += 1;
-    }
-    false
+    (0..live).any(|i| is_other(resources, i))
 }
 
 // Whether row i is another name, where others are asked for, or a lowest name, where these are.
@@ -57,12 +50,8 @@ pub fn keep_rows(
     requires { Rows most order.now count }
     ensures { Keeps others resources.now order.now count kept.new result }
 {
-    let all = &kept[..];
     let mut found: usize = 0;
-    let mut i: usize = 0;
-    while i < count {
-        let row = order[i];
-        i += 1;
+    for &row in &order[..count] {
         if is_asked(resources, row, others) {
             kept[found] = row;
             found += 1;

@@ -68,12 +68,10 @@ fn judge_tokens(file: &[u8], count: u32, first: u32, n: u32) -> FileCheck
     let mut check = FileCheck::Good;
     let mut before: u64 = 0;
     let mut at: u32 = first;
-    let mut i: u32 = 0;
-    while i < n {
+    for _ in 0..n {
         check = judge_token(check, file, count, at, before);
         before = long_at(file, at);
         at += TOKEN_BYTES;
-        i += 1;
     }
     check
 }

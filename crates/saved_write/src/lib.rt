@@ -17,11 +17,9 @@ pub fn put_fields(buffer: &mut [u8], at: usize, fields: &[u32])
     requires { at + 4 * length fields.now ≤ length buffer.old }
     ensures { buffer.new ≡ over at (file_of fields.now) buffer.old }
 {
-    let mut i: usize = 0;
-    while i < fields.len() {
+    for (i, field) in fields.iter().enumerate() {
         let start = at + FIELD * i;
         let end = start + FIELD;
-        put_u32(&mut buffer[start..end], fields[i]);
-        i += 1;
+        put_u32(&mut buffer[start..end], *field);
     }
 }

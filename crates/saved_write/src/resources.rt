@@ -74,11 +74,9 @@ pub fn put_resources(
     requires { Rows most order.now count × (at + resource_bytes * count ≤ length buffer.old) }
     ensures { buffer.new ≡ over at (file_of (all_fields resource_fields (resources_listed count resources.now order.now))) buffer.old }
 {
-    let mut i: usize = 0;
-    while i < count {
+    for i in 0..count {
         let start = at + RESOURCE_BYTES * i;
         let r = resource_row(resources, order[i]);
         put_resource(buffer, start, r);
-        i += 1;
     }
 }

@@ -29,12 +29,10 @@ fn put_names(buffer: &mut [u8], at: usize, resources: &Resources, order: &Order,
     requires { Rows most order.now count × (at + name_bytes * count ≤ length buffer.old) }
     ensures { buffer.new ≡ over at (file_of (all_fields name_fields (resources_listed count resources.now order.now))) buffer.old }
 {
-    let mut i: usize = 0;
-    while i < count {
+    for i in 0..count {
         let start = at + NAME_BYTES * i;
         let r = resource_row(resources, order[i]);
         put_name(buffer, start, r);
-        i += 1;
     }
 }
 

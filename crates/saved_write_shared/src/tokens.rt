@@ -31,12 +31,10 @@ fn put_tokens(buffer: &mut [u8], at: usize, tokens: &Tokens, order: &TokenOrder,
     requires { Rows most_tokens order.now count × (at + token_bytes * count ≤ length buffer.old) }
     ensures { buffer.new ≡ over at (file_of (all_fields token_fields (tokens_listed count tokens.now order.now))) buffer.old }
 {
-    let mut i: usize = 0;
-    while i < count {
+    for i in 0..count {
         let start = at + TOKEN_BYTES * i;
         let t = token_row(tokens, order[i]);
         put_token(buffer, start, t);
-        i += 1;
     }
 }
 

@@ -2,14 +2,8 @@
 use Rattle.saved_check.specs.Whole.{judging_later}
 use Rattle.saved_check.proofs.check_later.Goals as goal
 
-pub check_shared-requires : goal.check_shared-requires
-check_shared-requires c = search judging_later
-
 pub returns-in-One : goal.returns-in-One
 returns-in-One c = search judging_later
 
 pub returns-in-BadAt : goal.returns-in-BadAt
 returns-in-BadAt c = search judging_later
-
-pub returns-in-Good : goal.returns-in-Good
-returns-in-Good c = search judging_later

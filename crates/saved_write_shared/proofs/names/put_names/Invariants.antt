@@ -1,5 +1,4 @@
--- `put_names` meets its contract. The invariant: the first i names are written. The measure is those that are left. Assumes nothing.
-use Rattle.std.proofs.Common.{◌≤◌, ◌-◌}
+-- `put_names` meets its contract. The invariant: the first i names are written. Assumes nothing.
 use Rattle.kept_resources.specs.Views.{resource_of_row}
 use Rattle.rules.specs.Saved.{name_bytes}
 use Rattle.saved_write.specs.Items.{WritesTo}
@@ -7,7 +6,4 @@ use Rattle.saved_write_shared.specs.Shared.{name_fields}
 use Rattle.saved_write_shared.proofs.names.put_names.Given as goal
 
 abbrev pub invariant-loop-i : goal.invariant-loop-i
-invariant-loop-i l = (l.i ≤ l.count) × WritesTo name_fields resource_of_row 12 name_bytes l.at l.resources l.order l.initial.buffer l.i l.buffer
-
-abbrev pub decreases-loop-i : goal.decreases-loop-i
-decreases-loop-i l = l.count - l.i
+invariant-loop-i l = WritesTo name_fields resource_of_row 12 name_bytes l.at l.resources l.order l.initial.buffer l.i l.buffer

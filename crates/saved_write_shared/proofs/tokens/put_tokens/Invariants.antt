@@ -1,5 +1,4 @@
--- `put_tokens` meets its contract. The invariant: the first i tokens are written. The measure is those that are left. Assumes nothing.
-use Rattle.std.proofs.Common.{◌≤◌, ◌-◌}
+-- `put_tokens` meets its contract. The invariant: the first i tokens are written. Assumes nothing.
 use Rattle.kept_tokens.specs.Views.{token_of_row}
 use Rattle.rules.specs.Saved.{token_bytes}
 use Rattle.saved_write.specs.Items.{WritesTo}
@@ -7,7 +6,4 @@ use Rattle.saved_write_shared.specs.Shared.{token_fields}
 use Rattle.saved_write_shared.proofs.tokens.put_tokens.Given as goal
 
 abbrev pub invariant-loop-i : goal.invariant-loop-i
-invariant-loop-i l = (l.i ≤ l.count) × WritesTo token_fields token_of_row 2 token_bytes l.at l.tokens l.order l.initial.buffer l.i l.buffer
-
-abbrev pub decreases-loop-i : goal.decreases-loop-i
-decreases-loop-i l = l.count - l.i
+invariant-loop-i l = WritesTo token_fields token_of_row 2 token_bytes l.at l.tokens l.order l.initial.buffer l.i l.buffer
