@@ -2,6 +2,9 @@
 // over both: a cursor goes from packet to packet.
 #![tactic(auto)]
 
+ghost use Rattle.std.specs.Prelude.{◌≡◌, ◌+◌, ◌≤◌, ◌++◌, length, IfSome, Some, codes};
+ghost use Rattle.std.specs.Fmt.{decimal};
+
 use diff_calls::{next_at, onward, pair_at, parts};
 use program_lines::read_front;
 use rules::{Class, Cursor, Offset, Parting, PartsAnswer, StartAnswer};
@@ -23,6 +26,8 @@ struct Refused {
 }
 
 impl fmt::Display for Refused {
+    ghost output = { λ r. Some (codes "refused=" ++ decimal r.code ++ codes " stream=" ++ decimal r.stream) };
+
     fn fmt<W: fmt::Write>(&self, f: &mut fmt::Formatter<W>) -> fmt::Result {
         write!(f, "refused={} stream={}", self.code, self.stream)
     }
@@ -106,7 +111,11 @@ fn report(rt: &impl Print, first: &[u8], second: &[u8]) -> io::Result<()> {
 // ---- the input
 
 // The two streams of an input; none where it ends too early, or where one of them is too long.
-fn streams(input: &[u8]) -> Option<(&[u8], &[u8])> {
+fn streams(input: &[u8]) -> Option<(&[u8], &[u8])>
+    ensures whole { IfSome result (λ both. length both.0.now + length both.1.now + 4 ≡ length input.now) }
+    ensures first { IfSome result (λ both. length both.0.now ≤ LONGEST) }
+    ensures second { IfSome result (λ both. length both.1.now ≤ LONGEST) }
+{
     let (length, rest) = input.split_first_chunk::<4>()?;
     let (first, second) = rest.split_at_checked(u32::from_le_bytes(*length) as usize)?;
     if first.len() > LONGEST || second.len() > LONGEST {

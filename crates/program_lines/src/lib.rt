@@ -2,7 +2,8 @@
 
 #![tactic(auto)]
 
-ghost use Rattle.std.specs.Prelude.{IfOk, IfSome, take};
+ghost use Rattle.std.specs.Prelude.{IfOk, IfSome, Some, take, [], ◌++◌, ◌==◌, if◌then◌else◌, codes};
+ghost use Rattle.std.specs.Fmt.{decimal};
 ghost use Rattle.std.specs.Io.{StartsWith};
 
 use std::alloc::Global;
@@ -17,6 +18,8 @@ pub struct Count<'a> {
 }
 
 impl fmt::Display for Count<'_> {
+    ghost output = { λ c. Some (decimal c.count ++ codes " " ++ c.noun.now ++ (if c.count == 1 then [] else codes "s")) };
+
     fn fmt<W: fmt::Write>(&self, f: &mut fmt::Formatter<W>) -> fmt::Result {
         let plural = if self.count == 1 { "" } else { "s" };
         write!(f, "{} {}{plural}", self.count, self.noun)

@@ -1,6 +1,7 @@
 // The desk script, version 2: its head, its limits, its operations with their fields, and why playing one may end.
-ghost use Rattle.std.specs.Prelude.{◌≡◌, ◌+◌, ◌++◌, ◌≤◌, length, OnOk, OnErr, IfOk};
+ghost use Rattle.std.specs.Prelude.{◌≡◌, ◌+◌, ◌++◌, ◌<◌, ◌≤◌, length, OnOk, OnErr, IfOk, Some};
 ghost use Rattle.std.specs.Iterator.{at_most};
+ghost use Rattle.program_replay.specs.ScriptError.{last_line};
 
 use rules::Form;
 use std::fmt;
@@ -73,6 +74,8 @@ pub enum ScriptError {
 }
 
 impl fmt::Display for ScriptError {
+    ghost output = { λ e. Some (last_line e) };
+
     fn fmt<W: fmt::Write>(&self, f: &mut fmt::Formatter<W>) -> fmt::Result {
         match self {
             ScriptError::Truncated => write!(f, "truncated"),
@@ -84,16 +87,20 @@ impl fmt::Display for ScriptError {
 
 // ---- fields
 
-// A length that a script gives, if it is not too long.
-fn judged(length: u32) -> Result<usize, ScriptError> {
-    if length > LONGEST_MEMORY {
+// A length of memory that a script gives, if it is not too long.
+fn judged(n: u32) -> Result<usize, ScriptError>
+    ensures ok { OnOk result (n ≤ LONGEST_MEMORY) }
+    ensures value { IfOk result (λ size. size ≡ n) }
+    ensures err { OnErr result (LONGEST_MEMORY < n) }
+{
+    if n > LONGEST_MEMORY {
         return Err(ScriptError::BadScript);
     }
-    Ok(length as usize)
+    Ok(n as usize)
 }
 
-// What is left of a script. It gives its operations in order, and reads their fields; after one that cannot be read it gives what comes by
-// itself, so whoever plays it stops there.
+// What is left of a script. As an iterator it gives the operations in order. One that cannot be read ends the play: what stands behind it
+// would be read as if it began there.
 #[derive(Clone, Copy)]
 pub struct Script<'a> {
     rest: &'a [u8],
@@ -102,7 +109,9 @@ pub struct Script<'a> {
 impl<'a> Script<'a> {
     // What stands behind the head of a script, and how long the memory is that its device is made for. Magic and memory length are read before
     // the magic is judged, and the whole head before the length is: its last word says which wishes the writer knew, and nobody asks for it.
-    pub fn open(bytes: &'a [u8]) -> Result<(Script<'a>, usize), ScriptError> {
+    pub fn open(bytes: &'a [u8]) -> Result<(Script<'a>, usize), ScriptError>
+        ensures { IfOk result (λ opened. opened.1 ≤ LONGEST_MEMORY) }
+    {
         if bytes.len() > LONGEST_SCRIPT {
             return Err(ScriptError::BadScript);
         }
@@ -129,7 +138,8 @@ impl<'a> Script<'a> {
 
     // The next bytes of a number.
     fn chunk<const N: usize>(&mut self) -> Result<[u8; N], ScriptError>
-        ensures ok { OnOk result (length self.new.rest.now + N ≡ length self.old.rest.now) }
+        ensures ok { IfOk result (λ bytes. bytes ++ self.new.rest.now ≡ self.old.rest.now) }
+        ensures left { OnOk result (length self.new.rest.now + N ≡ length self.old.rest.now) }
         ensures err { OnErr result (self.new.rest.now ≡ self.old.rest.now) }
     {
         let (bytes, rest) = self
@@ -214,8 +224,8 @@ impl<'a> Script<'a> {
         Ok(Operation::Move { file, length })
     }
 
-    // The operations that are lent memory of their own.
-    fn elsewhere(&mut self, tag: u8) -> Result<Operation<'a>, ScriptError>
+    // The operation of a tag from 8 on: one that is lent memory of its own, or is about a saved desk.
+    fn later_operation(&mut self, tag: u8) -> Result<Operation<'a>, ScriptError>
         ensures { length self.new.rest.now ≤ length self.old.rest.now }
     {
         match tag {
@@ -270,7 +280,7 @@ impl<'a> Script<'a> {
                 Ok(Operation::Answer { is_good, allowance })
             }
             7 => Ok(Operation::State),
-            _ => self.elsewhere(tag),
+            _ => self.later_operation(tag),
         }
     }
 }
