@@ -2,157 +2,138 @@
 // over both: a cursor goes from packet to packet.
 #![tactic(auto)]
 
-ghost use Rattle.std.specs.Prelude.{◌≡◌, length};
+ghost use Rattle.std.specs.Prelude.{◌≡◌, ◌+◌, ◌≤◌, ◌++◌, length, IfSome, Some, codes};
+ghost use Rattle.std.specs.Fmt.{decimal};
 
 use diff_calls::{next_at, onward, pair_at, parts};
-use program_lines::{say, say_named, say_number};
-use rules::{Class, Cursor};
+use program_lines::read_front;
+use refusals::number;
+use rules::{Class, Cursor, RefusedStream};
+use std::{fmt, io};
 
 // The most bytes of a stream, and so of offsets in a packet and of packets.
 const LONGEST: usize = 65536;
 
-// The bytes of the first stream's length.
-const LENGTH_SIZE: usize = 4;
-
 // The most bytes of an input, and one more: a longer input has a stream that is too long.
-const ROOM: usize = 131077;
+const ROOM: u64 = 131077;
 
-// The offset behind one, of a packet.
-fn behind(j: usize) -> usize {
-    if j < LONGEST {
-        return j + 1;
-    }
-    LONGEST
+// ---- the questions
+
+// The line of a stream that is refused, the first or the second, and the number of the rule that it breaks.
+#[derive(Clone, Copy)]
+struct Refused {
+    code: u32,
+    stream: u32,
 }
 
-// An offset, after a comma unless it is the first.
-fn say_offset(k: usize, j: usize) {
-    if k != 0 {
-        say(b",");
-    }
-    say_number(j as u64);
-}
+impl fmt::Display for Refused {
+    ghost output = { λ r. Some (codes "refused=" ++ decimal r.code ++ codes " stream=" ++ decimal r.stream) };
 
-// The differing offsets of the packets at a cursor.
-fn say_offsets(first: &[u8], second: &[u8], cursor: Cursor) {
-    let mut from: usize = 0;
-    for k in 0..LONGEST {
-        match next_at(first, second, cursor, from) {
-            None => return,
-            Some(j) => {
-                say_offset(k, j);
-                from = behind(j);
-            }
-        }
+    fn fmt<W: fmt::Write>(&self, f: &mut fmt::Formatter<W>) -> fmt::Result {
+        write!(f, "refused={} stream={}", self.code, self.stream)
     }
 }
 
-// The line of the packets at a cursor; whether there is one.
-fn say_pair(first: &[u8], second: &[u8], cursor: Cursor, i: usize) -> bool {
-    let pair = pair_at(first, second, cursor);
-    let class = pair.class;
-    match class {
-        Class::Neither => {
-            return false;
-        }
-        Class::Equal => {
-            say_number(i as u64);
-            say(b" equal\n");
-        }
-        Class::SameOpcode => {
-            say_number(i as u64);
-            say(b" same_opcode offsets=");
-            say_offsets(first, second, cursor);
-            say(b"\n");
-        }
-        Class::OtherOpcode => {
-            say_number(i as u64);
-            say(b" other_opcode\n");
-        }
-        Class::OnlyFirst => {
-            say_number(i as u64);
-            say(b" only_first\n");
-        }
-        Class::OnlySecond => {
-            say_number(i as u64);
-            say(b" only_second\n");
-        }
-    }
-    true
+// Where two streams part, and a cursor at their first packets.
+fn begin(first: &[u8], second: &[u8]) -> Result<(Option<usize>, Cursor), RefusedStream> {
+    Ok((parts(first, second)?, diff_calls::start(first, second)?))
 }
+
+// The differing offsets of the packets at a cursor, with commas between them.
+#[derive(Clone, Copy)]
+struct Offsets<'a> {
+    first: &'a [u8],
+    second: &'a [u8],
+    cursor: Cursor,
+}
+
+impl fmt::Display for Offsets<'_> {
+    fn fmt<W: fmt::Write>(&self, f: &mut fmt::Formatter<W>) -> fmt::Result {
+        let mut from = 0usize;
+        for k in 0..LONGEST {
+            let Some(j) = next_at(self.first, self.second, self.cursor, from) else {
+                return Ok(());
+            };
+            let comma = if k == 0 { "" } else { "," };
+            write!(f, "{comma}{j}")?;
+            from = j.saturating_add(1);
+        }
+        Ok(())
+    }
+}
+
+// ---- the report
 
 // A line for each packet index, to the end of the longer stream.
-fn say_pairs(first: &[u8], second: &[u8], start: Cursor) {
+fn say_pairs(rt: &impl Print, first: &[u8], second: &[u8], start: Cursor) -> io::Result<()> {
     let mut cursor = start;
     for i in 0..LONGEST {
-        if !say_pair(first, second, cursor, i) {
-            return;
+        match pair_at(first, second, cursor).class {
+            Class::Neither => return Ok(()),
+            Class::Equal => println!(rt; "{i} equal")?,
+            Class::SameOpcode => {
+                let offsets = Offsets {
+                    first,
+                    second,
+                    cursor,
+                };
+                println!(rt; "{i} same_opcode offsets={offsets}")?;
+            }
+            Class::OtherOpcode => println!(rt; "{i} other_opcode")?,
+            Class::OnlyFirst => println!(rt; "{i} only_first")?,
+            Class::OnlySecond => println!(rt; "{i} only_second")?,
         }
         cursor = onward(first, second, cursor);
     }
+    Ok(())
 }
 
-// The line of the first packet index that is not equal.
-fn say_parting(x: Option<usize>) {
-    match x {
-        None => say(b"first=none\n"),
-        Some(i) => {
-            say_named(b"first=", i as u64);
-            say(b"\n");
+// The first packet index that is not equal, and the line of each pair; or the refusal.
+fn report(rt: &impl Print, first: &[u8], second: &[u8]) -> io::Result<()> {
+    match begin(first, second) {
+        Err(refused) => {
+            let line = Refused {
+                code: number(refused.why),
+                stream: refused.which,
+            };
+            println!(rt; "{line}")
         }
-    }
-}
-
-fn say_refused(code: u32, which: u32) {
-    say_named(b"refused=", code as u64);
-    say_named(b" stream=", which as u64);
-    say(b"\n");
-}
-
-fn report(first: &[u8], second: &[u8]) {
-    match parts(first, second) {
-        Err(e) => say_refused(e.why as u32, e.which),
-        Ok(parting) => {
-            say_parting(parting);
-            match diff_calls::start(first, second) {
-                Err(e) => say_refused(e.why as u32, e.which),
-                Ok(cursor) => say_pairs(first, second, cursor),
+        Ok((parting, cursor)) => {
+            match parting {
+                None => println!(rt; "first=none")?,
+                Some(i) => println!(rt; "first={i}")?,
             }
+            say_pairs(rt, first, second, cursor)
         }
     }
 }
 
-fn open(input: &[u8]) {
-    if input.len() < LENGTH_SIZE {
-        say(b"bad input\n");
-        return;
-    }
-    let n = words::u32_at(input, 0) as usize;
-    if n > LONGEST {
-        say(b"bad input\n");
-        return;
-    }
-    if n > input.len() - LENGTH_SIZE {
-        say(b"bad input\n");
-        return;
-    }
-    let end = LENGTH_SIZE + n;
-    if input.len() - end > LONGEST {
-        say(b"bad input\n");
-        return;
-    }
-    report(&input[LENGTH_SIZE..end], &input[end..]);
-}
+// ---- the input
 
-// Room for the input.
-fn input_room() -> [u8; ROOM]
-    ensures { 131077 ≡ length result }
+// The two streams of an input; none where it ends too early, or where one of them is too long.
+fn streams(input: &[u8]) -> Option<(&[u8], &[u8])>
+    ensures whole { IfSome result (λ both. length both.0.now + length both.1.now + 4 ≡ length input.now) }
+    ensures first { IfSome result (λ both. length both.0.now ≤ LONGEST) }
+    ensures second { IfSome result (λ both. length both.1.now ≤ LONGEST) }
 {
-    [0; ROOM]
+    let (length, rest) = input.split_first_chunk::<4>()?;
+    let (first, second) = rest.split_at_checked(u32::from_le_bytes(*length) as usize)?;
+    if first.len() > LONGEST || second.len() > LONGEST {
+        return None;
+    }
+    Some((first, second))
 }
 
-fn main() {
-    let mut input = input_room();
-    let n = io::read_full(0, &mut input);
-    open(&input[..n]);
+fn say_difference(rt: &impl Print, input: &[u8]) -> io::Result<()> {
+    match streams(input) {
+        Some((first, second)) => report(rt, first, second),
+        None => println!(rt; "bad input"),
+    }
+}
+
+fn main(rt: HostRuntime) -> io::Result<()> {
+    let input = read_front(rt.alloc(), rt.reader(), ROOM)?;
+    // A line that cannot be printed ends the output, and the status is 0 all the same.
+    let _ = say_difference(&rt, input.as_slice());
+    Ok(())
 }

@@ -1,24 +1,17 @@
 // Example 5: the completed fence never falls, and the IRQ comes only where it rises.
-use crate::lines::say_example;
-use program_lines::{say, say_named};
+use std::io;
 
 // What a good submission with this signal fence leaves, of a completed fence and a clear IRQ status.
-fn signal_line(example: u32, completed: u64, signal: u64) {
-    say_example(example);
-    say_named(b"completed ", completed);
-    say_named(b", signal ", signal);
+fn signal_line(rt: &impl Print, completed: u64, signal: u64) -> io::Result<()> {
     let after = settle_registers::completed_after(completed, signal);
-    say_named(b": completed ", after);
-    if settle_registers::fenced_after(false, completed, signal, false) {
-        say(b", IRQ\n");
-    } else {
-        say(b", no IRQ\n");
-    }
+    let raised = settle_registers::fenced_after(false, completed, signal, false);
+    let irq = if raised { "IRQ" } else { "no IRQ" };
+    println!(rt; "example 5: completed {completed}, signal {signal}: completed {after}, {irq}")
 }
 
 // A fence below the completed one, the same again, and one above it.
-pub fn example_5() {
-    signal_line(5, 9, 7);
-    signal_line(5, 9, 9);
-    signal_line(5, 9, 10);
+pub fn example_5(rt: &impl Print) -> io::Result<()> {
+    signal_line(rt, 9, 7)?;
+    signal_line(rt, 9, 9)?;
+    signal_line(rt, 9, 10)
 }

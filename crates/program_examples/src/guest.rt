@@ -18,19 +18,10 @@ pub const RING_SIZE: u32 = 576;
 // ---- fields: `field` bytes from where a thing starts
 
 fn put_word(mem: &mut [u8], start: usize, field: usize, v: u32) {
-    let size = mem.len();
-    if size < 4 {
-        return;
+    let at = start.saturating_add(field);
+    if at < mem.len() && mem.len() - at >= 4 {
+        words::stores::put_u32(&mut mem[at..at + 4], v);
     }
-    if start > size - 4 {
-        return;
-    }
-    if field > size - 4 - start {
-        return;
-    }
-    let at = start + field;
-    let end = at + 4;
-    words::stores::put_u32(&mut mem[at..end], v);
 }
 
 fn put_long(mem: &mut [u8], start: usize, field: usize, v: u64)

@@ -1,17 +1,36 @@
-// The pieces that lines of several examples share.
-use program_lines::{say, say_named};
+// How the lines of several examples say what a rule makes of something.
+ghost use Rattle.std.specs.Prelude.{◌≡◌, ◌≢◌, Some};
+ghost use Rattle.program_examples.specs.declared.lines.Judged.TheVariants.{Passes, Refused};
+ghost use Rattle.program_examples.specs.Judged.{words_of};
 
-// What every line begins with.
-pub fn say_example(example: u32) {
-    say_named(b"example ", example as u64);
-    say(b": ");
+use std::fmt;
+
+// What was asked about keeps every rule, or breaks the one with this number.
+#[derive(Clone, Copy)]
+pub enum Judged {
+    Passes,
+    Refused(u32),
 }
 
-// The number of the rule that was broken; 0 is none.
-pub fn say_judged(code: u32) {
-    if code == 0 {
-        say(b"passes");
-    } else {
-        say_named(b"refused ", code as u64);
+// From the number of the rule that was broken; 0 is none.
+impl From<u32> for Judged {
+    ghost from_gives = { λ code judged. (code ≡ 0 → judged ≡ Passes) × (code ≢ 0 → judged ≡ Refused code) };
+
+    fn from(code: u32) -> Judged {
+        match code {
+            0 => Judged::Passes,
+            _ => Judged::Refused(code),
+        }
+    }
+}
+
+impl fmt::Display for Judged {
+    ghost output = { λ judged. Some (words_of judged) };
+
+    fn fmt<W: fmt::Write>(&self, f: &mut fmt::Formatter<W>) -> fmt::Result {
+        match self {
+            Judged::Passes => write!(f, "passes"),
+            Judged::Refused(code) => write!(f, "refused {code}"),
+        }
     }
 }

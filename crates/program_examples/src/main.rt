@@ -1,5 +1,5 @@
 // Runs the worked examples of the night log through the code, and prints what it answers, a line a check.
-// Answers are what the code gave. Where that is a case without a number (a bad ring, a bad shape), the number is rules::numbers'.
+// Answers are what the code gave. Where that is a case without a number (a bad ring, a bad shape), the number is the rule's.
 #![tactic(auto)]
 
 mod fences;
@@ -10,15 +10,23 @@ mod submissions;
 mod tables;
 mod textures;
 
-fn main() {
-    textures::example_1();
-    textures::example_2();
-    textures::example_3();
-    textures::example_4();
-    fences::example_5();
-    rings::example_6();
-    rings::example_7();
-    tables::example_8();
-    submissions::example_9();
-    submissions::example_10();
+use std::io;
+
+// The examples, in order.
+fn examples(rt: &impl Print) -> io::Result<()> {
+    textures::example_1(rt)?;
+    textures::example_2(rt)?;
+    textures::example_3(rt)?;
+    textures::example_4(rt)?;
+    fences::example_5(rt)?;
+    rings::example_6(rt)?;
+    rings::example_7(rt)?;
+    tables::example_8(rt)?;
+    submissions::example_9(rt)?;
+    submissions::example_10(rt)
+}
+
+fn main(rt: HostRuntime) {
+    // A line that cannot be printed ends the output, and the status is 0 all the same.
+    let _ = examples(&rt);
 }

@@ -1,12 +1,13 @@
 // Examples 6 and 7: which slot the head names when it wraps, and a tail too far ahead.
 // Each slot holds an empty submission whose signal fence is the slot's own number, so the opening tells which it read.
 use crate::guest::{RING, RING_SIZE, SLOTS, put_descriptor, put_ring};
-use crate::lines::{say_example, say_judged};
-use program_lines::{say, say_named};
+use crate::lines::Judged;
+use refusals::number;
 use ring_header::header::header_at;
 use ring_opening::opening::open;
 use rules::numbers::DESCRIPTOR_SIZE;
 use rules::{Descriptor, Opening, Refusal};
+use std::io;
 
 // A submission without a table and without a stream.
 fn empty_submission(signal: u64) -> Descriptor {
@@ -21,53 +22,49 @@ fn empty_submission(signal: u64) -> Descriptor {
     }
 }
 
+// A submission in each slot.
 fn put_slots(mem: &mut [u8]) {
-    let mut slot: u32 = 0;
-    while slot < SLOTS {
-        put_descriptor(mem, slot, empty_submission(slot as u64));
-        slot += 1;
+    for slot in 0..SLOTS {
+        put_descriptor(mem, slot, empty_submission(u64::from(slot)));
     }
 }
 
 // What the opening gives.
-fn opening_line(example: u32, mem: &[u8; 576]) {
+fn opening_line(rt: &impl Print, example: u32, mem: &[u8; 576]) -> io::Result<()> {
     let h = header_at(mem, 0);
-    say_example(example);
-    say_named(b"head ", h.head as u64);
-    say_named(b", tail ", h.tail as u64);
-    say_named(b", count ", h.count as u64);
-    say(b": ");
+    print!(rt;
+        "example {example}: head {}, tail {}, count {}: ",
+        h.head, h.tail, h.count
+    )?;
     match open(mem, RING, RING_SIZE) {
-        Opening::BadRing => say_judged(Refusal::BadRing as u32),
-        Opening::NoWork => say(b"no work"),
-        Opening::Refused(_, why) => say_judged(why as u32),
-        Opening::Started(o) => say_named(b"opened slot ", o.job.signal),
+        Opening::BadRing => println!(rt; "{}", Judged::Refused(number(Refusal::BadRing))),
+        Opening::NoWork => println!(rt; "no work"),
+        Opening::Refused(_, why) => println!(rt; "{}", Judged::from(number(why))),
+        Opening::Started(o) => println!(rt; "opened slot {}", o.job.signal),
     }
-    say(b"\n");
 }
 
 // Moves the head past the submission that the ring opens with, as settling it does.
 fn pass_submission(mem: &mut [u8; 576]) {
-    match open(mem, RING, RING_SIZE) {
-        Opening::Started(o) => settle::write_head(mem, o.job),
-        _ => (),
+    if let Opening::Started(o) = open(mem, RING, RING_SIZE) {
+        settle::write_head(mem, o.job);
     }
 }
 
 // Just one is pending: once it is passed there is no work.
-pub fn example_6() {
+pub fn example_6(rt: &impl Print) -> io::Result<()> {
     let mut mem = [0u8; 576];
-    put_ring(&mut mem, 4294967295, 0);
+    put_ring(&mut mem, u32::MAX, 0);
     put_slots(&mut mem);
-    opening_line(6, &mem);
+    opening_line(rt, 6, &mem)?;
     pass_submission(&mut mem);
-    opening_line(6, &mem);
+    opening_line(rt, 6, &mem)
 }
 
 // Nine pending in a ring of eight slots: a bad ring.
-pub fn example_7() {
+pub fn example_7(rt: &impl Print) -> io::Result<()> {
     let mut mem = [0u8; 576];
     put_ring(&mut mem, 0, 9);
     put_slots(&mut mem);
-    opening_line(7, &mem);
+    opening_line(rt, 7, &mem)
 }

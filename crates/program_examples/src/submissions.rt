@@ -6,14 +6,14 @@ use crate::guest::{
     RING_SIZE, put_create, put_descriptor, put_dirty, put_entry, put_ring, put_stream, put_table,
     table_size,
 };
-use crate::lines::say_example;
 use device::{Device, Ran};
-use program_lines::{say, say_count, say_named};
+use program_lines::Count;
 use registers::offsets;
 use rules::numbers::{
     CREATE_BUFFER_SIZE, DESCRIPTOR_SIZE, DIRTY_RANGE_SIZE, DONE, STREAM_HEADER_SIZE,
 };
 use rules::{CreateBuffer, Descriptor, DirtyRange, Ended, Entry};
+use std::io;
 
 const TABLE: usize = 1024;
 
@@ -38,79 +38,105 @@ fn rung(memory: usize) -> Device {
 
 // ---- lines
 
-// How a run ended, and after how many units.
-fn run_line(example: u32, r: Ran, allowance: u16) {
-    say_example(example);
-    say_named(b"run of ", allowance as u64);
-    let ended = r.ended;
+// What a line says of how a run ended.
+fn how(ended: Ended) -> &'static str {
     match ended {
-        Ended::Waiting => say(b": waits after "),
-        Ended::Idle => say(b": idle after "),
-        Ended::Paused => say(b": paused after "),
+        Ended::Waiting => "waits",
+        Ended::Idle => "idle",
+        Ended::Paused => "paused",
     }
-    say_count(r.units as u32, b" unit");
-    say(b"\n");
+}
+
+// How a run ended, and after how many units.
+fn run_line(rt: &impl Print, example: u32, r: &Ran, allowance: u16) -> io::Result<()> {
+    let how = how(r.ended);
+    let units = Count {
+        count: u32::from(r.units),
+        noun: "unit",
+    };
+    println!(rt; "example {example}: run of {allowance}: {how} after {units}")
 }
 
 // A register that the guest reads.
-fn register_line(example: u32, d: Device, name: &[u8], offset: u32) {
-    let r = d.read(offset);
-    say_example(example);
-    say_named(name, r.value as u64);
-    say(b"\n");
+fn register_line(
+    rt: &impl Print,
+    example: u32,
+    d: Device,
+    name: &str,
+    offset: u32,
+) -> io::Result<()> {
+    println!(rt; "example {example}: {name} {}", d.read(offset).value)
 }
 
 // A record that the host gets, if it is there.
-fn record_line(example: u32, d: Device, i: u32) {
+fn record_line(rt: &impl Print, example: u32, d: Device, i: u32) -> io::Result<()> {
     let h = d.record(i);
     if h.answer != DONE {
-        return;
+        return Ok(());
     }
     let r = h.range;
-    say_example(example);
-    say_named(b"record ", r.kind as u64);
-    say_named(b" of handle ", r.handle as u64);
-    say_named(b" in entry ", r.id as u64);
-    say_named(b": ", r.gpa);
-    say_named(b", ", r.length);
-    say(b" bytes\n");
+    println!(rt;
+        "example {example}: record {} of handle {} in entry {}: {}, {} bytes",
+        r.kind, r.handle, r.id, r.gpa, r.length
+    )
 }
 
 // The run that comes next.
-fn run_lines(example: u32, d: Device, mem: &mut [u8], allowance: u16) -> Device {
+fn run_lines(
+    rt: &impl Print,
+    example: u32,
+    d: Device,
+    mem: &mut [u8],
+    allowance: u16,
+) -> io::Result<Device> {
     let r = d.run(mem, allowance);
-    run_line(example, r, allowance);
-    r.device
+    run_line(rt, example, &r, allowance)?;
+    Ok(r.device)
 }
 
 // The host's good answer with the run that it goes on to, and the fence after it. Where nothing waits it is refused, and the run comes by
 // itself.
-fn answer_lines(example: u32, d: Device, mem: &mut [u8], allowance: u16) {
+fn answer_lines(
+    rt: &impl Print,
+    example: u32,
+    d: Device,
+    mem: &mut [u8],
+    allowance: u16,
+) -> io::Result<()> {
     let r = d.answer(mem, true, allowance);
-    say_example(example);
-    say_named(b"answer good: ", r.answer as u64);
-    say(b"\n");
-    register_line(example, r.device, b"completed ", offsets::COMPLETED_LOW);
+    println!(rt; "example {example}: answer good: {}", r.answer)?;
+    register_line(rt, example, r.device, "completed", offsets::COMPLETED_LOW)?;
     if r.answer == DONE {
-        run_line(example, r, allowance);
-        return;
+        return run_line(rt, example, &r, allowance);
     }
-    run_lines(example, r.device, mem, allowance);
+    run_lines(rt, example, r.device, mem, allowance)?;
+    Ok(())
 }
 
 // The host's part: the records and the error, its answer and the run after it.
-fn host_lines(example: u32, d: Device, mem: &mut [u8], allowance: u16) {
-    record_line(example, d, 0);
-    record_line(example, d, 1);
-    record_line(example, d, 2);
-    register_line(example, d, b"error ", offsets::ERROR_CODE);
-    answer_lines(example, d, mem, allowance);
+fn host_lines(
+    rt: &impl Print,
+    example: u32,
+    d: Device,
+    mem: &mut [u8],
+    allowance: u16,
+) -> io::Result<()> {
+    for i in 0..3 {
+        record_line(rt, example, d, i)?;
+    }
+    register_line(rt, example, d, "error", offsets::ERROR_CODE)?;
+    answer_lines(rt, example, d, mem, allowance)
 }
 
 // What comes of the submission at the head of the ring.
-fn submission_lines(example: u32, mem: &mut [u8], allowance: u16) {
-    let d = run_lines(example, rung(mem.len()), mem, allowance);
-    host_lines(example, d, mem, allowance);
+fn submission_lines(
+    rt: &impl Print,
+    example: u32,
+    mem: &mut [u8],
+    allowance: u16,
+) -> io::Result<()> {
+    let d = run_lines(rt, example, rung(mem.len()), mem, allowance)?;
+    host_lines(rt, example, d, mem, allowance)
 }
 
 // ---- the examples
@@ -180,18 +206,18 @@ fn put_entry_5(mem: &mut [u8], i: u32)
 }
 
 // A submission of one entry, run whole and answered.
-pub fn example_9() {
+pub fn example_9(rt: &impl Print) -> io::Result<()> {
     let mut mem = [0u8; 16384];
     put_submission(&mut mem, 1);
     put_entry_5(&mut mem, 0);
-    submission_lines(9, &mut mem, 64);
+    submission_lines(rt, 9, &mut mem, 64)
 }
 
 // The second entry is the first again.
-pub fn example_10() {
+pub fn example_10(rt: &impl Print) -> io::Result<()> {
     let mut mem = [0u8; 16384];
     put_submission(&mut mem, 2);
     put_entry_5(&mut mem, 0);
     put_entry_5(&mut mem, 1);
-    submission_lines(10, &mut mem, 3);
+    submission_lines(rt, 10, &mut mem, 3)
 }

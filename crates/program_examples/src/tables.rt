@@ -1,11 +1,11 @@
 // Example 8: an entry that ends where memory does, and one that ends a byte later.
 use crate::guest::{put_entry, put_table};
-use crate::lines::{say_example, say_judged};
-use program_lines::{say, say_named};
+use crate::lines::Judged;
 use rules::Entry;
+use std::io;
 
 // The first error of a table whose one entry has this range.
-fn entry_line(example: u32, memory: u64, gpa: u64, size: u64) {
+fn entry_line(rt: &impl Print, memory: u64, gpa: u64, size: u64) -> io::Result<()> {
     let mut bytes = [0u8; 56]; // a header and one entry
     put_table(&mut bytes, 1);
     put_entry(
@@ -18,18 +18,12 @@ fn entry_line(example: u32, memory: u64, gpa: u64, size: u64) {
             size,
         },
     );
-    say_example(example);
-    say_named(b"memory ", memory);
-    say_named(b", gpa ", gpa);
-    say_named(b", size ", size);
-    say(b": ");
-    let fault = table_whole::whole::first_fault(&bytes, memory);
-    say_judged(fault.code);
-    say(b"\n");
+    let judged = Judged::from(table_whole::whole::first_fault(&bytes, memory).code);
+    println!(rt; "example 8: memory {memory}, gpa {gpa}, size {size}: {judged}")
 }
 
 // An entry that ends where memory does, and one that ends a byte further.
-pub fn example_8() {
-    entry_line(8, 4096, 0, 4096);
-    entry_line(8, 4096, 1, 4096);
+pub fn example_8(rt: &impl Print) -> io::Result<()> {
+    entry_line(rt, 4096, 0, 4096)?;
+    entry_line(rt, 4096, 1, 4096)
 }

@@ -1,128 +1,143 @@
 // Examples 1 to 4: what textures measure, and which shapes are refused.
-use crate::lines::{say_example, say_judged};
-use program_lines::{say, say_count, say_named, say_number};
+use crate::lines::Judged;
+use program_lines::Count;
+use refusals::number;
 use rules::numbers::LONGEST_SIDE;
 use rules::{Refusal, Shape};
+use std::{fmt, io};
 
 // ---- a line for each thing that can be asked of a shape
 
 // What every line begins with: the example, and the shape that it asks about.
-fn say_shape(example: u32, s: Shape) {
-    say_example(example);
-    say_named(b"format ", s.format as u64);
-    say_named(b", ", s.width as u64);
-    say_named(b"x", s.height as u64);
-    say(b", ");
-    say_count(s.mips, b" mip");
-    say(b", ");
-    say_count(s.layers, b" layer");
+#[derive(Clone, Copy)]
+struct Asked {
+    example: u32,
+    shape: Shape,
 }
 
-// Whether the shape is good, whatever its pitch.
-fn shape_line(example: u32, s: Shape) {
-    say_shape(example, s);
-    say(b": ");
-    if texture_shapes::good_shape(s) {
-        say_judged(0);
-    } else {
-        say_judged(Refusal::BadShape as u32);
+impl fmt::Display for Asked {
+    fn fmt<W: fmt::Write>(&self, f: &mut fmt::Formatter<W>) -> fmt::Result {
+        let Shape {
+            format,
+            width,
+            height,
+            mips,
+            layers,
+        } = self.shape;
+        let mips = Count {
+            count: mips,
+            noun: "mip",
+        };
+        let layers = Count {
+            count: layers,
+            noun: "layer",
+        };
+        write!(
+            f,
+            "example {}: format {format}, {width}x{height}, {mips}, {layers}",
+            self.example
+        )
     }
-    say(b"\n");
 }
 
-// The least pitch that its width allows.
-fn minimum_line(example: u32, s: Shape) {
-    say_shape(example, s);
-    say_named(
-        b", minimum pitch: ",
-        texture_shapes::formats::minimum_pitch(s.format, s.width),
-    );
-    say(b"\n");
-}
-
-// Its bytes with this pitch.
-fn size_line(example: u32, s: Shape, pitch: u32) {
-    say_shape(example, s);
-    say_named(b", pitch ", pitch as u64);
-    say(b": ");
-    let size = texture_sizes::packed_size(s.format, s.width, s.height, s.mips, s.layers, pitch);
-    if size == 0 {
-        say_judged(Refusal::BadShape as u32);
-    } else {
-        say_number(size);
+impl Asked {
+    // Whether the shape is good, whatever its pitch.
+    fn judge(self, rt: &impl Print) -> io::Result<()> {
+        let judged = if texture_shapes::good_shape(self.shape) {
+            Judged::Passes
+        } else {
+            Judged::Refused(number(Refusal::BadShape))
+        };
+        println!(rt; "{self}: {judged}")
     }
-    say(b"\n");
-}
 
-// Where one of its subresources starts.
-fn start_line(example: u32, s: Shape, pitch: u32, index: u32) {
-    say_shape(example, s);
-    say_named(b", pitch ", pitch as u64);
-    say_named(b", index ", index as u64);
-    say(b" starts at: ");
-    match texture_sizes::subresource_start(s, pitch, index) {
-        Some(place) => say_number(place),
-        None => say(b"nowhere"),
+    // The least pitch that its width allows.
+    fn minimum(self, rt: &impl Print) -> io::Result<()> {
+        let s = self.shape;
+        let pitch = texture_shapes::formats::minimum_pitch(s.format, s.width);
+        println!(rt; "{self}, minimum pitch: {pitch}")
     }
-    say(b"\n");
+
+    // Its bytes with this pitch.
+    fn size(self, rt: &impl Print, pitch: u32) -> io::Result<()> {
+        let s = self.shape;
+        let size = texture_sizes::packed_size(s.format, s.width, s.height, s.mips, s.layers, pitch);
+        print!(rt; "{self}, pitch {pitch}: ")?;
+        match size {
+            0 => println!(rt; "{}", Judged::Refused(number(Refusal::BadShape))),
+            _ => println!(rt; "{size}"),
+        }
+    }
+
+    // Where one of its subresources starts.
+    fn start(self, rt: &impl Print, pitch: u32, index: u32) -> io::Result<()> {
+        print!(rt; "{self}, pitch {pitch}, index {index} starts at: ")?;
+        match texture_sizes::subresource_start(self.shape, pitch, index) {
+            Some(place) => println!(rt; "{place}"),
+            None => println!(rt; "nowhere"),
+        }
+    }
 }
 
 // ---- the examples
 
 // The shape of examples 1 and 2, which differ in the layers.
-fn five_by_three(layers: u32) -> Shape {
-    Shape {
+fn five_by_three(example: u32, layers: u32) -> Asked {
+    let shape = Shape {
         format: 1,
         width: 5,
         height: 3,
         mips: 3,
         layers,
-    }
+    };
+    Asked { example, shape }
 }
 
 // The least pitch of a texture, and its size by two pitches.
-pub fn example_1() {
-    let s = five_by_three(1);
-    minimum_line(1, s);
-    size_line(1, s, 20);
-    size_line(1, s, 32);
+pub fn example_1(rt: &impl Print) -> io::Result<()> {
+    let asked = five_by_three(1, 1);
+    asked.minimum(rt)?;
+    asked.size(rt, 20)?;
+    asked.size(rt, 32)
 }
 
 // The same with more than one layer: its size, and where a subresource starts.
-pub fn example_2() {
-    let s = five_by_three(2);
-    size_line(2, s, 20);
-    start_line(2, s, 20, 4);
+pub fn example_2(rt: &impl Print) -> io::Result<()> {
+    let asked = five_by_three(2, 2);
+    asked.size(rt, 20)?;
+    asked.start(rt, 20, 4)
 }
 
 // A texture of blocks: its rows count blocks and not pixels.
-pub fn example_3() {
-    let s = Shape {
+pub fn example_3(rt: &impl Print) -> io::Result<()> {
+    let shape = Shape {
         format: 64,
         width: 5,
         height: 5,
         mips: 3,
         layers: 1,
     };
-    minimum_line(3, s);
-    size_line(3, s, 16);
-    size_line(3, s, 15);
+    let asked = Asked { example: 3, shape };
+    asked.minimum(rt)?;
+    asked.size(rt, 16)?;
+    asked.size(rt, 15)
 }
 
-// A shape with a chain of so many mips, in the format of example 1.
-fn chain_of(width: u32, mips: u32) -> Shape {
-    Shape {
+// A chain of so many mips, in the format of example 1.
+fn chain_of(width: u32, mips: u32) -> Asked {
+    let shape = Shape {
         format: 1,
         width,
         height: 1,
         mips,
         layers: 1,
-    }
+    };
+    Asked { example: 4, shape }
 }
 
 // The longest chain of mips, one that is longer, and one of a side of a single pixel.
-pub fn example_4() {
-    shape_line(4, chain_of(LONGEST_SIDE, 15));
-    shape_line(4, chain_of(LONGEST_SIDE, 16));
-    shape_line(4, chain_of(1, 2));
+pub fn example_4(rt: &impl Print) -> io::Result<()> {
+    chain_of(LONGEST_SIDE, 15).judge(rt)?;
+    chain_of(LONGEST_SIDE, 16).judge(rt)?;
+    chain_of(1, 2).judge(rt)
 }

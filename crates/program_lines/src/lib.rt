@@ -1,28 +1,39 @@
-// Words and numbers on standard output, which the lines of every program are made of.
+// What the programs share: a count with its noun, and the front of what they are given to read.
 
 #![tactic(auto)]
 
-// Prints a text as it is.
-pub fn say(text: &[u8]) {
-    io::write_all(1, text);
-}
+ghost use Rattle.std.specs.Prelude.{IfOk, IfSome, Some, take, [], ◌++◌, ◌==◌, if◌then◌else◌, codes};
+ghost use Rattle.std.specs.Fmt.{decimal};
+ghost use Rattle.std.specs.Io.{StartsWith};
 
-// Prints a number, decimal.
-pub fn say_number(n: u64) {
-    io::print_decimal(1, n);
-}
-
-// A word, and the number that it is about.
-pub fn say_named(name: &[u8], n: u64) {
-    say(name);
-    say_number(n);
-}
+use std::alloc::Global;
+use std::io::{ErrorKind, Read};
+use std::{fmt, io};
 
 // A count with its noun, which takes an s unless the count is 1.
-pub fn say_count(n: u32, noun: &[u8]) {
-    say_number(n as u64);
-    say(noun);
-    if n != 1 {
-        say(b"s");
+#[derive(Clone, Copy)]
+pub struct Count<'a> {
+    pub count: u32,
+    pub noun: &'a str,
+}
+
+impl fmt::Display for Count<'_> {
+    ghost output = { λ c. Some (decimal c.count ++ codes " " ++ c.noun.now ++ (if c.count == 1 then [] else codes "s")) };
+
+    fn fmt<W: fmt::Write>(&self, f: &mut fmt::Formatter<W>) -> fmt::Result {
+        let plural = if self.count == 1 { "" } else { "s" };
+        write!(f, "{} {}{plural}", self.count, self.noun)
+    }
+}
+
+// The front of what a reader has, at most so many bytes. A read that fails ends it, as the input's end does; only memory that runs out is an
+// error.
+pub fn read_front<R: Read + Drop>(alloc: Global, reader: R, most: u64) -> io::Result<Vec<u8>>
+    ensures { IfOk result (λ bytes. IfSome (R.remaining reader) (λ xs. StartsWith (take most xs) bytes.items)) }
+{
+    let mut bytes = Vec::new(alloc);
+    match reader.take(most).read_to_end(&mut bytes) {
+        Err(e) if e.kind() == ErrorKind::OutOfMemory => Err(e),
+        _ => Ok(bytes),
     }
 }

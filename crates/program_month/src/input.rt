@@ -1,4 +1,5 @@
-// The records of a submission in the input: kind u32 and length u64, 12 bytes each.
+// The submissions of the input. Each has a head of error u32, units u32 and count u32, and then so many records: kind u32 and length u64, 12
+// bytes each.
 ghost use Rattle.std.specs.Prelude.{◌≡◌, ◌*◌, ◌≤◌, length};
 ghost use Rattle.rules.specs.Numbers.{most};
 ghost use Rattle.kept_resources.specs.Views.{records_of};
@@ -6,21 +7,43 @@ ghost use Rattle.program_month.specs.Input.{records_in};
 
 use kept_records::{Records, push_record};
 use rules::Record;
+use std::io;
+use std::io::{BufRead, Read};
 
 const MOST_RECORDS: u32 = 64;
+
+const HEAD: usize = 12;
 
 const WIDTH: usize = 12;
 
 // 64 records.
 const LONGEST: usize = 768;
 
+// A finished submission. Its records are the first rows of the table, and none where they are more than 64.
+#[derive(Clone, Copy)]
+pub struct Submission {
+    pub error: u32,
+    pub units: u32,
+    pub count: u32,
+    pub records: Records,
+}
+
+// The input ended inside a submission, or could not be read on.
+#[derive(Clone, Copy)]
+pub struct Cut;
+
+impl From<io::Error> for Cut {
+    fn from(_: io::Error) -> Cut {
+        Cut
+    }
+}
+
 // Stores the records in these bytes as rows of a table.
 fn put_records(bytes: &[u8], count: usize, records: &mut Records)
     requires { (count ≤ most) × (12 * count ≤ length bytes.now) }
     ensures { records_of count records.new ≡ records_in bytes.now count }
 {
-    let mut i: usize = 0;
-    while i < count {
+    for i in 0..count {
         let at = WIDTH * i;
         push_record(
             records,
@@ -33,47 +56,49 @@ fn put_records(bytes: &[u8], count: usize, records: &mut Records)
                 length: words::u64_at(bytes, at + 4),
             },
         );
-        i += 1;
     }
 }
 
-// Reads n bytes into the front of the buffer; gives the number that were there.
-fn read_front(buffer: &mut [u8], n: usize) -> usize
-    requires { n ≤ length buffer.old }
-    ensures { result ≤ n }
-{
-    io::read_full(0, &mut buffer[0..n])
+// Skips a number of bytes of the input.
+fn skip(input: &mut impl Read, bytes: u64) -> Result<(), Cut> {
+    let skipped = io::copy(&mut input.by_ref().take(bytes), &mut io::sink())?;
+    if skipped == bytes { Ok(()) } else { Err(Cut) }
 }
 
-// Skips a number of bytes of the input, in pieces; gives whether they were there.
-fn skip(bytes: u64) -> bool {
-    let mut left = bytes;
-    while left > 4096 {
-        let mut piece = io::buffer();
-        let n = io::read_full(0, &mut piece);
-        if n < 4096 {
-            return false;
-        }
-        left -= 4096;
-    }
-    let mut last = io::buffer();
-    let wanted = left as usize;
-    let got = read_front(&mut last, wanted);
-    got == wanted
-}
-
-// Reads the records of a submission into rows, or skips them if they are more than 64; gives whether they were there.
-pub fn take_records(count: u32, records: &mut Records) -> bool {
+// Reads the records of a submission into rows, or skips them if they are more than 64.
+fn take_records(input: &mut impl Read, count: u32) -> Result<Records, Cut> {
+    let mut records: Records = [0; 320];
     if count > MOST_RECORDS {
-        return skip(count as u64 * 12);
+        skip(input, u64::from(count) * 12)?;
+        return Ok(records);
     }
-    let mut bytes = [0u8; LONGEST];
     let n = count as usize;
-    let wanted = WIDTH * n;
-    let got = read_front(&mut bytes, wanted);
-    if got != wanted {
-        return false;
+    let mut bytes = [0u8; LONGEST];
+    input.read_exact(&mut bytes[..WIDTH * n])?;
+    put_records(&bytes, n, &mut records);
+    Ok(records)
+}
+
+// Whether there is no more to read.
+fn is_at_end(input: &mut impl BufRead) -> bool {
+    match input.fill_buf() {
+        Ok(ahead) => ahead.is_empty(),
+        Err(_) => true,
     }
-    put_records(&bytes, n, records);
-    true
+}
+
+// The next submission; none at the end of the input.
+pub fn next_submission(input: &mut impl BufRead) -> Result<Option<Submission>, Cut> {
+    if is_at_end(input) {
+        return Ok(None);
+    }
+    let mut head = [0u8; HEAD];
+    input.read_exact(&mut head)?;
+    let count = words::u32_at(&head, 8);
+    Ok(Some(Submission {
+        error: words::u32_at(&head, 0),
+        units: words::u32_at(&head, 4),
+        count,
+        records: take_records(input, count)?,
+    }))
 }

@@ -5,77 +5,68 @@
 mod input;
 mod lines;
 
-use crate::input::take_records;
-use crate::lines::{say_answer, say_totals};
-use kept_records::Records;
+use crate::input::{Cut, next_submission};
+use crate::lines::TotalLines;
 use month_feed::feed;
 use month_totals::TotalsWords;
-use program_lines::say;
 use rules::numbers::DONE;
+use std::io;
+use std::io::{BufRead, BufReader};
 
-// The bytes before the records: error, units and count.
-const HEAD: usize = 12;
-
-// No input has more submissions than this.
-const MOST: u64 = 18446744073709551615;
-
-// What was next in the input: a submission, the end, or a part of a submission.
-#[derive(Clone, Copy)]
-enum Next {
-    Fed,
-    End,
+// Why no more submissions are fed: the input ends inside one, or a line cannot be printed.
+#[derive(Drop)]
+enum Stop {
     Cut,
+    Unprinted(io::Error),
 }
 
-// Reads and feeds the next submission; prints its line if it is not counted.
-fn feed_next(totals: &mut TotalsWords, i: u64) -> Next {
-    let mut head = [0u8; HEAD];
-    let n = io::read_full(0, &mut head);
-    if n == 0 {
-        return Next::End;
+impl From<Cut> for Stop {
+    fn from(_: Cut) -> Stop {
+        Stop::Cut
     }
-    if n < HEAD {
-        return Next::Cut;
-    }
-    let error = words::u32_at(&head, 0);
-    let units = words::u32_at(&head, 4);
-    let count = words::u32_at(&head, 8);
-    let mut records: Records = [0; 320];
-    if !take_records(count, &mut records) {
-        return Next::Cut;
-    }
-    let answer = feed(totals, error, units, count, &records);
-    if answer != DONE {
-        say_answer(i, answer);
-    }
-    Next::Fed
 }
 
-// Feeds all submissions; gives whether the input ended inside one.
-fn feed_all(totals: &mut TotalsWords) -> bool {
-    let mut i: u64 = 0;
-    while i < MOST {
-        let next = feed_next(totals, i);
-        match next {
-            Next::Fed => {
-                i += 1;
-            }
-            Next::End => {
-                return false;
-            }
-            Next::Cut => {
-                return true;
-            }
+impl From<io::Error> for Stop {
+    fn from(e: io::Error) -> Stop {
+        Stop::Unprinted(e)
+    }
+}
+
+// Feeds all submissions, and prints the lines of those that are not counted.
+fn feed_all(
+    rt: &impl Print,
+    input: &mut impl BufRead,
+    totals: &mut TotalsWords,
+) -> Result<(), Stop> {
+    for i in 0..u64::MAX {
+        let Some(s) = next_submission(input)? else {
+            return Ok(());
+        };
+        let answer = feed(totals, s.error, s.units, s.count, &s.records);
+        if answer != DONE {
+            println!(rt; "submission={i} answer={answer}")?;
         }
     }
-    false
+    Ok(())
 }
 
-fn main() {
+fn report(rt: &impl Print, input: &mut impl BufRead) -> io::Result<()> {
     let mut totals: TotalsWords = [0; 26];
-    let cut = feed_all(&mut totals);
-    say_totals(&totals);
-    if cut {
-        say(b"bad input\n");
+    let is_cut = match feed_all(rt, input, &mut totals) {
+        Ok(()) => false,
+        Err(Stop::Cut) => true,
+        Err(Stop::Unprinted(e)) => return Err(e),
+    };
+    print!(rt; "{}", TotalLines(&totals))?;
+    if is_cut {
+        println!(rt; "bad input")?;
     }
+    Ok(())
+}
+
+fn main(rt: HostRuntime) -> io::Result<()> {
+    let mut input = BufReader::new(rt.alloc(), rt.reader())?;
+    // A line that cannot be printed ends the output, and the status is 0 all the same.
+    let _ = report(&rt, &mut input);
+    Ok(())
 }

@@ -1,266 +1,148 @@
-// The operations of a desk script: each reads its fields, calls the device and prints its line.
-// One whose fields are cut short does nothing and prints nothing.
-ghost use Rattle.std.specs.Prelude.{◌≤◌, length};
-
-use crate::lines::say_answer;
-use crate::saved::{load, move_file, save};
-use crate::script::{
-    ANSWER, ANSWER_ELSEWHERE, LOAD, LONGEST_MEMORY, MOVE, Next, POKE, READ, RECORD, RUN,
-    RUN_ELSEWHERE, SAVE, SAVE_FORM_2, STATE, WRITE, u16_at,
-};
-use crate::state::say_state;
+// What the operations of a desk script do: each calls the device and prints its line.
+use crate::script::Operation;
+use crate::state::{State, hash};
 use device::{Device, Ran};
-use program_lines::{say, say_named};
 use rules::{Ended, Form};
+use saved_move::move_form;
+use saved_save::FileSaved;
+use std::io;
 
-// An operation that was played: the device it leaves, and how the script goes on.
-#[derive(Clone, Copy)]
-pub struct Played {
-    pub device: Device,
-    pub next: Next,
-}
+// What a buffer holds before a save.
+const FILLED: u8 = 170;
 
 // ---- memory
 
-fn least(a: usize, b: usize) -> usize
-    ensures { (result ≤ a) × (result ≤ b) }
-{
-    if a < b { a } else { b }
-}
-
-fn copy_bytes(part: &mut [u8], bytes: &[u8], n: usize)
-    requires { (n ≤ length part.old) × (n ≤ length bytes.now) }
-{
-    let mut i: usize = 0;
-    while i < n {
-        part[i] = bytes[i];
-        i += 1;
-    }
-}
-
 // The bytes that fall outside memory are dropped.
-fn put_bytes(memory: &mut [u8], address: usize, bytes: &[u8]) {
-    let end = memory.len();
-    if address > end {
-        return;
+fn poke(rt: &impl Print, memory: &mut [u8], address: usize, bytes: &[u8]) -> io::Result<()> {
+    if let Some(part) = memory.get_mut(address..) {
+        let n = part.len().min(bytes.len());
+        part[..n].copy_from_slice(&bytes[..n]);
     }
-    let n = least(end - address, bytes.len());
-    copy_bytes(&mut memory[address..end], bytes, n);
-}
-
-fn poke(memory: &mut [u8], fields: &[u8]) -> Next {
-    if fields.len() < 8 {
-        return Next::Cut;
-    }
-    let address = words::u32_at(fields, 0) as usize;
-    let n = words::u32_at(fields, 4) as usize;
-    if n > fields.len() - 8 {
-        return Next::Cut;
-    }
-    let end = 8 + n;
-    put_bytes(memory, address, &fields[8..end]);
-    say(b"poke\n");
-    Next::Took(end)
+    println!(rt; "poke")
 }
 
 // ---- registers
 
-fn write_register(device: Device, fields: &[u8]) -> Played {
-    if fields.len() < 8 {
-        return Played {
-            device,
-            next: Next::Cut,
-        };
-    }
-    let w = device.write(words::u32_at(fields, 0), words::u32_at(fields, 4));
-    let left = w.device;
-    say_answer(b"write", w.answer);
-    say(b"\n");
-    Played {
-        device: left,
-        next: Next::Took(8),
-    }
+// A register that the guest writes.
+fn write_register(rt: &impl Print, device: &mut Device, offset: u32, value: u32) -> io::Result<()> {
+    let w = device.write(offset, value);
+    *device = w.device;
+    println!(rt; "write {}", w.answer)
 }
 
-fn read_register(device: Device, fields: &[u8]) -> Next {
-    if fields.len() < 4 {
-        return Next::Cut;
-    }
-    let r = device.read(words::u32_at(fields, 0));
-    say_answer(b"read", r.answer);
-    say_named(b" ", r.value as u64);
-    say(b"\n");
-    Next::Took(4)
+// A register that the guest reads.
+fn read_register(rt: &impl Print, device: &Device, offset: u32) -> io::Result<()> {
+    let r = device.read(offset);
+    println!(rt; "read {} {}", r.answer, r.value)
 }
 
 // ---- running
 
-// The line of a run, or of an answer that runs on: its answer, the units and how it ended.
-fn say_ran(call: &[u8], r: Ran) {
-    say_answer(call, r.answer);
-    say_named(b" ", r.units as u64);
-    let ended = r.ended;
-    match ended {
-        Ended::Idle => say(b" idle\n"),
-        Ended::Waiting => say(b" waiting\n"),
-        Ended::Paused => say(b" paused\n"),
-    }
+// Takes the device of a run, or of an answer that runs on, and prints the line: its answer, the units and how it ended.
+fn take_ran(rt: &impl Print, device: &mut Device, call: &str, r: &Ran) -> io::Result<()> {
+    *device = r.device;
+    let ended = match r.ended {
+        Ended::Idle => "idle",
+        Ended::Waiting => "waiting",
+        Ended::Paused => "paused",
+    };
+    println!(rt; "{call} {} {} {ended}", r.answer, r.units)
 }
 
-// Runs over the memory given, and prints the line.
-fn run_over(device: Device, memory: &mut [u8], allowance: u16) -> Device {
+// A run over the memory that is lent.
+fn run(rt: &impl Print, device: &mut Device, memory: &mut [u8], allowance: u16) -> io::Result<()> {
     let r = device.run(memory, allowance);
-    say_ran(b"run", r);
-    r.device
-}
-
-fn run(device: Device, memory: &mut [u8], fields: &[u8]) -> Played {
-    if fields.len() < 2 {
-        return Played {
-            device,
-            next: Next::Cut,
-        };
-    }
-    let left = run_over(device, memory, u16_at(fields, 0));
-    Played {
-        device: left,
-        next: Next::Took(2),
-    }
-}
-
-// Runs over the first `n` bytes of the memory given.
-fn run_front(device: Device, memory: &mut [u8], n: usize, allowance: u16) -> Device
-    requires { n ≤ length memory.old }
-{
-    run_over(device, &mut memory[0..n], allowance)
-}
-
-// A run that is lent zeros of another length.
-fn run_elsewhere(device: Device, fields: &[u8]) -> Played {
-    if fields.len() < 6 {
-        return Played {
-            device,
-            next: Next::Cut,
-        };
-    }
-    let length = words::u32_at(fields, 2) as usize;
-    if length > LONGEST_MEMORY {
-        return Played {
-            device,
-            next: Next::Bad,
-        };
-    }
-    let mut memory = io::large_buffer();
-    let left = run_front(device, &mut memory, length, u16_at(fields, 0));
-    Played {
-        device: left,
-        next: Next::Took(6),
-    }
+    take_ran(rt, device, "run", &r)
 }
 
 // ---- the host
 
-fn record(device: Device, fields: &[u8]) -> Next {
-    if fields.len() < 4 {
-        return Next::Cut;
-    }
-    let h = device.record(words::u32_at(fields, 0));
-    let range = h.range;
-    say_answer(b"record", h.answer);
-    say_named(b" ", range.kind as u64);
-    say_named(b" ", range.handle as u64);
-    say_named(b" ", range.id as u64);
-    say_named(b" ", range.gpa);
-    say_named(b" ", range.length);
-    say(b"\n");
-    Next::Took(4)
+// A record that the host asks for.
+fn record(rt: &impl Print, device: &Device, index: u32) -> io::Result<()> {
+    let h = device.record(index);
+    let r = h.range;
+    println!(rt;
+        "record {} {} {} {} {} {}",
+        h.answer, r.kind, r.handle, r.id, r.gpa, r.length
+    )
 }
 
-// Answers over the memory given and runs on, and prints the line.
-fn answer_over(device: Device, memory: &mut [u8], told: u8, allowance: u16) -> Device {
-    let r = device.answer(memory, told == 1, allowance);
-    say_ran(b"answer", r);
-    r.device
+// The host's answer, over the memory that is lent.
+fn answer(
+    rt: &impl Print,
+    device: &mut Device,
+    memory: &mut [u8],
+    is_good: bool,
+    allowance: u16,
+) -> io::Result<()> {
+    let r = device.answer(memory, is_good, allowance);
+    take_ran(rt, device, "answer", &r)
 }
 
-fn answer(device: Device, memory: &mut [u8], fields: &[u8]) -> Played {
-    if fields.len() < 3 {
-        return Played {
-            device,
-            next: Next::Cut,
-        };
-    }
-    let left = answer_over(device, memory, fields[0], u16_at(fields, 1));
-    Played {
-        device: left,
-        next: Next::Took(3),
-    }
+// ---- saved desks (02, wishes 1 and 11)
+
+// The line of what was written: the answer, the length, and the hash of the whole buffer.
+fn say_written(rt: &impl Print, call: &str, r: FileSaved, buffer: &[u8]) -> io::Result<()> {
+    println!(rt; "{call} {} {} {}", r.answer, r.length, hash(buffer))
 }
 
-// Answers over the first `n` bytes of the memory given.
-fn answer_front(device: Device, memory: &mut [u8], n: usize, told: u8, allowance: u16) -> Device
-    requires { n ≤ length memory.old }
-{
-    answer_over(device, &mut memory[0..n], told, allowance)
+// A save in this form into a buffer of so many bytes.
+fn save(
+    rt: &(impl Print + AllocGlobal),
+    device: &Device,
+    form: Form,
+    length: usize,
+) -> io::Result<()> {
+    let mut buffer = vec![in rt.alloc(); FILLED; length]?;
+    let r = device.save(form, buffer.as_mut_slice());
+    say_written(rt, "save", r, buffer.as_slice())
 }
 
-// An answer that is lent zeros of another length.
-fn answer_elsewhere(device: Device, fields: &[u8]) -> Played {
-    if fields.len() < 7 {
-        return Played {
-            device,
-            next: Next::Cut,
-        };
-    }
-    let length = words::u32_at(fields, 3) as usize;
-    if length > LONGEST_MEMORY {
-        return Played {
-            device,
-            next: Next::Bad,
-        };
-    }
-    let mut memory = io::large_buffer();
-    let left = answer_front(device, &mut memory, length, fields[0], u16_at(fields, 1));
-    Played {
-        device: left,
-        next: Next::Took(7),
-    }
+// A load of a file: the answer and the place.
+fn load(rt: &impl Print, device: &mut Device, file: &[u8]) -> io::Result<()> {
+    let r = device.load(file);
+    *device = r.device;
+    println!(rt; "load {} {}", r.answer, r.place)
+}
+
+// A move of a file to the other form, into a buffer of so many bytes.
+fn move_file(rt: &(impl Print + AllocGlobal), file: &[u8], length: usize) -> io::Result<()> {
+    let mut buffer = vec![in rt.alloc(); FILLED; length]?;
+    let r = move_form(file, buffer.as_mut_slice());
+    say_written(rt, "move", r, buffer.as_slice())
 }
 
 // ---- all
 
-// The calls that take no memory and change no device, and the tags that are none.
-fn look(tag: u8, device: Device, memory: &[u8], fields: &[u8]) -> Next {
-    match tag {
-        READ => read_register(device, fields),
-        SAVE => save(device, Form::One, fields),
-        SAVE_FORM_2 => save(device, Form::Two, fields),
-        MOVE => move_file(fields),
-        RECORD => record(device, fields),
-        STATE => {
-            say_state(device, memory);
-            Next::Took(0)
+// Does an operation on the device and the memory that it is lent, and prints its line.
+pub fn operate(
+    rt: &(impl Print + AllocGlobal),
+    operation: Operation<'_>,
+    device: &mut Device,
+    memory: &mut [u8],
+) -> io::Result<()> {
+    match operation {
+        Operation::Poke { address, bytes } => poke(rt, memory, address, bytes),
+        Operation::Write { offset, value } => write_register(rt, device, offset, value),
+        Operation::Read { offset } => read_register(rt, device, offset),
+        Operation::Run { allowance } => run(rt, device, memory, allowance),
+        Operation::Record { index } => record(rt, device, index),
+        Operation::Answer { is_good, allowance } => answer(rt, device, memory, is_good, allowance),
+        Operation::State => println!(rt; "{}", State { device, memory }),
+        Operation::RunElsewhere { allowance, length } => {
+            let mut zeros = vec![in rt.alloc(); 0u8; length]?;
+            run(rt, device, zeros.as_mut_slice(), allowance)
         }
-        _ => Next::Unknown(tag),
-    }
-}
-
-// The operation of this tag, whose fields stand at the front of what is lent.
-pub fn operation(tag: u8, device: Device, memory: &mut [u8], fields: &[u8]) -> Played {
-    match tag {
-        POKE => Played {
-            device,
-            next: poke(memory, fields),
-        },
-        WRITE => write_register(device, fields),
-        RUN => run(device, memory, fields),
-        ANSWER => answer(device, memory, fields),
-        RUN_ELSEWHERE => run_elsewhere(device, fields),
-        ANSWER_ELSEWHERE => answer_elsewhere(device, fields),
-        LOAD => load(device, fields),
-        _ => Played {
-            device,
-            next: look(tag, device, memory, fields),
-        },
+        Operation::AnswerElsewhere {
+            is_good,
+            allowance,
+            length,
+        } => {
+            let mut zeros = vec![in rt.alloc(); 0u8; length]?;
+            answer(rt, device, zeros.as_mut_slice(), is_good, allowance)
+        }
+        Operation::Save { form, length } => save(rt, device, form, length),
+        Operation::Load { file } => load(rt, device, file),
+        Operation::Move { file, length } => move_file(rt, file, length),
     }
 }

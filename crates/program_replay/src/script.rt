@@ -1,80 +1,298 @@
-// The desk script, version 2: its head, its limits, the fields of an operation, and how playing one may end.
-// An operation is lent what stands after its tag, and says how much of that it took.
-ghost use Rattle.std.specs.Prelude.{◌≡◌, ◌+◌, ◌<◌, ◌≤◌, length};
+// The desk script, version 2: its head, its limits, its operations with their fields, and why playing one may end.
+ghost use Rattle.std.specs.Prelude.{◌≡◌, ◌+◌, ◌++◌, ◌<◌, ◌≤◌, length, OnOk, OnErr, IfOk, Some};
+ghost use Rattle.std.specs.Iterator.{at_most};
+ghost use Rattle.program_replay.specs.ScriptError.{last_line};
+
+use rules::Form;
+use std::fmt;
 
 // The bytes "DSK2".
-pub const MAGIC: u32 = 843797316;
+const MAGIC: u32 = 843797316;
 
-// Magic and memory length: from so many bytes on the magic is judged.
-pub const FRONT: usize = 8;
-
-// The whole head: one word more, which says which wishes the writer knew; nobody asks for it.
-pub const HEAD: usize = 12;
-
+// The most bytes of a script.
 pub const LONGEST_SCRIPT: usize = 1048576;
 
-pub const LONGEST_MEMORY: usize = 65536;
-
-// ---- tags
-
-pub const POKE: u8 = 1;
-
-pub const WRITE: u8 = 2;
-
-pub const READ: u8 = 3;
-
-pub const RUN: u8 = 4;
-
-pub const RECORD: u8 = 5;
-
-pub const ANSWER: u8 = 6;
-
-pub const STATE: u8 = 7;
-
-pub const RUN_ELSEWHERE: u8 = 8;
-
-pub const ANSWER_ELSEWHERE: u8 = 9;
-
-pub const SAVE: u8 = 10;
-
-pub const LOAD: u8 = 11;
-
-pub const SAVE_FORM_2: u8 = 12;
-
-pub const MOVE: u8 = 13;
+// The most bytes of a memory, and of a buffer that a desk is saved into.
+const LONGEST_MEMORY: u32 = 65536;
 
 // ---- operations
 
-// How an operation went: played, with the bytes taken after its tag; or the script ends here.
+// An operation of a script, with its fields.
 #[derive(Clone, Copy)]
-pub enum Next {
-    Took(usize),
-    Cut,
-    Bad,
-    Unknown(u8),
+pub enum Operation<'a> {
+    Poke {
+        address: usize,
+        bytes: &'a [u8],
+    },
+    Write {
+        offset: u32,
+        value: u32,
+    },
+    Read {
+        offset: u32,
+    },
+    Run {
+        allowance: u16,
+    },
+    Record {
+        index: u32,
+    },
+    Answer {
+        is_good: bool,
+        allowance: u16,
+    },
+    State,
+    // a run, and an answer, that are lent zeros of another length
+    RunElsewhere {
+        allowance: u16,
+        length: usize,
+    },
+    AnswerElsewhere {
+        is_good: bool,
+        allowance: u16,
+        length: usize,
+    },
+    Save {
+        form: Form,
+        length: usize,
+    },
+    Load {
+        file: &'a [u8],
+    },
+    Move {
+        file: &'a [u8],
+        length: usize,
+    },
 }
 
-// The number of a byte, known to be one.
-fn wide16(b: u8) -> u16
-    ensures { (result ≡ b) × (result < 256) }
-{
-    b as u16
+// Why a script cannot be played on.
+#[derive(Clone, Copy)]
+pub enum ScriptError {
+    Truncated,
+    BadScript,
+    UnknownTag(u8),
 }
 
-// Reads a field of two bytes.
-pub fn u16_at(fields: &[u8], at: usize) -> u16
-    requires { at + 2 ≤ length fields.now }
-{
-    wide16(fields[at]) | (wide16(fields[at + 1]) << 8)
-}
+impl fmt::Display for ScriptError {
+    ghost output = { λ e. Some (last_line e) };
 
-// Where the next operation stands, after one at `at` that took so many bytes; never past the end.
-pub fn after(at: usize, took: usize, end: usize) -> usize
-    requires { at < end }
-    ensures { (at < result) × (result ≤ end) }
-{
-    if took > end - at - 1 {
-        return end;
+    fn fmt<W: fmt::Write>(&self, f: &mut fmt::Formatter<W>) -> fmt::Result {
+        match self {
+            ScriptError::Truncated => write!(f, "truncated"),
+            ScriptError::BadScript => write!(f, "bad script"),
+            ScriptError::UnknownTag(tag) => write!(f, "unknown tag {tag}"),
+        }
     }
-    at + 1 + took
+}
+
+// ---- fields
+
+// A length of memory that a script gives, if it is not too long.
+fn judged(n: u32) -> Result<usize, ScriptError>
+    ensures ok { OnOk result (n ≤ LONGEST_MEMORY) }
+    ensures value { IfOk result (λ size. size ≡ n) }
+    ensures err { OnErr result (LONGEST_MEMORY < n) }
+{
+    if n > LONGEST_MEMORY {
+        return Err(ScriptError::BadScript);
+    }
+    Ok(n as usize)
+}
+
+// What is left of a script. As an iterator it gives the operations in order. One that cannot be read ends the play: what stands behind it
+// would be read as if it began there.
+#[derive(Clone, Copy)]
+pub struct Script<'a> {
+    rest: &'a [u8],
+}
+
+impl<'a> Script<'a> {
+    // What stands behind the head of a script, and how long the memory is that its device is made for. Magic and memory length are read before
+    // the magic is judged, and the whole head before the length is: its last word says which wishes the writer knew, and nobody asks for it.
+    pub fn open(bytes: &'a [u8]) -> Result<(Script<'a>, usize), ScriptError>
+        ensures { IfOk result (λ opened. opened.1 ≤ LONGEST_MEMORY) }
+    {
+        if bytes.len() > LONGEST_SCRIPT {
+            return Err(ScriptError::BadScript);
+        }
+        let mut script = Script { rest: bytes };
+        let magic = script.word()?;
+        let length = script.word()?;
+        if magic != MAGIC {
+            return Err(ScriptError::BadScript);
+        }
+        script.word()?;
+        Ok((script, judged(length)?))
+    }
+
+    // The next bytes, so many.
+    fn bytes(&mut self, n: usize) -> Result<&'a [u8], ScriptError>
+        ensures ok { IfOk result (λ bytes. bytes.now ++ self.new.rest.now ≡ self.old.rest.now) }
+        ensures long { IfOk result (λ bytes. length bytes.now ≡ n) }
+        ensures err { OnErr result (self.new.rest.now ≡ self.old.rest.now) }
+    {
+        let (bytes, rest) = self.rest.split_at_checked(n).ok_or(ScriptError::Truncated)?;
+        self.rest = rest;
+        Ok(bytes)
+    }
+
+    // The next bytes of a number.
+    fn chunk<const N: usize>(&mut self) -> Result<[u8; N], ScriptError>
+        ensures ok { IfOk result (λ bytes. bytes ++ self.new.rest.now ≡ self.old.rest.now) }
+        ensures left { OnOk result (length self.new.rest.now + N ≡ length self.old.rest.now) }
+        ensures err { OnErr result (self.new.rest.now ≡ self.old.rest.now) }
+    {
+        let (bytes, rest) = self
+            .rest
+            .split_first_chunk::<N>()
+            .ok_or(ScriptError::Truncated)?;
+        self.rest = rest;
+        Ok(*bytes)
+    }
+
+    // The next number of one byte.
+    fn byte(&mut self) -> Result<u8, ScriptError>
+        ensures { length self.new.rest.now ≤ length self.old.rest.now }
+    {
+        Ok(u8::from_le_bytes(self.chunk()?))
+    }
+
+    // The next number of two bytes.
+    fn half(&mut self) -> Result<u16, ScriptError>
+        ensures { length self.new.rest.now ≤ length self.old.rest.now }
+    {
+        Ok(u16::from_le_bytes(self.chunk()?))
+    }
+
+    // The next number of four bytes.
+    fn word(&mut self) -> Result<u32, ScriptError>
+        ensures { length self.new.rest.now ≤ length self.old.rest.now }
+    {
+        Ok(u32::from_le_bytes(self.chunk()?))
+    }
+
+    // The next bytes, with their number before them.
+    fn counted(&mut self) -> Result<&'a [u8], ScriptError>
+        ensures { length self.new.rest.now ≤ length self.old.rest.now }
+    {
+        let n = self.word()?;
+        self.bytes(n as usize)
+    }
+
+    // A poke's place and bytes.
+    fn poke(&mut self) -> Result<Operation<'a>, ScriptError>
+        ensures { length self.new.rest.now ≤ length self.old.rest.now }
+    {
+        let address = self.word()? as usize;
+        let bytes = self.counted()?;
+        Ok(Operation::Poke { address, bytes })
+    }
+
+    // A write's register and value.
+    fn write(&mut self) -> Result<Operation<'a>, ScriptError>
+        ensures { length self.new.rest.now ≤ length self.old.rest.now }
+    {
+        let offset = self.word()?;
+        let value = self.word()?;
+        Ok(Operation::Write { offset, value })
+    }
+
+    // Whether the host's answer is good, and what it may run on.
+    fn answer(&mut self) -> Result<(bool, u16), ScriptError>
+        ensures { length self.new.rest.now ≤ length self.old.rest.now }
+    {
+        let is_good = self.byte()? == 1;
+        let allowance = self.half()?;
+        Ok((is_good, allowance))
+    }
+
+    // The length of a memory or a buffer.
+    fn length(&mut self) -> Result<usize, ScriptError>
+        ensures { length self.new.rest.now ≤ length self.old.rest.now }
+    {
+        let length = self.word()?;
+        judged(length)
+    }
+
+    // A move's buffer and file; the file is read before the length is judged.
+    fn movement(&mut self) -> Result<Operation<'a>, ScriptError>
+        ensures { length self.new.rest.now ≤ length self.old.rest.now }
+    {
+        let length = self.word()?;
+        let file = self.counted()?;
+        let length = judged(length)?;
+        Ok(Operation::Move { file, length })
+    }
+
+    // The operation of a tag from 8 on: one that is lent memory of its own, or is about a saved desk.
+    fn later_operation(&mut self, tag: u8) -> Result<Operation<'a>, ScriptError>
+        ensures { length self.new.rest.now ≤ length self.old.rest.now }
+    {
+        match tag {
+            8 => {
+                let allowance = self.half()?;
+                let length = self.length()?;
+                Ok(Operation::RunElsewhere { allowance, length })
+            }
+            9 => {
+                let (is_good, allowance) = self.answer()?;
+                let length = self.length()?;
+                Ok(Operation::AnswerElsewhere {
+                    is_good,
+                    allowance,
+                    length,
+                })
+            }
+            10 => Ok(Operation::Save {
+                form: Form::One,
+                length: self.length()?,
+            }),
+            11 => Ok(Operation::Load {
+                file: self.counted()?,
+            }),
+            12 => Ok(Operation::Save {
+                form: Form::Two,
+                length: self.length()?,
+            }),
+            13 => self.movement(),
+            _ => Err(ScriptError::UnknownTag(tag)),
+        }
+    }
+
+    // The operation of this tag, with the fields that stand next.
+    fn operation(&mut self, tag: u8) -> Result<Operation<'a>, ScriptError>
+        ensures { length self.new.rest.now ≤ length self.old.rest.now }
+    {
+        match tag {
+            1 => self.poke(),
+            2 => self.write(),
+            3 => Ok(Operation::Read {
+                offset: self.word()?,
+            }),
+            4 => Ok(Operation::Run {
+                allowance: self.half()?,
+            }),
+            5 => Ok(Operation::Record {
+                index: self.word()?,
+            }),
+            6 => {
+                let (is_good, allowance) = self.answer()?;
+                Ok(Operation::Answer { is_good, allowance })
+            }
+            7 => Ok(Operation::State),
+            _ => self.later_operation(tag),
+        }
+    }
+}
+
+impl<'a> Iterator for Script<'a> {
+    type Item = Result<Operation<'a>, ScriptError>;
+
+    ghost remaining = { λ s. at_most (length s.rest.now) };
+
+    fn next(&mut self) -> Option<Result<Operation<'a>, ScriptError>> {
+        let (tag, rest) = self.rest.split_first()?;
+        self.rest = rest;
+        Some(self.operation(*tag))
+    }
 }

@@ -1,9 +1,0 @@
--- `say_offsets` meets its contract. Assumes nothing.
-use Rattle.std.proofs.Common.{◌-◌, ◌≤◌}
-use Rattle.program_diff.proofs.say_offsets.Given as goal
-
-abbrev pub invariant-loop-k : goal.invariant-loop-k
-invariant-loop-k l = l.k ≤ 65536
-
-abbrev pub decreases-loop-k : goal.decreases-loop-k
-decreases-loop-k l = 65536 - l.k

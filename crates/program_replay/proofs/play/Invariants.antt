@@ -1,9 +1,0 @@
--- `replay::play` is safe and ends: each operation leaves less of the script. No byte of memory is added or lost. Assumes nothing.
-use Rattle.std.proofs.Common.{◌≡◌, ◌-◌, length}
-use Rattle.program_replay.proofs.play.Given as goal
-
-abbrev pub invariant-loop-at : goal.invariant-loop-at
-invariant-loop-at l = length l.memory ≡ length l.initial.memory
-
-abbrev pub decreases-loop-at : goal.decreases-loop-at
-decreases-loop-at l = length l.script - l.at
