@@ -1,5 +1,5 @@
 -- The calls that are lent no guest memory: what their code asks. Assumes nothing.
-use Rattle.std.specs.Prelude.{◌≡◌, refl, ℕ, zero, suc, ◌+◌, ◌≤◌, ◌<◌, length, get_or, set}
+use Rattle.std.specs.Prelude.{◌≡◌, refl, ℕ, zero, suc, ◌+◌, ◌≤◌, ◌<◌, length, get_or, set, None, Option, Some}
 use Rattle.std.proofs.Math.Path.{sym}
 use Rattle.std.proofs.Common.{◌∙◌, add-zero, suc-add, add-suc, arith, rules}
 use mathlib.Core.List.{List, []}
@@ -13,8 +13,6 @@ use Rattle.rules.specs.State.Work.{waiting}
 use Rattle.rules.specs.Calls.{valued, call_read, handed_out, call_record}
 use Rattle.rules.specs.declared.Record.{Record}
 use Rattle.registers.specs.Map.{shown}
-use Rattle.registers.specs.declared.Shown.{Shown}
-use Rattle.registers.specs.declared.Shown.TheVariants.{Value, NoRegister as NoShown}
 use Rattle.rows.specs.Rows.{row_at, table, tab}
 use Rattle.kept_resources.specs.Views.{record_of, records_of}
 use Rattle.run_state.specs.Views.{count_in, registers_in, tag_in, world_in, rested, state_in, side_in, token_side_in}
@@ -43,20 +41,20 @@ pub ruleset making = (makes, rules)
 
 -- ---- read
 
-shown-none : (f : Found ReadAt) → shown f ≡ NoShown → valued f ≡ record { answer = no_register; value = 0 }
+shown-none : (f : Found ReadAt) → shown f ≡ None → valued f ≡ record { answer = no_register; value = 0 }
 shown-none none e = refl
 shown-none (found x) e = absurd (let z : ◌≡◌ {A = ℕ} 0 1 = cc in omega arith)
 
-shown-value : (f : Found ReadAt) (v : ℕ) → shown f ≡ Value v → valued f ≡ record { answer = done; value = v }
+shown-value : (f : Found ReadAt) (v : ℕ) → shown f ≡ Some v → valued f ≡ record { answer = done; value = v }
 shown-value none v e = absurd (let z : ◌≡◌ {A = ℕ} 0 1 = cc in omega arith)
 shown-value (found x) v e = let same : x.value ≡ v = cc in rw same
 
-module _ (s : List ℕ) (offset : ℕ) (x : Shown) (is : x ≡ shown (register (registers_in s) offset)) where
-  pub reads_none : x ≡ NoShown → Reads s offset (record { answer = no_register; value = 0 })
+module _ (s : List ℕ) (offset : ℕ) (x : Option ℕ) (is : x ≡ shown (register (registers_in s) offset)) where
+  pub reads_none : x ≡ None → Reads s offset (record { answer = no_register; value = 0 })
   unfolding call_read world_in
   reads_none q = record { value = λ e a b ft st c. sym (shown-none (register (registers_in s) offset) (sym is ∙ q)) }
 
-  pub reads-value : (v : ℕ) → x ≡ Value v → Reads s offset (record { answer = done; value = v })
+  pub reads-value : (v : ℕ) → x ≡ Some v → Reads s offset (record { answer = done; value = v })
   unfolding call_read world_in
   reads-value v q = record { value = λ e a b ft st c. sym (shown-value (register (registers_in s) offset) v (sym is ∙ q)) }
 

@@ -6,7 +6,7 @@ ghost use Rattle.std.specs.Prelude.{◌≡◌};
 ghost use Rattle.device_calls.specs.Views.{no_record_read, Makes, Reads, GivesRecord};
 
 use kept_records::{Records, record_row};
-use registers::Shown;
+use registers::Option<u32>;
 use rules::Record;
 use rules::numbers::{DONE, NO_RECORD, NO_REGISTER};
 use run_state::{
@@ -62,11 +62,11 @@ pub fn read(words: &Words, offset: u32) -> ValueRead
     ensures { Reads words.now offset result }
 {
     match registers::read(words, offset) {
-        Shown::NoRegister => ValueRead {
+        None => ValueRead {
             answer: NO_REGISTER,
             value: 0,
         },
-        Shown::Value(value) => ValueRead {
+        Some(value) => ValueRead {
             answer: DONE,
             value,
         },

@@ -1,13 +1,12 @@
 -- What the functions of this crate ask for: a law for each way to a return, with the tests on the way as its premises.
 -- Assumes nothing.
-use Rattle.std.specs.Prelude.{◌≡◌, refl, ℕ, ◌+◌, ◌*◌, ◌≤◌, get_or}
+use Rattle.std.specs.Prelude.{◌≡◌, refl, ℕ, ◌+◌, ◌*◌, ◌≤◌, get_or, None, Some}
 use Rattle.std.proofs.Common.{sym, rules, eq-eqb, ne_eqb}
 use mathlib.Core.List.{List, [], ◌∷◌}
 use Rattle.rules.specs.Lists.{lookup}
 use Rattle.rules.specs.Lists.Found.{none}
 use Rattle.rules.specs.Registers.{bit, status, read_offset, readable, register}
 use Rattle.rules.specs.declared.Registers.{Registers}
-use Rattle.registers.specs.declared.Shown.TheVariants.{Value, NoRegister as shows-none}
 use Rattle.run_state.specs.Views.{set_in, registers_in}
 use Rattle.registers.specs.Map.{shown}
 
@@ -34,14 +33,14 @@ module _ {A : Type 0} (key : A → ℕ) (k : ℕ) where
 
 module _ (r : Registers) (offset : ℕ) where
   -- an arm of the match
-  pub shows-at : (k v : ℕ) → offset ≡ k → Value v ≡ shown (register r k) → Value v ≡ shown (register r offset)
+  pub shows-at : (k v : ℕ) → offset ≡ k → Some v ≡ shown (register r k) → Some v ≡ shown (register r offset)
   shows-at k v e h = rw e h
 
-  pub shows_nothing : Misses (Unit {0}) (keys read_offset offset (readable r)) offset → shows-none ≡ shown (register r offset)
+  pub shows_nothing : Misses (Unit {0}) (keys read_offset offset (readable r)) offset → None ≡ shown (register r offset)
   unfolding register
   shows_nothing p = rw (missed read_offset offset (Unit {0}) (readable r) p).1
 
-pub same-value : (v w : ℕ) → v ≡ w → Value v ≡ Value w
+pub same-value : (v w : ℕ) → v ≡ w → Some v ≡ Some w
 same-value v w e = rw e
 
 pub ruleset reading = (shows-at, shows_nothing, same-value, rules)

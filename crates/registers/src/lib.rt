@@ -18,13 +18,6 @@ use words::low32;
 // A number of eight bytes is read and written by halves of four.
 pub const HALF: u64 = 4294967296;
 
-// What a read shows.
-#[derive(Clone, Copy)]
-pub enum Shown {
-    Value(u32),
-    NoRegister,
-}
-
 // The upper half of a number of eight bytes.
 pub fn high(x: u64) -> u32
     ensures { result ≡ high_of x }
@@ -47,29 +40,29 @@ pub fn status(words: &Words) -> u32
 }
 
 // The register at an offset.
-pub fn read(words: &Words, offset: u32) -> Shown
+pub fn read(words: &Words, offset: u32) -> Option<u32>
     ensures { result ≡ shown (register (registers_in words.now) offset) }
 {
     match offset {
-        offsets::MAGIC => Shown::Value(DEVICE_MAGIC),
-        offsets::VERSION => Shown::Value(VERSION),
-        offsets::FEATURES_LOW => Shown::Value(FEATURES),
-        offsets::FEATURES_HIGH => Shown::Value(0),
-        offsets::RING_LOW => Shown::Value(low32(words[RING])),
-        offsets::RING_HIGH => Shown::Value(high(words[RING])),
-        offsets::RING_SIZE => Shown::Value(low32(words[RING_SIZE])),
-        offsets::CONTROL => Shown::Value(bit(words[ENABLED])),
-        offsets::PAGE_LOW => Shown::Value(low32(words[FENCE_PAGE])),
-        offsets::PAGE_HIGH => Shown::Value(high(words[FENCE_PAGE])),
-        offsets::COMPLETED_LOW => Shown::Value(low32(words[COMPLETED])),
-        offsets::COMPLETED_HIGH => Shown::Value(high(words[COMPLETED])),
-        offsets::IRQ_STATUS => Shown::Value(status(words)),
-        offsets::IRQ_ENABLE => Shown::Value(low32(words[IRQ_ENABLE])),
-        offsets::ERROR_CODE => Shown::Value(low32(words[ERROR_CODE])),
-        offsets::ERROR_FENCE_LOW => Shown::Value(low32(words[ERROR_FENCE])),
-        offsets::ERROR_FENCE_HIGH => Shown::Value(high(words[ERROR_FENCE])),
-        offsets::ERROR_COUNT => Shown::Value(low32(words[ERROR_COUNT])),
-        offsets::ERROR_DETAIL => Shown::Value(low32(words[ERROR_DETAIL])),
-        _ => Shown::NoRegister,
+        offsets::MAGIC => Some(DEVICE_MAGIC),
+        offsets::VERSION => Some(VERSION),
+        offsets::FEATURES_LOW => Some(FEATURES),
+        offsets::FEATURES_HIGH => Some(0),
+        offsets::RING_LOW => Some(low32(words[RING])),
+        offsets::RING_HIGH => Some(high(words[RING])),
+        offsets::RING_SIZE => Some(low32(words[RING_SIZE])),
+        offsets::CONTROL => Some(bit(words[ENABLED])),
+        offsets::PAGE_LOW => Some(low32(words[FENCE_PAGE])),
+        offsets::PAGE_HIGH => Some(high(words[FENCE_PAGE])),
+        offsets::COMPLETED_LOW => Some(low32(words[COMPLETED])),
+        offsets::COMPLETED_HIGH => Some(high(words[COMPLETED])),
+        offsets::IRQ_STATUS => Some(status(words)),
+        offsets::IRQ_ENABLE => Some(low32(words[IRQ_ENABLE])),
+        offsets::ERROR_CODE => Some(low32(words[ERROR_CODE])),
+        offsets::ERROR_FENCE_LOW => Some(low32(words[ERROR_FENCE])),
+        offsets::ERROR_FENCE_HIGH => Some(high(words[ERROR_FENCE])),
+        offsets::ERROR_COUNT => Some(low32(words[ERROR_COUNT])),
+        offsets::ERROR_DETAIL => Some(low32(words[ERROR_DETAIL])),
+        _ => None,
     }
 }

@@ -353,13 +353,6 @@ pub enum Form {
     Two,
 }
 
-// What is found of a file: it is good, or the first rule that it breaks is reported at this offset.
-#[derive(Clone, Copy)]
-pub enum FileCheck {
-    Good,
-    BadAt(u32),
-}
-
 // ---- What differs between two dumps (02, wish 8)
 
 // A stream that breaks a rule, and which of the two it is, 1 or 2.

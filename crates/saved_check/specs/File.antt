@@ -1,14 +1,12 @@
 -- A whole file: its sections, and what is found of them told from its first byte on. Assumes nothing.
-use Rattle.std.specs.Prelude.{◌≡◌, refl, Bool, List, [], ◌∷◌, ℕ, ◌+◌, ◌-◌, ◌≤◌, ◌<◌, length, take, drop}
+use Rattle.std.specs.Prelude.{◌≡◌, refl, Bool, List, [], ◌∷◌, ℕ, ◌+◌, ◌-◌, ◌≤◌, ◌<◌, length, take, drop, Err, Ok}
 use Rattle.std.proofs.Common.{sym, ap, subst, ◌∙◌, arith, rules, length-drop, take_all}
 use Rattle.std.proofs.Math.Bool.{true, false}
 use Rattle.machine.specs.Machine.{pick}
 use Rattle.rules.specs.Lists.{Found}
 use Rattle.rules.specs.Lists.Found.{none, found}
 use Rattle.rules.specs.Loaded.{Rule, first_broken, form_in, has_number, before_sections, sections, sections_rules, behind, file_rules, bad_place}
-use Rattle.rules.specs.declared.FileCheck.{FileCheck}
-use Rattle.rules.specs.declared.FileCheck.TheVariants.{Good, BadAt}
-use Rattle.saved_fields.specs.Judging.{checked, judged-first}
+use Rattle.saved_fields.specs.Judging.{checked, judged-first, FileCheck}
 use Rattle.rules.specs.declared.Form.{Form}
 use Rattle.saved_check.specs.Near.{Near, near-sections}
 
@@ -33,10 +31,10 @@ unfolding bad_place file_rules
 in-sections b = first-behind (before_sections b) (sections_rules (form_in b) (sections b))
 
 -- where the file is good, so are its sections
-pub sections-good : (b : List ℕ) → checked (bad_place b) ≡ Good → checked (first_broken (sections_rules (form_in b) (sections b))) ≡ Good
+pub sections-good : (b : List ℕ) → checked (bad_place b) ≡ Ok tt → checked (first_broken (sections_rules (form_in b) (sections b))) ≡ Ok tt
 sections-good b e = by (first_broken (sections_rules (form_in b) (sections b))) (ap checked (sym (in-sections b)) ∙ e)
   where
-    by : (x : Found ℕ) → checked (moved (before_sections b) x) ≡ Good → checked x ≡ Good
+    by : (x : Found ℕ) → checked (moved (before_sections b) x) ≡ Ok tt → checked x ≡ Ok tt
     by none h = refl
     by (found place) h = cc
 
@@ -67,12 +65,12 @@ module _ (b : List ℕ) (n : ℕ) (f : Form) (c : FileCheck) (before : n ≡ bef
       by none = refl
       by (found place) =
           let same : place ≡ n + place = omega arith in
-          ap BadAt same
+          ap Err same
 
-  pub good-behind : c ≡ Good → c ≡ checked (bad_place b)
+  pub good-behind : c ≡ Ok tt → c ≡ checked (bad_place b)
   good-behind e = by broken (sym told ∙ e) ∙ whole
     where
-      by : (x : Found ℕ) → checked x ≡ Good → c ≡ checked (moved n x)
+      by : (x : Found ℕ) → checked x ≡ Ok tt → c ≡ checked (moved n x)
       by none h = e
       by (found place) h = cc
 
@@ -85,16 +83,16 @@ module _ (b : List ℕ) (n : ℕ) (f : Form) (c : FileCheck) (before : n ≡ bef
       by true h = h
       by false h = absurd (some h)
 
-  module _ (p : ℕ) (bad : c ≡ BadAt p) where
-    pub bad-behind : (n ≡ 0 → ⊥) → BadAt (p + 4) ≡ checked (bad_place b)
+  module _ (p : ℕ) (bad : c ≡ Err p) where
+    pub bad-behind : (n ≡ 0 → ⊥) → Err (p + 4) ≡ checked (bad_place b)
     bad-behind some = by broken (sym told ∙ bad) ∙ whole
       where
-        by : (x : Found ℕ) → checked x ≡ BadAt p → BadAt (p + 4) ≡ checked (moved n x)
+        by : (x : Found ℕ) → checked x ≡ Err p → Err (p + 4) ≡ checked (moved n x)
         by none h = cc
         by (found place) h =
             let same : place ≡ p = cc in
             let here : p + 4 ≡ n + place = omega (arith, four some) in
-            ap BadAt here
+            ap Err here
 
     near : p ≤ 6760
     near = subst Near (judged-first (sections_rules (form_in b) (sections b)) ∙ (sym told ∙ bad)) (near-sections (form_in b) (sections b))

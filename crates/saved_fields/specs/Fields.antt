@@ -1,11 +1,9 @@
 -- What the reading and the judging of a field ask: a law for each end. Assumes nothing.
-use Rattle.std.specs.Prelude.{◌≡◌, Bool, true, false, not, List, ℕ, ◌+◌, ◌≤◌, ◌<◌, eqb, leb, length}
+use Rattle.std.specs.Prelude.{◌≡◌, Bool, true, false, not, List, ℕ, ◌+◌, ◌≤◌, ◌<◌, eqb, leb, length, Err, Ok}
 use Rattle.std.proofs.Common.{sym, ap, ◌∙◌, arith, rules, lt-ltb, le-ltb}
 use Rattle.rules.specs.Layouts.{word}
 use Rattle.rules.specs.Loaded.{must}
-use Rattle.rules.specs.declared.FileCheck.{FileCheck}
-use Rattle.rules.specs.declared.FileCheck.TheVariants.{Good, BadAt}
-use Rattle.saved_fields.specs.Judging.{rule, ends, judge_rule, seen, same-rule, seen-there}
+use Rattle.saved_fields.specs.Judging.{rule, ends, judge_rule, seen, same-rule, seen-there, FileCheck}
 
 -- ---- field_at
 
@@ -21,15 +19,15 @@ pub ruleset reading_field = (not_there, reads-field, rules)
 -- ---- must
 
 module _ (c : FileCheck) (bytes at : ℕ) (kept : Bool) where
-  module _ (good : c ≡ Good) (place : ℕ) (here : place ≡ at) where
-    pub is-missing : bytes < place + 4 → BadAt at ≡ judge_rule c (rule bytes at kept)
+  module _ (good : c ≡ Ok tt) (place : ℕ) (here : place ≡ at) where
+    pub is-missing : bytes < place + 4 → Err at ≡ judge_rule c (rule bytes at kept)
     is-missing h = rw (good, lt-ltb bytes (at + 4) (omega arith))
 
     module _ (there : place + 4 ≤ bytes) where
-      pub is-broken : not kept ≡ true → BadAt at ≡ judge_rule c (rule bytes at kept)
+      pub is-broken : not kept ≡ true → Err at ≡ judge_rule c (rule bytes at kept)
       is-broken h = rw (good, le-ltb bytes (at + 4) (omega arith), h)
 
-      pub is-kept : not kept ≡ false → Good ≡ judge_rule c (rule bytes at kept)
+      pub is-kept : not kept ≡ false → Ok tt ≡ judge_rule c (rule bytes at kept)
       is-kept h = rw (good, le-ltb bytes (at + 4) (omega arith), h)
 
 pub ruleset judging_field = (is-missing, is-broken, is-kept, rules)
@@ -51,11 +49,11 @@ pub ruleset asking_field = (asks-equal, asks-at-most, rules)
 
 -- ---- must_end
 
-module _ (c : FileCheck) (bytes end place : ℕ) (good : c ≡ Good) (here : place ≡ end) where
-  pub follows : place < bytes → BadAt end ≡ judge_rule c (ends bytes end)
+module _ (c : FileCheck) (bytes end place : ℕ) (good : c ≡ Ok tt) (here : place ≡ end) where
+  pub follows : place < bytes → Err end ≡ judge_rule c (ends bytes end)
   follows h = rw (good, lt-ltb end bytes (omega arith))
 
-  pub nothing-follows : bytes ≤ place → Good ≡ judge_rule c (ends bytes end)
+  pub nothing-follows : bytes ≤ place → Ok tt ≡ judge_rule c (ends bytes end)
   nothing-follows h = rw (good, le-ltb end bytes (omega arith))
 
 pub ruleset ending = (follows, nothing-follows, rules)

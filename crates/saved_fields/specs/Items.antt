@@ -1,14 +1,12 @@
 -- The rules of items that stand one after the other, each of so many bytes and each after the key of the one before it: what a loop over them asks,
 -- and what is known of each where all rules are kept. Assumes nothing.
-use Rattle.std.specs.Prelude.{◌≡◌, List, [], ◌++◌, ℕ, zero, suc, ◌+◌, ◌*◌, ◌-◌, ◌≤◌, ◌<◌}
+use Rattle.std.specs.Prelude.{◌≡◌, List, [], ◌++◌, ℕ, zero, suc, ◌+◌, ◌*◌, ◌-◌, ◌≤◌, ◌<◌, Ok}
 use Rattle.std.proofs.Math.Path.{sym}
 use Rattle.std.proofs.Common.{ap, subst, ◌∙◌, mul-suc, mul-zero}
 use Rattle.std.proofs.Math.Nat.{sub-zero}
 use native.Mathlib.Omega.{arith}
 use Rattle.rules.specs.Loaded.{Rule}
-use Rattle.rules.specs.declared.FileCheck.{FileCheck}
-use Rattle.rules.specs.declared.FileCheck.TheVariants.{Good}
-use Rattle.saved_fields.specs.Judging.{judge_rules, judged-append}
+use Rattle.saved_fields.specs.Judging.{judge_rules, judged-append, FileCheck}
 use Rattle.saved_fields.specs.Kept.{front-good, same_after}
 
 module _ (item : ℕ → ℕ → List Rule) (items : ℕ → ℕ → ℕ → List Rule) (key : ℕ → ℕ) (width : ℕ)
@@ -22,7 +20,7 @@ module _ (item : ℕ → ℕ → List Rule) (items : ℕ → ℕ → ℕ → Lis
 
     module _ (c : FileCheck) (i at before : ℕ) (inv : judge_rules c₀ (items n start 0) ≡ judge_rules c (items (n - i) at before)) where
       -- the key may be read wrong where the item breaks a rule
-      pub items-turn : (k : ℕ) (c' : FileCheck) → i < n → c' ≡ judge_rules c (item at before) → (c' ≡ Good → k ≡ key at)
+      pub items-turn : (k : ℕ) (c' : FileCheck) → i < n → c' ≡ judge_rules c (item at before) → (c' ≡ Ok tt → k ≡ key at)
           → judge_rules c₀ (items n start 0) ≡ judge_rules c' (items (n - (i + 1)) (at + width) k)
       items-turn k c' h e read =
           let m : ℕ = n - (i + 1) in
@@ -39,15 +37,15 @@ module _ (item : ℕ → ℕ → List Rule) (items : ℕ → ℕ → ℕ → Lis
 
   -- ---- all rules kept
 
-  pub next-kept : (n : ℕ) (c : FileCheck) (at before : ℕ) → judge_rules c (items (suc n) at before) ≡ Good
-      → (judge_rules c (item at before) ≡ Good) × (judge_rules (judge_rules c (item at before)) (items n (at + width) (key at)) ≡ Good)
+  pub next-kept : (n : ℕ) (c : FileCheck) (at before : ℕ) → judge_rules c (items (suc n) at before) ≡ Ok tt
+      → (judge_rules c (item at before) ≡ Ok tt) × (judge_rules (judge_rules c (item at before)) (items n (at + width) (key at)) ≡ Ok tt)
   next-kept n c at before e =
-      let all : judge_rules c (item at before ++ items n (at + width) (key at)) ≡ Good = ap (judge_rules c) (sym (step n at before)) ∙ e in
+      let all : judge_rules c (item at before ++ items n (at + width) (key at)) ≡ Ok tt = ap (judge_rules c) (sym (step n at before)) ∙ e in
       (front-good c (item at before) (items n (at + width) (key at)) all, sym (judged-append c (item at before) (items n (at + width) (key at))) ∙ all)
 
   -- all are there
-  pub reach : (bytes : ℕ) → ((c : FileCheck) (at before : ℕ) → judge_rules c (item at before) ≡ Good → at + width ≤ bytes)
-      → (n : ℕ) (c : FileCheck) (at before : ℕ) → at ≤ bytes → judge_rules c (items n at before) ≡ Good → at + width * n ≤ bytes
+  pub reach : (bytes : ℕ) → ((c : FileCheck) (at before : ℕ) → judge_rules c (item at before) ≡ Ok tt → at + width ≤ bytes)
+      → (n : ℕ) (c : FileCheck) (at before : ℕ) → at ≤ bytes → judge_rules c (items n at before) ≡ Ok tt → at + width * n ≤ bytes
   reach bytes asks zero c at before h e = omega (arith, mul-zero width)
   reach bytes asks (suc n) c at before h e =
       let both = next-kept n c at before e in
@@ -56,8 +54,8 @@ module _ (item : ℕ → ℕ → List Rule) (items : ℕ → ℕ → ℕ → Lis
       omega (arith, mul-suc width n)
 
   -- what the rules of an item say holds of each
-  pub each : (P : ℕ → Type 0) → ((c : FileCheck) (at before : ℕ) → judge_rules c (item at before) ≡ Good → P at)
-      → (n : ℕ) (c : FileCheck) (at before : ℕ) → judge_rules c (items n at before) ≡ Good → (i : ℕ) → i < n → P (at + width * i)
+  pub each : (P : ℕ → Type 0) → ((c : FileCheck) (at before : ℕ) → judge_rules c (item at before) ≡ Ok tt → P at)
+      → (n : ℕ) (c : FileCheck) (at before : ℕ) → judge_rules c (items n at before) ≡ Ok tt → (i : ℕ) → i < n → P (at + width * i)
   each P asks zero c at before e i h = absurd (omega arith)
   each P asks (suc n) c at before e zero h =
       let here : at ≡ at + width * 0 = omega (arith, mul-zero width) in

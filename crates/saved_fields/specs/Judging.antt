@@ -1,5 +1,5 @@
 -- Rules judged one after the other: the first that is broken is kept. Assumes nothing.
-use Rattle.std.specs.Prelude.{◌≡◌, refl, Bool, true, false, not, ◌&&◌, ◌||◌, List, [], ◌∷◌, ◌++◌, ℕ, ◌+◌, ◌*◌, ◌≤◌, ltb, eqb, length}
+use Rattle.std.specs.Prelude.{◌≡◌, refl, Bool, true, false, not, ◌&&◌, ◌||◌, List, [], ◌∷◌, ◌++◌, ℕ, ◌+◌, ◌*◌, ◌≤◌, ltb, eqb, length, ⊤, Result, Ok, Err}
 use Rattle.std.proofs.Common.{arith, ltb-false, le-ltb, eq-eqb, ne_eqb, eqb-true}
 use Rattle.std.proofs.lemmas.Bool.{eqb-false}
 use Rattle.machine.specs.Machine.{pick}
@@ -8,18 +8,20 @@ use Rattle.rules.specs.Lists.Found.{none, found}
 use Rattle.rules.specs.Layouts.{word, long}
 use Rattle.words.specs.Fields.{le-add}
 use Rattle.rules.specs.Loaded.{Rule, missing, first_broken}
-use Rattle.rules.specs.declared.FileCheck.{FileCheck}
-use Rattle.rules.specs.declared.FileCheck.TheVariants.{Good, BadAt}
 
--- what is found of a file, by the first rule that it breaks
+-- what is found of a file: it is good, or the first rule that it breaks is reported at this place
+abbrev pub FileCheck : Type 0
+FileCheck = Result ⊤ ℕ
+
+-- what is found of it, by the first rule that it breaks
 abbrev pub checked : Found ℕ → FileCheck
-checked none = Good
-checked (found place) = BadAt place
+checked none = Ok tt
+checked (found place) = Err place
 
 -- one rule more
 abbrev pub judge_rule : FileCheck → Rule → FileCheck
-judge_rule Good r = pick r.broken (BadAt r.place) Good
-judge_rule (BadAt place) r = BadAt place
+judge_rule (Ok _) r = pick r.broken (Err r.place) (Ok tt)
+judge_rule (Err place) r = Err place
 
 -- and some more, in their order
 unfoldable pub judge_rules : FileCheck → List Rule → FileCheck
@@ -40,17 +42,17 @@ seen b at = pick (missing b at) 0 (word b at)
 
 -- ---- laws
 
-pub once-bad : (place : ℕ) (rs : List Rule) → judge_rules (BadAt place) rs ≡ BadAt place
+pub once-bad : (place : ℕ) (rs : List Rule) → judge_rules (Err place) rs ≡ Err place
 unfolding judge_rules
 once-bad place [] = refl
 once-bad place (r ∷ rs) = once-bad place rs
 
-pub judged-first : (rs : List Rule) → judge_rules Good rs ≡ checked (first_broken rs)
+pub judged-first : (rs : List Rule) → judge_rules (Ok tt) rs ≡ checked (first_broken rs)
 unfolding judge_rules first_broken
 judged-first [] = refl
 judged-first (r ∷ rs) = by r.broken (judged-first rs)
   where
-    by : (v : Bool) → judge_rules Good rs ≡ checked (first_broken rs) → judge_rules (pick v (BadAt r.place) Good) rs ≡ checked (pick v (found r.place) (first_broken rs))
+    by : (v : Bool) → judge_rules (Ok tt) rs ≡ checked (first_broken rs) → judge_rules (pick v (Err r.place) (Ok tt)) rs ≡ checked (pick v (found r.place) (first_broken rs))
     by true later = once-bad r.place rs
     by false later = later
 

@@ -1,27 +1,25 @@
 -- Rules that are all kept: each of them is, and the fields that they ask for are there. Assumes nothing.
-use Rattle.std.specs.Prelude.{◌≡◌, refl, Bool, true, false, not, ◌||◌, List, ◌++◌, ℕ, ◌+◌, ◌≤◌, length}
+use Rattle.std.specs.Prelude.{◌≡◌, refl, Bool, true, false, not, ◌||◌, List, ◌++◌, ℕ, ◌+◌, ◌≤◌, length, Err, Ok}
 use Rattle.std.proofs.Common.{sym, ap, ◌∙◌, arith, ltb-false}
 use Rattle.std.proofs.lemmas.Bool.{not-false}
 use Rattle.machine.specs.Machine.{pick}
 use Rattle.rules.specs.Loaded.{Rule, must, missing}
-use Rattle.rules.specs.declared.FileCheck.{FileCheck}
-use Rattle.rules.specs.declared.FileCheck.TheVariants.{Good, BadAt}
-use Rattle.saved_fields.specs.Judging.{judge_rule, judge_rules, once-bad, judged-append}
+use Rattle.saved_fields.specs.Judging.{judge_rule, judge_rules, once-bad, judged-append, FileCheck}
 
-pub was-good : (c : FileCheck) (rs : List Rule) → judge_rules c rs ≡ Good → c ≡ Good
-was-good Good rs e = refl
-was-good (BadAt place) rs e = sym (once-bad place rs) ∙ e
+pub was-good : (c : FileCheck) (rs : List Rule) → judge_rules c rs ≡ Ok tt → c ≡ Ok tt
+was-good (Ok _) rs e = refl
+was-good (Err place) rs e = sym (once-bad place rs) ∙ e
 
-pub front-good : (c : FileCheck) (xs ys : List Rule) → judge_rules c (xs ++ ys) ≡ Good → judge_rules c xs ≡ Good
+pub front-good : (c : FileCheck) (xs ys : List Rule) → judge_rules c (xs ++ ys) ≡ Ok tt → judge_rules c xs ≡ Ok tt
 front-good c xs ys e = was-good (judge_rules c xs) ys (sym (judged-append c xs ys) ∙ e)
 
-pub kept : (c : FileCheck) (r : Rule) → judge_rule c r ≡ Good → r.broken ≡ false
-kept Good r e = by r.broken e
+pub kept : (c : FileCheck) (r : Rule) → judge_rule c r ≡ Ok tt → r.broken ≡ false
+kept (Ok _) r e = by r.broken e
   where
-    by : (v : Bool) → pick v (BadAt r.place) Good ≡ Good → v ≡ false
+    by : (v : Bool) → pick v (Err r.place) (Ok tt) ≡ Ok tt → v ≡ false
     by true e = cc
     by false e = refl
-kept (BadAt place) r e = cc
+kept (Err place) r e = cc
 
 -- a field that is not missing, and what is asked of it
 pub there : (b : List ℕ) (at : ℕ) (k : Bool) → missing b at || not k ≡ false → (at + 4 ≤ length b) × (k ≡ true)
@@ -32,10 +30,10 @@ there b at k = by (missing b at) refl
     by false g e = (ltb-false (length b) (at + 4) g, not-false k e)
 
 -- the same of a rule that is judged
-pub kept_there : (c : FileCheck) (b : List ℕ) (at : ℕ) (k : Bool) → judge_rule c (must b at k) ≡ Good → (at + 4 ≤ length b) × (k ≡ true)
+pub kept_there : (c : FileCheck) (b : List ℕ) (at : ℕ) (k : Bool) → judge_rule c (must b at k) ≡ Ok tt → (at + 4 ≤ length b) × (k ≡ true)
 kept_there c b at k e = there b at k (kept c (must b at k) e)
 
 -- rules that are the same where all before them are kept
-pub same_after : (c : FileCheck) (xs ys : List Rule) → (c ≡ Good → xs ≡ ys) → judge_rules c xs ≡ judge_rules c ys
-same_after Good xs ys e = ap (judge_rules Good) (e refl)
-same_after (BadAt place) xs ys e = once-bad place xs ∙ sym (once-bad place ys)
+pub same_after : (c : FileCheck) (xs ys : List Rule) → (c ≡ Ok tt → xs ≡ ys) → judge_rules c xs ≡ judge_rules c ys
+same_after (Ok _) xs ys e = ap (judge_rules (Ok tt)) (e refl)
+same_after (Err place) xs ys e = once-bad place xs ∙ sym (once-bad place ys)

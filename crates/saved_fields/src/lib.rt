@@ -6,7 +6,7 @@ ghost use Rattle.rules.specs.Layouts.{word};
 ghost use Rattle.rules.specs.Loaded.{must as must-hold, any};
 ghost use Rattle.saved_fields.specs.Judging.{rule, ends, judge_rule, seen};
 
-use rules::FileCheck;
+use rules::Result<(), u32>;
 use widths::u32_to_usize;
 use words::u32_at;
 
@@ -25,32 +25,25 @@ pub fn field_at(file: &[u8], at: u32) -> u32
 }
 
 // One rule more: the field at a place has to be there, and this has to hold.
-pub fn must(sofar: FileCheck, bytes: usize, at: u32, kept: bool) -> FileCheck
+pub fn must(sofar: Result<(), u32>, bytes: usize, at: u32, kept: bool) -> Result<(), u32>
     ensures { result ≡ judge_rule sofar (rule bytes at kept) }
 {
-    match sofar {
-        FileCheck::BadAt(_) => sofar,
-        FileCheck::Good => {
-            if bytes < u32_to_usize(at) + FIELD {
-                return FileCheck::BadAt(at);
-            }
-            if !kept {
-                return FileCheck::BadAt(at);
-            }
-            FileCheck::Good
-        }
+    sofar?;
+    if bytes < u32_to_usize(at) + FIELD || !kept {
+        return Err(at);
     }
+    Ok(())
 }
 
 // A field that may be any number.
-pub fn must_be_there(sofar: FileCheck, file: &[u8], at: u32) -> FileCheck
+pub fn must_be_there(sofar: Result<(), u32>, file: &[u8], at: u32) -> Result<(), u32>
     ensures { result ≡ judge_rule sofar (any file.now at) }
 {
     must(sofar, file.len(), at, true)
 }
 
 // A field that is fixed.
-pub fn must_be(sofar: FileCheck, file: &[u8], at: u32, n: u32) -> FileCheck
+pub fn must_be(sofar: Result<(), u32>, file: &[u8], at: u32, n: u32) -> Result<(), u32>
     ensures { result ≡ judge_rule sofar (must-hold file.now at (eqb (word file.now at) n)) }
 {
     let v = field_at(file, at);
@@ -58,7 +51,7 @@ pub fn must_be(sofar: FileCheck, file: &[u8], at: u32, n: u32) -> FileCheck
 }
 
 // A field that has a greatest number.
-pub fn must_be_at_most(sofar: FileCheck, file: &[u8], at: u32, n: u32) -> FileCheck
+pub fn must_be_at_most(sofar: Result<(), u32>, file: &[u8], at: u32, n: u32) -> Result<(), u32>
     ensures { result ≡ judge_rule sofar (must-hold file.now at (leb (word file.now at) n)) }
 {
     let v = field_at(file, at);
@@ -66,16 +59,12 @@ pub fn must_be_at_most(sofar: FileCheck, file: &[u8], at: u32, n: u32) -> FileCh
 }
 
 // No byte may follow the last field.
-pub fn must_end(sofar: FileCheck, bytes: usize, end: u32) -> FileCheck
+pub fn must_end(sofar: Result<(), u32>, bytes: usize, end: u32) -> Result<(), u32>
     ensures { result ≡ judge_rule sofar (ends bytes end) }
 {
-    match sofar {
-        FileCheck::Good => {
-            if u32_to_usize(end) < bytes {
-                return FileCheck::BadAt(end);
-            }
-            FileCheck::Good
-        }
-        _ => sofar,
+    sofar?;
+    if u32_to_usize(end) < bytes {
+        return Err(end);
     }
+    Ok(())
 }

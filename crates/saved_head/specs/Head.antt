@@ -1,5 +1,5 @@
 -- The rules of a saved desk's head in five parts, and what the code of each asks. Assumes nothing.
-use Rattle.std.specs.Prelude.{◌≡◌, Bool, not, ◌&&◌, ◌||◌, List, [], ◌∷◌, ℕ, ◌+◌, ◌*◌, ◌≤◌, ◌<◌, leb, length}
+use Rattle.std.specs.Prelude.{◌≡◌, Bool, not, ◌&&◌, ◌||◌, List, [], ◌∷◌, ℕ, ◌+◌, ◌*◌, ◌≤◌, ◌<◌, leb, length, Ok}
 use Rattle.std.proofs.Math.Path.{ap}
 use Rattle.std.proofs.Common.{◌∙◌, arith, rules}
 use Rattle.std.proofs.Math.Bool.{true, false}
@@ -10,9 +10,7 @@ use Rattle.rules.specs.Numbers.{device_magic, version, features, most, bad_ring}
 use Rattle.rules.specs.Layouts.{word, long}
 use Rattle.rules.specs.Saved.{more_registers}
 use Rattle.rules.specs.Loaded.{Rule, must, any, good_code, good_error, detail_rules, head_rules}
-use Rattle.rules.specs.declared.FileCheck.{FileCheck}
-use Rattle.rules.specs.declared.FileCheck.TheVariants.{Good}
-use Rattle.saved_fields.specs.Judging.{judge_rule, judge_rules, rule, seen, same-rule, seen-there, zero-by-halves}
+use Rattle.saved_fields.specs.Judging.{judge_rule, judge_rules, rule, seen, same-rule, seen-there, zero-by-halves, FileCheck}
 use Rattle.rules.specs.declared.Form.{Form}
 use Rattle.rules.specs.declared.Form.TheVariants.{One, Two}
 
@@ -86,9 +84,9 @@ pub ruleset tying = (some-error, low-fence, high-fence, no-fence, rules)
 -- ---- the five parts, and the head
 
 module _ (b : List ℕ) where
-  pub judges-fixed : (n : ℕ) (c₁ c₂ c₃ c₄ c₅ : FileCheck) → c₁ ≡ judge_rule Good (must b 0 (eqb (word b 0) n)) → c₂ ≡ judge_rule c₁ (must b 4 (eqb (word b 4) device_magic))
+  pub judges-fixed : (n : ℕ) (c₁ c₂ c₃ c₄ c₅ : FileCheck) → c₁ ≡ judge_rule (Ok tt) (must b 0 (eqb (word b 0) n)) → c₂ ≡ judge_rule c₁ (must b 4 (eqb (word b 4) device_magic))
       → c₃ ≡ judge_rule c₂ (must b 8 (eqb (word b 8) version)) → c₄ ≡ judge_rule c₃ (must b 12 (eqb (word b 12) features))
-      → c₅ ≡ judge_rule c₄ (must b 16 (eqb (word b 16) 0)) → c₅ ≡ judge_rules Good (fixed_rules n b)
+      → c₅ ≡ judge_rule c₄ (must b 16 (eqb (word b 16) 0)) → c₅ ≡ judge_rules (Ok tt) (fixed_rules n b)
   unfolding judge_rules
   judges-fixed n c₁ c₂ c₃ c₄ c₅ e₁ e₂ e₃ e₄ e₅ = rw (e₅, e₄, e₃, e₂, e₁)
 
@@ -141,9 +139,9 @@ module _ (b : List ℕ) where
   unfolding judge_rules
   judges-memory at c₀ c₁ c₂ c₃ c₄ e₁ e₂ e₃ e₄ = rw (e₄, e₃, e₂, e₁)
 
-  pub judges-head : (f : Form) (m : ℕ) (c₁ c₂ c₃ c₄ c₅ : FileCheck) → m ≡ more_registers f → c₁ ≡ judge_rules Good (fixed_rules (21 + m) b)
+  pub judges-head : (f : Form) (m : ℕ) (c₁ c₂ c₃ c₄ c₅ : FileCheck) → m ≡ more_registers f → c₁ ≡ judge_rules (Ok tt) (fixed_rules (21 + m) b)
       → c₂ ≡ judge_rules c₁ (ring_rules b) → c₃ ≡ judge_rules c₂ (status_rules b) → c₄ ≡ judge_rules c₃ (detail_rules f b)
-      → c₅ ≡ judge_rules c₄ (memory_rules b (76 + 4 * m)) → c₅ ≡ judge_rules Good (head_rules f b)
+      → c₅ ≡ judge_rules c₄ (memory_rules b (76 + 4 * m)) → c₅ ≡ judge_rules (Ok tt) (head_rules f b)
   unfolding judge_rules
   judges-head One m c₁ c₂ c₃ c₄ c₅ n e₁ e₂ e₃ e₄ e₅ = rw (e₅, e₄, e₃, e₂, e₁, n)
   judges-head Two m c₁ c₂ c₃ c₄ c₅ n e₁ e₂ e₃ e₄ e₅ = rw (e₅, e₄, e₃, e₂, e₁, n)

@@ -2,16 +2,15 @@
 // in its order. Places count from the first byte of the sections.
 #![tactic(auto)]
 
-ghost use Rattle.std.specs.Prelude.{◌≡◌, ◌≤◌};
+ghost use Rattle.std.specs.Prelude.{◌≡◌, ◌≤◌, Ok};
 ghost use Rattle.rules.specs.Saved.{memory_place};
 ghost use Rattle.rules.specs.Loaded.{good_code, detail_rules, head_rules};
-ghost use Rattle.rules.specs.declared.FileCheck.TheVariants.{Good};
 ghost use Rattle.saved_fields.specs.Judging.{judge_rules};
 ghost use Rattle.rules.specs.declared.Form.TheVariants.{Two};
 ghost use Rattle.saved_head.specs.Head.{fixed_rules, ring_rules, status_rules, memory_rules, good_error_by_halves};
 
 use rules::numbers::{DEVICE_MAGIC, FEATURES, VERSION};
-use rules::{FileCheck, Form, Refusal};
+use rules::{Form, Refusal};
 use saved_fields::{field_at, must, must_be, must_be_at_most, must_be_there};
 use saved_forms::more_registers;
 
@@ -72,10 +71,10 @@ fn good_error(code: u32, low: u32, high: u32, count: u32) -> bool
 }
 
 // The count of section 1, and the fixed registers.
-fn check_fixed(file: &[u8], count: u32) -> FileCheck
-    ensures { result ≡ judge_rules Good (fixed_rules count file.now) }
+fn check_fixed(file: &[u8], count: u32) -> Result<(), u32>
+    ensures { result ≡ judge_rules (Ok tt) (fixed_rules count file.now) }
 {
-    let counted = must_be(FileCheck::Good, file, 0, count);
+    let counted = must_be(Ok(()), file, 0, count);
     let magic = must_be(counted, file, 4, DEVICE_MAGIC);
     let version = must_be(magic, file, 8, VERSION);
     let features = must_be(version, file, 12, FEATURES);
@@ -83,7 +82,7 @@ fn check_fixed(file: &[u8], count: u32) -> FileCheck
 }
 
 // Ring and its size, control, fence page and completed fence.
-fn check_ring(sofar: FileCheck, file: &[u8]) -> FileCheck
+fn check_ring(sofar: Result<(), u32>, file: &[u8]) -> Result<(), u32>
     ensures { result ≡ judge_rules sofar (ring_rules file.now) }
 {
     let ring_low = must_be_there(sofar, file, 20);
@@ -97,7 +96,7 @@ fn check_ring(sofar: FileCheck, file: &[u8]) -> FileCheck
 }
 
 // IRQ status and enable, and the last error.
-fn check_status(sofar: FileCheck, file: &[u8]) -> FileCheck
+fn check_status(sofar: Result<(), u32>, file: &[u8]) -> Result<(), u32>
     ensures { result ≡ judge_rules sofar (status_rules file.now) }
 {
     let status = must_be_at_most(sofar, file, 52, MOST_STATUS);
@@ -116,7 +115,7 @@ fn check_status(sofar: FileCheck, file: &[u8]) -> FileCheck
 }
 
 // The last error's detail, where the form has it.
-fn check_detail(sofar: FileCheck, file: &[u8], form: Form) -> FileCheck
+fn check_detail(sofar: Result<(), u32>, file: &[u8], form: Form) -> Result<(), u32>
     ensures { result ≡ judge_rules sofar (detail_rules form file.now) }
 {
     match form {
@@ -131,7 +130,7 @@ fn check_detail(sofar: FileCheck, file: &[u8], form: Form) -> FileCheck
 }
 
 // Memory length, which stands at this place, doorbell flag, and the count of section 2.
-fn check_memory(sofar: FileCheck, file: &[u8], at: u32) -> FileCheck
+fn check_memory(sofar: Result<(), u32>, file: &[u8], at: u32) -> Result<(), u32>
     requires { at ≤ memory_place Two }
     ensures { result ≡ judge_rules sofar (memory_rules file.now at) }
 {
@@ -142,8 +141,8 @@ fn check_memory(sofar: FileCheck, file: &[u8], at: u32) -> FileCheck
 }
 
 // All fields before the first resource.
-pub fn check_head(file: &[u8], form: Form) -> FileCheck
-    ensures { result ≡ judge_rules Good (head_rules form file.now) }
+pub fn check_head(file: &[u8], form: Form) -> Result<(), u32>
+    ensures { result ≡ judge_rules (Ok tt) (head_rules form file.now) }
 {
     let more = more_registers(form);
     let fixed = check_fixed(file, SECTION_1_COUNT + more);

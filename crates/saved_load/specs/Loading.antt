@@ -1,14 +1,12 @@
 -- What loading asks: the sections of a good file, and either end of the call. Assumes nothing.
 use Rattle.std.proofs.Math.Path.{◌≡◌}
-use Rattle.std.specs.Prelude.{refl, List, ℕ, ◌-◌, ◌≤◌, length, take, drop}
+use Rattle.std.specs.Prelude.{refl, List, ℕ, ◌-◌, ◌≤◌, length, take, drop, Err, Ok}
 use Rattle.std.proofs.Common.{sym, ◌∙◌, arith, rules}
 use Rattle.rules.specs.Lists.{Found}
 use Rattle.rules.specs.Lists.Found.{none, found}
-use Rattle.rules.specs.declared.FileCheck.{FileCheck}
-use Rattle.rules.specs.declared.FileCheck.TheVariants.{Good, BadAt}
 use Rattle.rules.specs.Loaded.{form_in, before_sections, bad_place, loaded, call_load}
 use Rattle.rules.specs.declared.Form.{Form}
-use Rattle.saved_fields.specs.Judging.{checked}
+use Rattle.saved_fields.specs.Judging.{checked, FileCheck}
 use Rattle.saved_fields.specs.Good.{GoodSections, GoodFile}
 use Rattle.saved_check.specs.File.{sections-part}
 use Rattle.saved_check.specs.Good.{good-file}
@@ -33,16 +31,16 @@ pub ruleset loading_good = (good-sections, loads-good, rules)
 
 -- ---- load
 
-bad-at : (f : Found ℕ) (place : ℕ) → checked f ≡ BadAt place → f ≡ found place
+bad-at : (f : Found ℕ) (place : ℕ) → checked f ≡ Err place → f ≡ found place
 bad-at none place e = cc
 bad-at (found p) place e = let same : p ≡ place = cc in rw same
 
-no-bad : (f : Found ℕ) → checked f ≡ Good → f ≡ none
+no-bad : (f : Found ℕ) → checked f ≡ Ok tt → f ≡ none
 no-bad none e = refl
 no-bad (found p) e = cc
 
 module _ (b s a ft : List ℕ) (x : FileCheck) (is : x ≡ checked (bad_place b)) where
-  pub refuses-file : (place : ℕ) → x ≡ BadAt place → Loads b s a ft s a ft (record { answer = 7; place = place })
+  pub refuses-file : (place : ℕ) → x ≡ Err place → Loads b s a ft s a ft (record { answer = 7; place = place })
   unfolding call_load
   refuses-file place q =
       record {
@@ -51,10 +49,10 @@ module _ (b s a ft : List ℕ) (x : FileCheck) (is : x ≡ checked (bad_place b)
         rests = λ (z : ◌≡◌ {A = ℕ} 7 0). absurd (omega arith);
       }
 
-  pub is-good-file : x ≡ Good → GoodFile b
+  pub is-good-file : x ≡ Ok tt → GoodFile b
   is-good-file q = good-file b (sym is ∙ q)
 
-  pub takes-file : (s' a' ft' : List ℕ) → x ≡ Good → LoadsGood b s' a' ft' → Loads b s a ft s' a' ft' (record { answer = 0; place = 0 })
+  pub takes-file : (s' a' ft' : List ℕ) → x ≡ Ok tt → LoadsGood b s' a' ft' → Loads b s a ft s' a' ft' (record { answer = 0; place = 0 })
   unfolding call_load
   takes-file s' a' ft' q l =
       record {

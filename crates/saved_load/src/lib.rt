@@ -6,7 +6,7 @@ ghost use Rattle.saved_load.specs.Views.{LoadsGood, Loads};
 
 use kept_resources::resources::Resources;
 use kept_tokens::Tokens;
-use rules::FileCheck;
+use rules::Result<(), u32>;
 use rules::numbers::{BAD_FILE, DONE};
 use run_state::Words;
 use saved_check::check_file;
@@ -41,11 +41,11 @@ pub fn load(
     ensures { Loads file.now words.old first.old firsttokens.old words.new first.new firsttokens.new result }
 {
     match check_file(file) {
-        FileCheck::BadAt(place) => FileLoaded {
+        Err(place) => FileLoaded {
             answer: BAD_FILE,
             place,
         },
-        FileCheck::Good => {
+        Ok(()) => {
             load_good(words, first, firsttokens, file);
             FileLoaded {
                 answer: DONE,

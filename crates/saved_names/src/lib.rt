@@ -2,19 +2,18 @@
 // its resources are looked up where they stand in the file.
 #![tactic(auto)]
 
-ghost use Rattle.std.specs.Prelude.{◌≡◌, ◌&&◌, ◌≤◌, ltb};
+ghost use Rattle.std.specs.Prelude.{◌≡◌, ◌&&◌, ◌≤◌, ltb, Ok};
 ghost use Rattle.rules.specs.Numbers.{most};
 ghost use Rattle.rules.specs.Lists.{lookup};
 ghost use Rattle.rules.specs.Names.{shareable};
 ghost use Rattle.rules.specs.Packets.{handle_of};
 ghost use Rattle.rules.specs.Loaded.{loaded_resource, is_free, may_be_shared, name_rules, names_rules, names_place};
-ghost use Rattle.rules.specs.declared.FileCheck.TheVariants.{Good};
 ghost use Rattle.saved_fields.specs.Judging.{judge_rules};
 ghost use Rattle.rules.specs.declared.Form.TheVariants.{Two};
 ghost use Rattle.saved_names.specs.Scan.{Standing, StandsWhole, stands, WholeAt, resources_of, furthest_first, furthest_name};
 ghost use Rattle.saved_names.specs.Names.{section_3_names};
 
-use rules::FileCheck;
+use rules::Result<(), u32>;
 use rules::numbers::BUFFER_KIND;
 use saved_fields::{field_at, must};
 use saved_resources::RESOURCE_BYTES;
@@ -98,7 +97,7 @@ fn good_lowest(file: &[u8], count: u32, name: u32, lowest: u32) -> bool
 }
 
 // The other name that stands there, after the name `before`, with its lowest name.
-fn judge_name(sofar: FileCheck, file: &[u8], count: u32, at: u32, before: u32) -> FileCheck
+fn judge_name(sofar: Result<(), u32>, file: &[u8], count: u32, at: u32, before: u32) -> Result<(), u32>
     requires { Standing file.now count × (at ≤ furthest_name) }
     ensures { result ≡ judge_rules sofar (name_rules (resources_of file.now count) file.now at before) }
 {
@@ -111,11 +110,11 @@ fn judge_name(sofar: FileCheck, file: &[u8], count: u32, at: u32, before: u32) -
 }
 
 // So many other names, the first of which stands there.
-fn judge_names(file: &[u8], count: u32, first: u32, n: u32) -> FileCheck
+fn judge_names(file: &[u8], count: u32, first: u32, n: u32) -> Result<(), u32>
     requires { Standing file.now count × ((first ≤ furthest_first) × (n ≤ most)) }
-    ensures { result ≡ judge_rules Good (names_rules n (resources_of file.now count) file.now first 0) }
+    ensures { result ≡ judge_rules (Ok tt) (names_rules n (resources_of file.now count) file.now first 0) }
 {
-    let mut check = FileCheck::Good;
+    let mut check = Ok(());
     let mut before: u32 = 0;
     let mut at: u32 = first;
     let mut i: u32 = 0;
@@ -129,15 +128,15 @@ fn judge_names(file: &[u8], count: u32, first: u32, n: u32) -> FileCheck
 }
 
 // Section 3 after so many resources. Where it says too many names, nothing after that is looked at.
-pub fn check_names(file: &[u8], count: u32) -> FileCheck
+pub fn check_names(file: &[u8], count: u32) -> Result<(), u32>
     requires { Standing file.now count }
-    ensures { result ≡ judge_rules Good (section_3_names (resources_of file.now count) file.now (names_place Two count)) }
+    ensures { result ≡ judge_rules (Ok tt) (section_3_names (resources_of file.now count) file.now (names_place Two count)) }
 {
     let at = FIRST_RESOURCE + RESOURCE_BYTES * count;
     let n = field_at(file, at);
-    let few = must(FileCheck::Good, file.len(), at, n <= MOST_NAMES - count);
+    let few = must(Ok(()), file.len(), at, n <= MOST_NAMES - count);
     match few {
-        FileCheck::BadAt(_) => few,
-        FileCheck::Good => judge_names(file, count, at + COUNT_BYTES, n),
+        Err(_) => few,
+        Ok(()) => judge_names(file, count, at + COUNT_BYTES, n),
     }
 }

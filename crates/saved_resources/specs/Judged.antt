@@ -7,9 +7,8 @@ use Rattle.rules.specs.Shapes.{block_bytes, full_chain}
 use Rattle.rules.specs.Packets.{backed}
 use Rattle.rules.specs.declared.Shape.{Shape}
 use Rattle.rules.specs.Loaded.{between, good_pitch}
-use Rattle.rules.specs.declared.FileCheck.{FileCheck}
 use Rattle.texture_shapes.specs.Good.{good_side}
-use Rattle.saved_fields.specs.Judging.{rule, seen, judge_rule, judge_rules}
+use Rattle.saved_fields.specs.Judging.{rule, seen, judge_rule, judge_rules, FileCheck}
 use Rattle.saved_resources.specs.Rules.{seen_resource, no_shape_rules, shape_rules, buffer_rules, texture_rules, fields_rules}
 use Rattle.saved_resources.specs.declared.SavedResource.{SavedResource}
 

@@ -7,7 +7,7 @@ ghost use Rattle.saved_fields.specs.Judging.{judge_rules};
 ghost use Rattle.saved_resources.specs.Rules.{furthest, seen_resource, no_shape_rules, shape_rules, buffer_rules, texture_rules, fields_rules};
 
 use rules::numbers::{BUFFER_KIND, TEXTURE_KIND};
-use rules::{FileCheck, Shape};
+use rules::Shape;
 use saved_fields::{field_at, must};
 use saved_shapes::{good_layers, good_mips, good_offset, good_pitch, has_size};
 use texture_shapes::formats::unit_of;
@@ -62,7 +62,7 @@ pub fn read_resource(file: &[u8], at: u32) -> SavedResource
 }
 
 // The fields of a shape where there is none.
-fn judge_no_shape(sofar: FileCheck, bytes: usize, at: u32, shape: Shape) -> FileCheck
+fn judge_no_shape(sofar: Result<(), u32>, bytes: usize, at: u32, shape: Shape) -> Result<(), u32>
     requires { at ≤ furthest }
     ensures { result ≡ judge_rules sofar (no_shape_rules bytes at shape) }
 {
@@ -74,7 +74,7 @@ fn judge_no_shape(sofar: FileCheck, bytes: usize, at: u32, shape: Shape) -> File
 }
 
 // The fields of a texture's shape.
-fn judge_shape(sofar: FileCheck, bytes: usize, at: u32, shape: Shape) -> FileCheck
+fn judge_shape(sofar: Result<(), u32>, bytes: usize, at: u32, shape: Shape) -> Result<(), u32>
     requires { at ≤ furthest }
     ensures { result ≡ judge_rules sofar (shape_rules bytes at shape) }
 {
@@ -91,7 +91,7 @@ fn judge_shape(sofar: FileCheck, bytes: usize, at: u32, shape: Shape) -> FileChe
 }
 
 // A buffer's fields from its size to its backing id: it has no shape and no pitch.
-fn judge_buffer(sofar: FileCheck, bytes: usize, at: u32, s: SavedResource) -> FileCheck
+fn judge_buffer(sofar: Result<(), u32>, bytes: usize, at: u32, s: SavedResource) -> Result<(), u32>
     requires { at ≤ furthest }
     ensures { result ≡ judge_rules sofar (buffer_rules bytes at s) }
 {
@@ -103,7 +103,7 @@ fn judge_buffer(sofar: FileCheck, bytes: usize, at: u32, s: SavedResource) -> Fi
 }
 
 // A texture's fields from its size, which it does not have, to its backing id, which its pitch is tied to.
-fn judge_texture(sofar: FileCheck, bytes: usize, at: u32, s: SavedResource) -> FileCheck
+fn judge_texture(sofar: Result<(), u32>, bytes: usize, at: u32, s: SavedResource) -> Result<(), u32>
     requires { at ≤ furthest }
     ensures { result ≡ judge_rules sofar (texture_rules bytes at s) }
 {
@@ -121,12 +121,12 @@ fn judge_texture(sofar: FileCheck, bytes: usize, at: u32, s: SavedResource) -> F
 
 // All fields of a resource that comes after one with the handle `before`.
 pub fn judge_resource(
-    sofar: FileCheck,
+    sofar: Result<(), u32>,
     bytes: usize,
     at: u32,
     before: u32,
     s: SavedResource,
-) -> FileCheck
+) -> Result<(), u32>
     requires { at ≤ furthest }
     ensures { result ≡ judge_rules sofar (fields_rules bytes at s before) }
 {

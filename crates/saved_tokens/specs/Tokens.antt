@@ -1,5 +1,5 @@
 -- The rules of section 4, one token after the other, as the code judges them. Assumes nothing.
-use Rattle.std.specs.Prelude.{◌≡◌, Bool, true, ◌||◌, List, [], ◌∷◌, ◌++◌, ℕ, suc, ◌+◌, ◌*◌, ◌-◌, ◌≤◌, ◌<◌, ltb, leb, eqb, length}
+use Rattle.std.specs.Prelude.{◌≡◌, Bool, true, ◌||◌, List, [], ◌∷◌, ◌++◌, ℕ, suc, ◌+◌, ◌*◌, ◌-◌, ◌≤◌, ◌<◌, ltb, leb, eqb, length, Err, Ok}
 use Rattle.std.proofs.Math.Path.{refl, sym, ap}
 use Rattle.std.proofs.Common.{◌∙◌, arith, rules, lt-ltb, le-ltb, eq-eqb, ne_eqb, leb-true}
 use Rattle.machine.specs.Machine.{pick}
@@ -9,10 +9,8 @@ use Rattle.rules.specs.Layouts.{word, long}
 use Rattle.rules.specs.Packets.{handle_of}
 use Rattle.rules.specs.Saved.{token_bytes}
 use Rattle.rules.specs.Loaded.{Rule, must, any, end_rule, may_be_shared, token_rules, tokens_rules, end_place, section_4_rules}
-use Rattle.rules.specs.declared.FileCheck.{FileCheck}
-use Rattle.rules.specs.declared.FileCheck.TheVariants.{Good, BadAt}
 use Rattle.rules.specs.declared.Resource.{Resource}
-use Rattle.saved_fields.specs.Judging.{judge_rule, judge_rules, rule, ends, seen, same-rule, seen-there, once-bad, judged-append}
+use Rattle.saved_fields.specs.Judging.{judge_rule, judge_rules, rule, ends, seen, same-rule, seen-there, once-bad, judged-append, FileCheck}
 use Rattle.saved_fields.specs.Kept.{kept_there}
 use Rattle.saved_fields.specs.Items.{items-start, items-turn, items-end}
 
@@ -78,44 +76,44 @@ module _ (rs : List Resource) (b : List ℕ) where
   tokens-step n at before = refl
 
   -- a token whose rules are kept is there, with its name
-  pub token-there : (c : FileCheck) (at before : ℕ) → judge_rules c (token_rules rs b at before) ≡ Good → at + 8 + 4 ≤ length b
+  pub token-there : (c : FileCheck) (at before : ℕ) → judge_rules c (token_rules rs b at before) ≡ Ok tt → at + 8 + 4 ≤ length b
   unfolding judge_rules
   token-there c at before e =
       (kept_there (judge_rule (judge_rule c (any b at)) (must b (at + 4) (ltb before (long b at)))) b (at + 8)
       (eqb (word b (at + 8)) no_name || may_be_shared (lookup handle_of (word b (at + 8)) rs)) e).0
 
   module _ (n first : ℕ) where
-    pub tokens-start : judge_rules Good (tokens_rules n rs b first 0) ≡ judge_rules Good (tokens_rules (n - 0) rs b first 0)
-    tokens-start = items-start (token_rules rs b) (λ n. tokens_rules n rs b) (long b) 12 no-tokens tokens-step Good n first
+    pub tokens-start : judge_rules (Ok tt) (tokens_rules n rs b first 0) ≡ judge_rules (Ok tt) (tokens_rules (n - 0) rs b first 0)
+    tokens-start = items-start (token_rules rs b) (λ n. tokens_rules n rs b) (long b) 12 no-tokens tokens-step (Ok tt) n first
 
-    module _ (c : FileCheck) (i at before : ℕ) (inv : judge_rules Good (tokens_rules n rs b first 0) ≡ judge_rules c (tokens_rules (n - i) rs b at before)) where
+    module _ (c : FileCheck) (i at before : ℕ) (inv : judge_rules (Ok tt) (tokens_rules n rs b first 0) ≡ judge_rules c (tokens_rules (n - i) rs b at before)) where
       pub tokens-turn : (k : ℕ) (c' : FileCheck) → i < n → c' ≡ judge_rules c (token_rules rs b at before) → k ≡ seen_long b at
-          → judge_rules Good (tokens_rules n rs b first 0) ≡ judge_rules c' (tokens_rules (n - (i + 1)) rs b (at + 12) k)
+          → judge_rules (Ok tt) (tokens_rules n rs b first 0) ≡ judge_rules c' (tokens_rules (n - (i + 1)) rs b (at + 12) k)
       tokens-turn k c' h e is =
-          items-turn (token_rules rs b) (λ n. tokens_rules n rs b) (long b) 12 no-tokens tokens-step Good n first c i at before inv k c' h e (λ good.
+          items-turn (token_rules rs b) (λ n. tokens_rules n rs b) (long b) 12 no-tokens tokens-step (Ok tt) n first c i at before inv k c' h e (λ good.
           let end : at + 8 + 4 ≤ length b = token-there c at before (sym e ∙ good) in
           is ∙ seen-long-there b at (omega arith))
 
-      pub tokens-end : n ≤ i → c ≡ judge_rules Good (tokens_rules n rs b first 0)
-      tokens-end h = items-end (token_rules rs b) (λ n. tokens_rules n rs b) (long b) 12 no-tokens tokens-step Good n first c i at before inv h
+      pub tokens-end : n ≤ i → c ≡ judge_rules (Ok tt) (tokens_rules n rs b first 0)
+      tokens-end h = items-end (token_rules rs b) (λ n. tokens_rules n rs b) (long b) 12 no-tokens tokens-step (Ok tt) n first c i at before inv h
 
 pub ruleset judging_tokens = (tokens-start, tokens-turn, tokens-end, rules)
 
 -- ---- check_tokens
 
-module _ (b : List ℕ) (at n : ℕ) (c : FileCheck) (is : n ≡ seen b at) (judged : c ≡ judge_rule Good (must b at (leb (word b at) 256))) where
+module _ (b : List ℕ) (at n : ℕ) (c : FileCheck) (is : n ≡ seen b at) (judged : c ≡ judge_rule (Ok tt) (must b at (leb (word b at) 256))) where
   -- what comes after the count
   abbrev rest : List Resource → ℕ → List Rule
   rest rs m = tokens_rules m rs b (at + 4) 0 ++ (end_rule b (end_place at m) ∷ [])
 
-  pub too-many-tokens : (rs : List Resource) (p : ℕ) → c ≡ BadAt p → c ≡ judge_rules Good (section_4_rules rs b at)
+  pub too-many-tokens : (rs : List Resource) (p : ℕ) → c ≡ Err p → c ≡ judge_rules (Ok tt) (section_4_rules rs b at)
   unfolding judge_rules section_4_rules
   too-many-tokens rs p e =
       sym (ap (λ x. judge_rules x (rest rs (word b at))) (sym judged ∙ e) ∙ (once-bad p (rest rs (word b at)) ∙ sym e))
 
-  module _ (good : c ≡ Good) where
+  module _ (good : c ≡ Ok tt) where
     count-there : (at + 4 ≤ length b) × (leb (word b at) 256 ≡ true)
-    count-there = kept_there Good b at (leb (word b at) 256) (sym judged ∙ good)
+    count-there = kept_there (Ok tt) b at (leb (word b at) 256) (sym judged ∙ good)
 
     real : n ≡ word b at
     real = is ∙ seen-there b at count-there.0
@@ -129,12 +127,12 @@ module _ (b : List ℕ) (at n : ℕ) (c : FileCheck) (is : n ≡ seen b at) (jud
     pub end_fits : at ≤ 3684 → at + 4 + 12 * n < 4294967296
     end_fits h = omega (arith, few-tokens)
 
-    pub judges-section-4 : (rs : List Resource) (d r : FileCheck) → d ≡ judge_rules Good (tokens_rules n rs b (at + 4) 0)
-        → r ≡ judge_rule d (ends (length b) (at + 4 + 12 * n)) → r ≡ judge_rules Good (section_4_rules rs b at)
+    pub judges-section-4 : (rs : List Resource) (d r : FileCheck) → d ≡ judge_rules (Ok tt) (tokens_rules n rs b (at + 4) 0)
+        → r ≡ judge_rule d (ends (length b) (at + 4 + 12 * n)) → r ≡ judge_rules (Ok tt) (section_4_rules rs b at)
     unfolding judge_rules section_4_rules
     judges-section-4 rs d r e f =
-        let all : r ≡ judge_rules Good (rest rs n) =
-        f ∙ rw e (sym (judged-append Good (tokens_rules n rs b (at + 4) 0) (end_rule b (end_place at n) ∷ []))) in
-        all ∙ (ap (λ k. judge_rules Good (rest rs k)) real ∙ ap (λ x. judge_rules x (rest rs (word b at))) (sym good ∙ judged))
+        let all : r ≡ judge_rules (Ok tt) (rest rs n) =
+        f ∙ rw e (sym (judged-append (Ok tt) (tokens_rules n rs b (at + 4) 0) (end_rule b (end_place at n) ∷ []))) in
+        all ∙ (ap (λ k. judge_rules (Ok tt) (rest rs k)) real ∙ ap (λ x. judge_rules x (rest rs (word b at))) (sym good ∙ judged))
 
 pub ruleset judging_section_4 = (too-many-tokens, few-tokens, tokens-fit, end_fits, judges-section-4, rules)

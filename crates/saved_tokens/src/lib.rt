@@ -1,17 +1,16 @@
 // Section 4 of a saved desk of form 2, its last: the tokens, each judged after the one before it, and that no byte follows.
 #![tactic(auto)]
 
-ghost use Rattle.std.specs.Prelude.{◌≡◌, ◌||◌, ◌+◌, ◌≤◌, eqb};
+ghost use Rattle.std.specs.Prelude.{◌≡◌, ◌||◌, ◌+◌, ◌≤◌, eqb, Ok};
 ghost use Rattle.rules.specs.Numbers.{no_name, most_tokens};
 ghost use Rattle.rules.specs.Lists.{lookup};
 ghost use Rattle.rules.specs.Packets.{handle_of};
-ghost use Rattle.rules.specs.declared.FileCheck.TheVariants.{Good};
 ghost use Rattle.saved_fields.specs.Judging.{judge_rules};
 ghost use Rattle.saved_names.specs.Scan.{Standing, resources_of, furthest_name};
 ghost use Rattle.rules.specs.Loaded.{may_be_shared, token_rules, tokens_rules, section_4_rules};
 ghost use Rattle.saved_tokens.specs.Tokens.{seen_long, furthest_token};
 
-use rules::FileCheck;
+use rules::Result<(), u32>;
 use saved_fields::{field_at, must, must_be_at_most, must_be_there, must_end};
 use saved_names::{COUNT_BYTES, may_be_shared};
 use widths::u32_to_usize;
@@ -48,7 +47,7 @@ fn may_be_bound(file: &[u8], count: u32, name: u32) -> bool
 }
 
 // The token that stands there, after the token `before`, with its name.
-fn judge_token(sofar: FileCheck, file: &[u8], count: u32, at: u32, before: u64) -> FileCheck
+fn judge_token(sofar: Result<(), u32>, file: &[u8], count: u32, at: u32, before: u64) -> Result<(), u32>
     requires { Standing file.now count × (at ≤ furthest_token) }
     ensures { result ≡ judge_rules sofar (token_rules (resources_of file.now count) file.now at before) }
 {
@@ -61,11 +60,11 @@ fn judge_token(sofar: FileCheck, file: &[u8], count: u32, at: u32, before: u64) 
 }
 
 // So many tokens, the first of which stands there.
-fn judge_tokens(file: &[u8], count: u32, first: u32, n: u32) -> FileCheck
+fn judge_tokens(file: &[u8], count: u32, first: u32, n: u32) -> Result<(), u32>
     requires { Standing file.now count × ((first ≤ furthest_name + 4) × (n ≤ most_tokens)) }
-    ensures { result ≡ judge_rules Good (tokens_rules n (resources_of file.now count) file.now first 0) }
+    ensures { result ≡ judge_rules (Ok tt) (tokens_rules n (resources_of file.now count) file.now first 0) }
 {
-    let mut check = FileCheck::Good;
+    let mut check = Ok(());
     let mut before: u64 = 0;
     let mut at: u32 = first;
     for _ in 0..n {
@@ -77,15 +76,15 @@ fn judge_tokens(file: &[u8], count: u32, first: u32, n: u32) -> FileCheck
 }
 
 // Section 4, whose count stands there, after so many resources. Where it says too many tokens, nothing after that is looked at.
-pub fn check_tokens(file: &[u8], count: u32, at: u32) -> FileCheck
+pub fn check_tokens(file: &[u8], count: u32, at: u32) -> Result<(), u32>
     requires { Standing file.now count × (at ≤ furthest_name) }
-    ensures { result ≡ judge_rules Good (section_4_rules (resources_of file.now count) file.now at) }
+    ensures { result ≡ judge_rules (Ok tt) (section_4_rules (resources_of file.now count) file.now at) }
 {
     let n = field_at(file, at);
-    let few = must_be_at_most(FileCheck::Good, file, at, MOST_SAVED_TOKENS);
+    let few = must_be_at_most(Ok(()), file, at, MOST_SAVED_TOKENS);
     match few {
-        FileCheck::BadAt(_) => few,
-        FileCheck::Good => {
+        Err(_) => few,
+        Ok(()) => {
             let tokens = judge_tokens(file, count, at + COUNT_BYTES, n);
             must_end(tokens, file.len(), at + COUNT_BYTES + TOKEN_BYTES * n)
         }

@@ -2,8 +2,8 @@
 use Rattle.device_calls.specs.Calling.{reading}
 use Rattle.device_calls.proofs.read.Goals as goal
 
-pub returns-in-NoRegister : goal.returns-in-NoRegister
-returns-in-NoRegister c = search reading
+pub returns-in-None : goal.returns-in-None
+returns-in-None c = search reading
 
-pub returns-in-Value : goal.returns-in-Value
-returns-in-Value c = search reading
+pub returns-in-Some : goal.returns-in-Some
+returns-in-Some c = search reading

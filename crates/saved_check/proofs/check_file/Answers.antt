@@ -8,8 +8,8 @@ returns-then-before-eq0 c = search judging_file
 pub overflow_add-result : goal.overflow_add-result
 overflow_add-result c = search judging_file
 
-pub returns-in-Good : goal.returns-in-Good
-returns-in-Good c = search judging_file
+pub returns-in-Ok : goal.returns-in-Ok
+returns-in-Ok c = search judging_file
 
-pub returns-in-BadAt : goal.returns-in-BadAt
-returns-in-BadAt c = search judging_file
+pub returns-in-Err : goal.returns-in-Err
+returns-in-Err c = search judging_file

@@ -5,5 +5,5 @@ use Rattle.saved_check.proofs.check_later.Goals as goal
 pub returns-in-One : goal.returns-in-One
 returns-in-One c = search judging_later
 
-pub returns-in-BadAt : goal.returns-in-BadAt
-returns-in-BadAt c = search judging_later
+pub returns-in-Err : goal.returns-in-Err
+returns-in-Err c = search judging_later

@@ -5,8 +5,8 @@ use Rattle.saved_load.proofs.load.Goals as goal
 pub load_good-requires : goal.load_good-requires
 load_good-requires c = search loading
 
-pub returns-in-BadAt : goal.returns-in-BadAt
-returns-in-BadAt c = search loading
+pub returns-in-Err : goal.returns-in-Err
+returns-in-Err c = search loading
 
-pub returns-in-Good : goal.returns-in-Good
-returns-in-Good c = search loading
+pub returns-in-Ok : goal.returns-in-Ok
+returns-in-Ok c = search loading

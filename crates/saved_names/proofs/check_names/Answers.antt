@@ -6,8 +6,8 @@ use Rattle.saved_names.proofs.check_names.Goals as goal
 pub judge_names-requires : goal.judge_names-requires
 judge_names-requires c = (search rules, (search rules, search judging_section_3))
 
-pub returns-in-BadAt : goal.returns-in-BadAt
-returns-in-BadAt c = search judging_section_3
+pub returns-in-Err : goal.returns-in-Err
+returns-in-Err c = search judging_section_3
 
-pub returns-in-Good : goal.returns-in-Good
-returns-in-Good c = search judging_section_3
+pub returns-in-Ok : goal.returns-in-Ok
+returns-in-Ok c = search judging_section_3

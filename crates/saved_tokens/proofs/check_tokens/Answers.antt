@@ -2,8 +2,8 @@
 use Rattle.saved_tokens.specs.Tokens.{judging_section_4}
 use Rattle.saved_tokens.proofs.check_tokens.Goals as goal
 
-pub returns-in-BadAt : goal.returns-in-BadAt
-returns-in-BadAt c = search judging_section_4
+pub returns-in-Err : goal.returns-in-Err
+returns-in-Err c = search judging_section_4
 
-pub returns-in-Good : goal.returns-in-Good
-returns-in-Good c = search judging_section_4
+pub returns-in-Ok : goal.returns-in-Ok
+returns-in-Ok c = search judging_section_4
