@@ -28,7 +28,7 @@ pub fn field_at(file: &[u8], at: u32) -> u32
 pub fn must(sofar: Result<(), u32>, bytes: usize, at: u32, kept: bool) -> Result<(), u32>
     ensures { result ≡ judge_rule sofar (rule bytes at kept) }
 {
-    sofar?;
+    sofar?; // the first broken rule is told
     if bytes < u32_to_usize(at) + FIELD || !kept {
         return Err(at);
     }
