@@ -6,7 +6,6 @@ ghost use Rattle.rules.specs.Layouts.{word};
 ghost use Rattle.rules.specs.Loaded.{must as must-hold, any};
 ghost use Rattle.saved_fields.specs.Judging.{rule, ends, judge_rule, seen};
 
-use rules::Result<(), u32>;
 use widths::u32_to_usize;
 use words::u32_at;
 

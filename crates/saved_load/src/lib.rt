@@ -6,7 +6,6 @@ ghost use Rattle.saved_load.specs.Views.{LoadsGood, Loads};
 
 use kept_resources::resources::Resources;
 use kept_tokens::Tokens;
-use rules::Result<(), u32>;
 use rules::numbers::{BAD_FILE, DONE};
 use run_state::Words;
 use saved_check::check_file;

@@ -13,7 +13,6 @@ ghost use Rattle.rules.specs.declared.Form.TheVariants.{Two};
 ghost use Rattle.saved_names.specs.Scan.{Standing, StandsWhole, stands, WholeAt, resources_of, furthest_first, furthest_name};
 ghost use Rattle.saved_names.specs.Names.{section_3_names};
 
-use rules::Result<(), u32>;
 use rules::numbers::BUFFER_KIND;
 use saved_fields::{field_at, must};
 use saved_resources::RESOURCE_BYTES;

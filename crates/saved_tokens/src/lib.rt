@@ -10,7 +10,6 @@ ghost use Rattle.saved_names.specs.Scan.{Standing, resources_of, furthest_name};
 ghost use Rattle.rules.specs.Loaded.{may_be_shared, token_rules, tokens_rules, section_4_rules};
 ghost use Rattle.saved_tokens.specs.Tokens.{seen_long, furthest_token};
 
-use rules::Result<(), u32>;
 use saved_fields::{field_at, must, must_be_at_most, must_be_there, must_end};
 use saved_names::{COUNT_BYTES, may_be_shared};
 use widths::u32_to_usize;
