@@ -45,13 +45,10 @@ pub const HEAD_BYTES: u32 = 92;
 fn good_code(code: u32) -> bool
     ensures { result ≡ good_code code }
 {
-    if code == 0 {
-        return true;
+    match code {
+        0 => true,
+        _ => code >= Refusal::BadRing as u32 && code <= Refusal::BadState as u32,
     }
-    if code < Refusal::BadRing as u32 {
-        return false;
-    }
-    code <= Refusal::BadState as u32
 }
 
 // Whether the last error's fence, by its halves, and count go with its code.

@@ -34,13 +34,11 @@ fn place_of(file: &[u8], count: u32, name: u32) -> Option<u32>
     ensures { (lookup handle_of name (resources_of file.now count) ≡ stands file.now result) × StandsWhole file.now result }
 {
     let mut at: u32 = FIRST_RESOURCE;
-    let mut i: u32 = 0;
-    while i < count {
+    for _ in 0..count {
         if field_at(file, at) == name {
             return Some(at);
         }
         at += RESOURCE_BYTES;
-        i += 1;
     }
     None
 }
@@ -116,12 +114,10 @@ fn judge_names(file: &[u8], count: u32, first: u32, n: u32) -> Result<(), u32>
     let mut check = Ok(());
     let mut before: u32 = 0;
     let mut at: u32 = first;
-    let mut i: u32 = 0;
-    while i < n {
+    for _ in 0..n {
         check = judge_name(check, file, count, at, before);
         before = field_at(file, at);
         at += NAME_BYTES;
-        i += 1;
     }
     check
 }

@@ -1,14 +1,10 @@
--- `place_of` meets its contract. The invariant: what is found among all resources is what is found among those left. The measure is the
--- resources left. Assumes nothing.
-use Rattle.std.proofs.Common.{◌≡◌, ◌≤◌, ◌-◌, ◌+◌, ◌*◌}
+-- `place_of` meets its contract. The invariant: what is found among all resources is what is found among those left. Assumes nothing.
+use Rattle.std.proofs.Common.{◌≡◌, ◌-◌, ◌+◌, ◌*◌}
 use Rattle.rules.specs.Lists.{lookup}
 use Rattle.rules.specs.Loaded.{loaded_resources}
 use Rattle.rules.specs.Packets.{handle_of}
 use Rattle.saved_names.specs.Scan.{resources_of}
 use Rattle.saved_names.proofs.place_of.Given as goal
 
-abbrev pub invariant-loop-i : goal.invariant-loop-i
-invariant-loop-i l = (l.i ≤ l.count) × ((l.at ≡ 96 + 48 * l.i) × (lookup handle_of l.name (resources_of l.file l.count) ≡ lookup handle_of l.name (loaded_resources (l.count - l.i) l.file l.at)))
-
-abbrev pub decreases-loop-i : goal.decreases-loop-i
-decreases-loop-i l = l.count - l.i
+abbrev pub invariant-loop : goal.invariant-loop
+invariant-loop l = (l.at ≡ 96 + 48 * l.counter) × (lookup handle_of l.name (resources_of l.file l.count) ≡ lookup handle_of l.name (loaded_resources (l.count - l.counter) l.file l.at))
