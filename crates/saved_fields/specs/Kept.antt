@@ -16,7 +16,7 @@ front-good c xs ys e = was-good (judge_rules c xs) ys (sym (judged-append c xs y
 pub kept : (c : FileCheck) (r : Rule) → judge_rule c r ≡ Ok tt → r.broken ≡ false
 kept (Ok _) r e = by r.broken e
   where
-    by : (v : Bool) → pick v (Err r.place) (Ok tt) ≡ Ok tt → v ≡ false
+    by : (v : Bool) → ◌≡◌ {A = FileCheck} (pick v (Err r.place) (Ok tt)) (Ok tt) → v ≡ false
     by true e = cc
     by false e = refl
 kept (Err place) r e = cc
