@@ -13,6 +13,7 @@ ghost use Rattle.dump_next.specs.Next.{Goes};
 use dump_lines::put_stopped;
 use dump_packets::put_line;
 use dump_reader::seen_by_reader;
+use refusals::number;
 use rules::Refusal;
 use stream_listing::Seen;
 use stream_packets::framing::packet_part;
@@ -31,7 +32,7 @@ pub fn put_error(out: &mut [u8], end: usize, why: Refusal) -> usize
     requires { end + length (ending_text (refused why)) ≤ length out.old }
     ensures { Puts end (ending_text (refused why)) out.old result out.new }
 {
-    let numbers: [u64; 1] = [u32_to_word(why as u32)];
+    let numbers: [u64; 1] = [u32_to_word(number(why))];
     fill(out, end, b"error=%\n", &numbers)
 }
 

@@ -37,25 +37,17 @@ abbrev pub checked_said : Result ⊤ RefusedStream → Answered
 checked_said (Ok _) = said_is 0
 checked_said (Err r) = said_refused (error_number r.why) r.which
 
-abbrev pub parting_said : Option ℕ → Answered
-parting_said (Some i) = said_is i
-parting_said None = said_none
+abbrev pub place_said : Option ℕ → Answered
+place_said (Some i) = said_is i
+place_said None = said_none
 
-abbrev pub parts_said : Result (Option ℕ) RefusedStream → Answered
-parts_said (Ok x) = parting_said x
-parts_said (Err r) = said_refused (error_number r.why) r.which
+abbrev pub found_said : Result (Option ℕ) RefusedStream → Answered
+found_said (Ok x) = place_said x
+found_said (Err r) = said_refused (error_number r.why) r.which
 
 abbrev pub class_said : Result Class RefusedStream → Answered
 class_said (Ok x) = said_is (class_number x)
 class_said (Err r) = said_refused (error_number r.why) r.which
-
-abbrev pub offset_said : Option ℕ → Answered
-offset_said (Some i) = said_is i
-offset_said None = said_none
-
-abbrev pub next_said : Result (Option ℕ) RefusedStream → Answered
-next_said (Ok x) = offset_said x
-next_said (Err r) = said_refused (error_number r.why) r.which
 
 -- the answer is the call's, and the value is in the one word lent
 pub record Says (x : Answered) (r : ℕ) (said : List ℕ) : Type 0 where

@@ -5,7 +5,7 @@ use Rattle.std.proofs.lemmas.List.Edits.{sets-eq}
 use Rattle.rules.specs.declared.Class.{Class}
 use Rattle.rules.specs.declared.Cursor.{Cursor}
 use Rattle.rules.specs.declared.Pair.{Pair}
-use Rattle.export_difference.specs.Numbers.{class_number, said_is, said_none, said_refused, checked_said, parting_said, parts_said, class_said, offset_said, next_said, Says, cursor_in, cursor_words, pair_words, SaysStart}
+use Rattle.export_difference.specs.Numbers.{class_number, said_is, said_none, said_refused, checked_said, place_said, found_said, class_said, Says, cursor_in, cursor_words, pair_words, SaysStart}
 use Rattle.rules.specs.declared.RefusedStream.{RefusedStream}
 use Rattle.rules.specs.Judging.{error_number}
 
@@ -28,8 +28,8 @@ module _ (said : List ℕ) (v : ℕ) (p : said ≡ v ∷ []) where
   pub says-class : (x : Class) → v ≡ class_number x → Says (said_is (class_number x)) 0 said
   says-class x e = record { answer = refl; value = p ∙ rw e }
 
-  pub says-refused : (code which : ℕ) → (v ≡ which) × (v < 4294967296) → Says (said_refused code which) code said
-  says-refused code which e = record { answer = refl; value = p ∙ rw e.0 }
+  pub says-refused : (code which n : ℕ) → n ≡ code → (v ≡ which) × (v < 4294967296) → Says (said_refused code which) n said
+  says-refused code which n is e = record { answer = is; value = p ∙ rw e.0 }
 
 pub ruleset saying_word = (says-number, says-class, says-refused, rules)
 
@@ -47,35 +47,23 @@ module _ (r : ℕ) (said : List ℕ) where
   pub checked_refused : (x : Result ⊤ RefusedStream) (e : RefusedStream) → x ≡ Err e → Says (said_refused (error_number e.why) e.which) r said → Says (checked_said x) r said
   checked_refused x r' e s = rw e s
 
-  pub parting-at : (x : Option ℕ) (i : ℕ) → x ≡ Some i → Says (said_is i) r said → Says (parting_said x) r said
-  parting-at x i e s = rw e s
-
-  pub parting-never : (x : Option ℕ) → x ≡ None → Says said_none r said → Says (parting_said x) r said
-  parting-never x e s = rw e s
-
-  pub parts_is : (x : Result (Option ℕ) RefusedStream) (p : Option ℕ) → x ≡ Ok p → Says (parting_said p) r said → Says (parts_said x) r said
-  parts_is x p e s = rw e s
-
-  pub parts-refused : (x : Result (Option ℕ) RefusedStream) (e : RefusedStream) → x ≡ Err e → Says (said_refused (error_number e.why) e.which) r said → Says (parts_said x) r said
-  parts-refused x r' e s = rw e s
-
   pub class-is : (x : Result Class RefusedStream) (k : Class) → x ≡ Ok k → Says (said_is (class_number k)) r said → Says (class_said x) r said
   class-is x k e s = rw e s
 
   pub class-refused : (x : Result Class RefusedStream) (e : RefusedStream) → x ≡ Err e → Says (said_refused (error_number e.why) e.which) r said → Says (class_said x) r said
   class-refused x r' e s = rw e s
 
-  pub offset_at : (x : Option ℕ) (i : ℕ) → x ≡ Some i → Says (said_is i) r said → Says (offset_said x) r said
-  offset_at x i e s = rw e s
+  pub place_at : (x : Option ℕ) (i : ℕ) → x ≡ Some i → Says (said_is i) r said → Says (place_said x) r said
+  place_at x i e s = rw e s
 
-  pub offset-nowhere : (x : Option ℕ) → x ≡ None → Says said_none r said → Says (offset_said x) r said
-  offset-nowhere x e s = rw e s
+  pub no-place : (x : Option ℕ) → x ≡ None → Says said_none r said → Says (place_said x) r said
+  no-place x e s = rw e s
 
-  pub next-is : (x : Result (Option ℕ) RefusedStream) (o : Option ℕ) → x ≡ Ok o → Says (offset_said o) r said → Says (next_said x) r said
-  next-is x o e s = rw e s
+  pub found_is : (x : Result (Option ℕ) RefusedStream) (o : Option ℕ) → x ≡ Ok o → Says (place_said o) r said → Says (found_said x) r said
+  found_is x o e s = rw e s
 
-  pub next-refused : (x : Result (Option ℕ) RefusedStream) (e : RefusedStream) → x ≡ Err e → Says (said_refused (error_number e.why) e.which) r said → Says (next_said x) r said
-  next-refused x r' e s = rw e s
+  pub found-refused : (x : Result (Option ℕ) RefusedStream) (e : RefusedStream) → x ≡ Err e → Says (said_refused (error_number e.why) e.which) r said → Says (found_said x) r said
+  found-refused x r' e s = rw e s
 
   pub start_is : (l l' : List ℕ) (x : Result Cursor RefusedStream) (k : Cursor) → x ≡ Ok k → l' ≡ cursor_words k → Says (said_is 0) r said → SaysStart x l r l' said
   start_is l l' x k e p s = rw e (record { says = s; cursor = p })
@@ -85,11 +73,9 @@ module _ (r : ℕ) (said : List ℕ) where
 
 pub ruleset saying_checked = (checked-valid, checked_refused, rules)
 
-pub ruleset saying_parts = (parting-at, parting-never, parts_is, parts-refused, rules)
-
 pub ruleset saying_class = (class-is, class-refused, rules)
 
-pub ruleset saying_offset = (offset_at, offset-nowhere, next-is, next-refused, rules)
+pub ruleset saying_found = (place_at, no-place, found_is, found-refused, rules)
 
 pub ruleset saying_start = (start_is, start-refused, rules)
 

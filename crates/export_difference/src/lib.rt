@@ -2,8 +2,10 @@
 #![tactic(auto)]
 
 ghost use Rattle.std.specs.Prelude.{◌≡◌, [], ◌∷◌};
-ghost use Rattle.export_difference.specs.Numbers.{class_number, said_is, said_none, said_refused, Says, checked_said, parting_said, parts_said, class_said, offset_said, next_said, cursor_in, cursor_words, pair_words, SaysStart};
+ghost use Rattle.rules.specs.Judging.{error_number};
+ghost use Rattle.export_difference.specs.Numbers.{class_number, said_is, said_none, said_refused, Says, checked_said, place_said, found_said, class_said, cursor_in, cursor_words, pair_words, SaysStart};
 
+use refusals::number;
 use rules::{Class, Cursor, Pair, RefusedStream};
 use widths::{u32_to_word, usize_to_word, word_to_usize};
 
@@ -50,11 +52,11 @@ fn say_number(said: &mut [u64; 1], value: usize) -> u32
 }
 
 // Says a refusal: which stream it is, beside the number of the rule that it breaks.
-fn say_refused(said: &mut [u64; 1], code: u32, which: u32) -> u32
-    ensures { Says (said_refused code which) result said.new }
+fn say_refused(said: &mut [u64; 1], refused: RefusedStream) -> u32
+    ensures { Says (said_refused (error_number refused.why) refused.which) result said.new }
 {
-    say(said, u32_to_word(which));
-    code
+    say(said, u32_to_word(refused.which));
+    number(refused.why)
 }
 
 // Says whether two streams are valid.
@@ -63,26 +65,7 @@ pub fn say_checked(said: &mut [u64; 1], x: Result<(), RefusedStream>) -> u32
 {
     match x {
         Ok(()) => say_number(said, 0),
-        Err(e) => say_refused(said, e.why as u32, e.which),
-    }
-}
-
-fn say_parting(said: &mut [u64; 1], x: Option<usize>) -> u32
-    ensures { Says (parting_said x) result said.new }
-{
-    match x {
-        Some(i) => say_number(said, i),
-        None => say_none(said),
-    }
-}
-
-// Says where two streams part.
-pub fn say_parts(said: &mut [u64; 1], x: Result<Option<usize>, RefusedStream>) -> u32
-    ensures { Says (parts_said x) result said.new }
-{
-    match x {
-        Ok(p) => say_parting(said, p),
-        Err(e) => say_refused(said, e.why as u32, e.which),
+        Err(refused) => say_refused(said, refused),
     }
 }
 
@@ -99,13 +82,13 @@ pub fn say_class(said: &mut [u64; 1], x: Result<Class, RefusedStream>) -> u32
 {
     match x {
         Ok(class) => say_class_number(said, class),
-        Err(e) => say_refused(said, e.why as u32, e.which),
+        Err(refused) => say_refused(said, refused),
     }
 }
 
-// Says an offset, or that there is none.
-pub fn say_offset(said: &mut [u64; 1], x: Option<usize>) -> u32
-    ensures { Says (offset_said x) result said.new }
+// Says a place, or that there is none.
+pub fn say_place(said: &mut [u64; 1], x: Option<usize>) -> u32
+    ensures { Says (place_said x) result said.new }
 {
     match x {
         Some(i) => say_number(said, i),
@@ -113,13 +96,13 @@ pub fn say_offset(said: &mut [u64; 1], x: Option<usize>) -> u32
     }
 }
 
-// Says the next differing offset.
-pub fn say_next(said: &mut [u64; 1], x: Result<Option<usize>, RefusedStream>) -> u32
-    ensures { Says (next_said x) result said.new }
+// Says a place that was asked for: where two streams part, or the next differing offset.
+pub fn say_found(said: &mut [u64; 1], x: Result<Option<usize>, RefusedStream>) -> u32
+    ensures { Says (found_said x) result said.new }
 {
     match x {
-        Ok(o) => say_offset(said, o),
-        Err(e) => say_refused(said, e.why as u32, e.which),
+        Ok(o) => say_place(said, o),
+        Err(refused) => say_refused(said, refused),
     }
 }
 
@@ -157,7 +140,7 @@ pub fn say_start(
             put_cursor(cursor, k);
             say_number(said, 0)
         }
-        Err(e) => say_refused(said, e.why as u32, e.which),
+        Err(refused) => say_refused(said, refused),
     }
 }
 

@@ -43,15 +43,15 @@ pub told-reached : (n : ℕ) → within n ≡ None → 18446744073709551616 ≤ 
 told-reached n h = by_test (small n) refl
   where
     by_test : (t : Bool) → small n ≡ t → 18446744073709551616 ≤ n
-    by_test true e = absurd (let q : pick true (Some n) None ≡ within n = by-small n true e in let z : Some n ≡ None = q ∙ h in let y : ◌≡◌ {A = ℕ} 0 1 = cc in omega arith)
+    by_test true e = absurd (let q : pick true (Some n) None ≡ within n = by-small n true e in let z : ◌≡◌ {A = Option ℕ} (Some n) None = q ∙ h in let y : ◌≡◌ {A = ℕ} 0 1 = cc in omega arith)
     by_test false e = ltb-false n 18446744073709551616 e
 
 pub told_below : (n m : ℕ) → within n ≡ Some m → m ≡ n
 told_below n m h = by_test (small n) refl
   where
     by_test : (t : Bool) → small n ≡ t → m ≡ n
-    by_test true e = let q : Some n ≡ within n = by-small n true e in let z : Some n ≡ Some m = q ∙ h in cc
-    by_test false e = absurd (let q : None ≡ within n = by-small n false e in let z : None ≡ Some m = q ∙ h in let y : ◌≡◌ {A = ℕ} 0 1 = cc in omega arith)
+    by_test true e = let q : Some n ≡ within n = by-small n true e in let z : ◌≡◌ {A = Option ℕ} (Some n) (Some m) = q ∙ h in cc
+    by_test false e = absurd (let q : None ≡ within n = by-small n false e in let z : ◌≡◌ {A = Option ℕ} None (Some m) = q ∙ h in let y : ◌≡◌ {A = ℕ} 0 1 = cc in omega arith)
 
 -- ---- totals that would reach 2^64
 

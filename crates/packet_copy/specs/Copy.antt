@@ -56,7 +56,7 @@ module _ (live i k : ℕ) (l : List ℕ) (place : i ≡ index_of handle_of k (re
 
 pub ruleset seeking = (seeks-nothing, seeks-buffer, seeks-texture, rules)
 
-live-not-none : (r : Resource) → None ≡ Some r → ⊥
+live-not-none : (r : Resource) → ◌≡◌ {A = Option Resource} None (Some r) → ⊥
 live-not-none r e = let z : ◌≡◌ {A = ℕ} 0 1 = cc in omega arith
 
 -- "18 .. not a live buffer"

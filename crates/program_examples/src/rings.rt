@@ -5,8 +5,8 @@ use crate::lines::{say_example, say_judged};
 use program_lines::{say, say_named};
 use ring_header::header::header_at;
 use ring_opening::opening::open;
-use rules::numbers::{BAD_RING, DESCRIPTOR_SIZE};
-use rules::{Descriptor, Opening};
+use rules::numbers::DESCRIPTOR_SIZE;
+use rules::{Descriptor, Opening, Refusal};
 
 // A submission without a table and without a stream.
 fn empty_submission(signal: u64) -> Descriptor {
@@ -38,9 +38,9 @@ fn opening_line(example: u32, mem: &[u8; 576]) {
     say_named(b", count ", h.count as u64);
     say(b": ");
     match open(mem, RING, RING_SIZE) {
-        Opening::BadRing => say_judged(BAD_RING),
+        Opening::BadRing => say_judged(Refusal::BadRing as u32),
         Opening::NoWork => say(b"no work"),
-        Opening::Refused(_, why) => say_judged(why.code),
+        Opening::Refused(_, why) => say_judged(why as u32),
         Opening::Started(o) => say_named(b"opened slot ", o.job.signal),
     }
     say(b"\n");

@@ -1,8 +1,8 @@
 // Examples 1 to 4: what textures measure, and which shapes are refused.
 use crate::lines::{say_example, say_judged};
 use program_lines::{say, say_count, say_named, say_number};
-use rules::Shape;
-use rules::numbers::{BAD_SHAPE, LONGEST_SIDE};
+use rules::numbers::LONGEST_SIDE;
+use rules::{Refusal, Shape};
 
 // ---- a line for each thing that can be asked of a shape
 
@@ -25,7 +25,7 @@ fn shape_line(example: u32, s: Shape) {
     if texture_shapes::good_shape(s) {
         say_judged(0);
     } else {
-        say_judged(BAD_SHAPE);
+        say_judged(Refusal::BadShape as u32);
     }
     say(b"\n");
 }
@@ -47,7 +47,7 @@ fn size_line(example: u32, s: Shape, pitch: u32) {
     say(b": ");
     let size = texture_sizes::packed_size(s.format, s.width, s.height, s.mips, s.layers, pitch);
     if size == 0 {
-        say_judged(BAD_SHAPE);
+        say_judged(Refusal::BadShape as u32);
     } else {
         say_number(size);
     }

@@ -18,6 +18,7 @@ use Rattle.rules.specs.Lists.Found.{none, found}
 use Rattle.rules.specs.Table.{matching}
 use Rattle.rules.specs.StatePackets.{begins, common, rectangle, unless_empty, clip_of}
 use Rattle.rules.specs.Names.{renamed, rename}
+use Rattle.rules.specs.Judging.{Verdict}
 use Rattle.rules.specs.Packets.{Holdings, at_first, left_by, handle_of, live, shape_in, live_texture, Progress, Belongings, Passed}
 use Rattle.rules.specs.declared.Entry.{Entry}
 use Rattle.rules.specs.declared.Resource.{Resource}
@@ -214,5 +215,5 @@ module _ (es : List Entry) (h : Progress) (s : SoundProgress es h) where
 abbrev pub KeepsIfBroken : Progress → Passed → Type 0
 KeepsIfBroken h o = (r : Refusal) → o.verdict ≡ Err r → o.held ≡ h
 
-pub fine-not-broken : (r : Refusal) → Ok tt ≡ Err r → ⊥
+pub fine-not-broken : (r : Refusal) → ◌≡◌ {A = Verdict} (Ok tt) (Err r) → ⊥
 fine-not-broken r e = let z : ◌≡◌ {A = ℕ} 0 1 = cc in omega arith

@@ -37,6 +37,7 @@ use Rattle.promises_of_submissions.specs.LocalPackets.{same_taken}
 use Rattle.promises_of_submissions.proofs.LocalOpening.{same-opening}
 use Rattle.promises_of_submissions.specs.Locality.{lent, SameEnd, SameRun, same-taken-entry}
 use Rattle.promises_of_submissions.specs.Appended.{SameButAppended, SameSubmission}
+use Rattle.rule_laws.specs.Frames.{same-packet}
 use Rattle.promises_of_submissions.proofs.Appended.{same-table, appended-bytes-same-submission}
 use Rattle.promises_of_submissions.specs.Appended.SameButAppended.{ends, packet, misframed}
 use Rattle.promises_of_submissions.specs.AppendedUnits.{Onward, SameAhead, SameOut, kept-no-fewer, no-packet, same-unwritten}
@@ -51,13 +52,13 @@ same-frames b b' (misframed r len e e') = e ∙ sym e'
 module _ (op size : ℕ) where
   same_row : (b b' : List ℕ) → SameButAppended b b' → frame_of b ≡ Ok (op, size) → Agree b b' 0 (least_size op)
   same_row b b' ends h = refl
-  same_row b b' (packet op₁ size₁ e e' same later) h = let is : op₁ ≡ op = cc in rw is at same
+  same_row b b' (packet op₁ size₁ e e' same later) h = let is : op₁ ≡ op = (same-packet op₁ size₁ op size (sym e ∙ h)).0 in rw is at same
   same_row b b' (misframed r len e e') h = absurd ((no-packet op size) b r e h)
 
   same_behind : (b b' : List ℕ) → SameButAppended b b' → frame_of b ≡ Ok (op, size) → SameButAppended (drop size b) (drop size b')
   unfolding frame_of frame_rules
   same_behind b b' ends h = absurd ((no-packet op size) [] _ refl h)
-  same_behind b b' (packet op₁ size₁ e e' same later) h = let is : size₁ ≡ size = cc in rw is at later
+  same_behind b b' (packet op₁ size₁ e e' same later) h = let is : size₁ ≡ size = (same-packet op₁ size₁ op size (sym e ∙ h)).1 in rw is at later
   same_behind b b' (misframed r len e e') h = absurd ((no-packet op size) b r e h)
 
 -- ---- one unit

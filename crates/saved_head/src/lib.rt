@@ -10,8 +10,8 @@ ghost use Rattle.saved_fields.specs.Judging.{judge_rules};
 ghost use Rattle.rules.specs.declared.Form.TheVariants.{Two};
 ghost use Rattle.saved_head.specs.Head.{fixed_rules, ring_rules, status_rules, memory_rules, good_error_by_halves};
 
-use rules::numbers::{BAD_RING, BAD_STATE, DEVICE_MAGIC, FEATURES, VERSION};
-use rules::{FileCheck, Form};
+use rules::numbers::{DEVICE_MAGIC, FEATURES, VERSION};
+use rules::{FileCheck, Form, Refusal};
 use saved_fields::{field_at, must, must_be, must_be_at_most, must_be_there};
 use saved_forms::more_registers;
 
@@ -49,10 +49,10 @@ fn good_code(code: u32) -> bool
     if code == 0 {
         return true;
     }
-    if code < BAD_RING {
+    if code < Refusal::BadRing as u32 {
         return false;
     }
-    code <= BAD_STATE
+    code <= Refusal::BadState as u32
 }
 
 // Whether the last error's fence, by its halves, and count go with its code.

@@ -148,12 +148,12 @@ good-rules (Ok _) t t' e = (refl, cc)
 good-rules (Err x) t t' e = let z : ◌≡◌ {A = ℕ} 0 1 = cc in absurd (omega arith)
 
 module _ (b : List ℕ) (memory : ℕ) (r : Result Table Refusal) (checked : r ≡ headed (header_rules (length b) (table_header b 0)) (checked_table 0 (table_header b 0))) where
-  pub first-in-header : (why : Refusal) → r ≡ Err why → record { code = error_number why; place = no_place } ≡ shown (table_finding b memory)
+  pub first-in-header : (why : Refusal) (n : ℕ) → r ≡ Err why → n ≡ error_number why → record { code = n; place = no_place } ≡ shown (table_finding b memory)
   unfolding table_finding
-  first-in-header why told =
+  first-in-header why n told is =
       let e : header_rules (length b) (table_header b 0) ≡ Err why =
       bad-rules (header_rules (length b) (table_header b 0)) (checked_table 0 (table_header b 0)) why (sym checked ∙ told) in
-      rw e
+      rw (e, is)
 
   module _ (t : Table) (told : r ≡ Ok t) where
     both : (header_rules (length b) (table_header b 0) ≡ Ok tt) × (t ≡ checked_table 0 (table_header b 0))

@@ -5,6 +5,7 @@ ghost use Rattle.rules.specs.Table.{entries_of, judge_entries, table_finding};
 ghost use Rattle.table_whole.specs.Whole.{shown, Within};
 
 use kept_entries::entry_at;
+use refusals::number;
 use rules::{Fault, Refusal, Table};
 use table_entries::entry::sound;
 use table_header::header::{check_header, entry_offset};
@@ -52,7 +53,7 @@ pub fn first_fault(table: &[u8], memory: u64) -> Fault
     match check_header(table, 0, table.len() as u64) {
         Ok(t) => entries_fault(table, memory, t),
         Err(why) => Fault {
-            code: why as u32,
+            code: number(why),
             place: 0,
         },
     }

@@ -2,11 +2,10 @@
 // 17; its value is in the one word lent. A walk over all packets has a cursor of two words, which the host owns.
 ghost use Rattle.std.specs.Prelude.{◌≡◌};
 ghost use Rattle.rules.specs.Difference.{check, parts, class_asked, next_asked, start, pair_at, next_at, onward};
-ghost use Rattle.export_difference.specs.Numbers.{Says, checked_said, parts_said, class_said, next_said, offset_said, SaysStart, cursor_in, cursor_words, pair_words};
+ghost use Rattle.export_difference.specs.Numbers.{Says, checked_said, found_said, class_said, place_said, SaysStart, cursor_in, cursor_words, pair_words};
 
 use export_difference::{
-    cursor_in, put_cursor, say_checked, say_class, say_next, say_offset, say_pair, say_parts,
-    say_start,
+    cursor_in, put_cursor, say_checked, say_class, say_found, say_pair, say_place, say_start,
 };
 use widths::word_to_usize;
 
@@ -20,10 +19,10 @@ pub fn zelezmut_difference_check(first: &[u8], second: &[u8], said: &mut [u64; 1
 
 // The first packet index that is not equal.
 pub fn zelezmut_difference_parts(first: &[u8], second: &[u8], said: &mut [u64; 1]) -> u32
-    ensures { Says (parts_said (parts first.now second.now)) result said.new }
+    ensures { Says (found_said (parts first.now second.now)) result said.new }
 {
     let x = diff_calls::parts(first, second);
-    say_parts(said, x)
+    say_found(said, x)
 }
 
 // How the packets with an index compare: equal 0, same opcode 1, other opcode 2, only in the first 3, only in the second 4, in neither 5.
@@ -47,12 +46,12 @@ pub fn zelezmut_difference_next(
     from: u64,
     said: &mut [u64; 1],
 ) -> u32
-    ensures { Says (next_said (next_asked first.now second.now index from)) result said.new }
+    ensures { Says (found_said (next_asked first.now second.now index from)) result said.new }
 {
     let i = word_to_usize(index);
     let offset = word_to_usize(from);
     let x = diff_calls::next_offset(first, second, i, offset);
-    say_next(said, x)
+    say_found(said, x)
 }
 
 // Checks both streams and puts the cursor at their first packets; a refusal leaves it.
@@ -85,12 +84,12 @@ pub fn zelezmut_difference_pair_next(
     from: u64,
     said: &mut [u64; 1],
 ) -> u32
-    ensures { Says (offset_said (next_at first.now second.now (cursor_in cursor.now) from)) result said.new }
+    ensures { Says (place_said (next_at first.now second.now (cursor_in cursor.now) from)) result said.new }
 {
     let k = cursor_in(cursor);
     let offset = word_to_usize(from);
     let x = diff_calls::next_at(first, second, k, offset);
-    say_offset(said, x)
+    say_place(said, x)
 }
 
 // Moves each place of the cursor behind its packet; a place without a packet stays.

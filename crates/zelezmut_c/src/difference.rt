@@ -2,7 +2,7 @@
 // 17; its value is in the one word lent. A walk over all packets has a cursor of two words, which the host owns.
 ghost use Rattle.std.specs.Prelude.{◌≡◌};
 ghost use Rattle.rules.specs.Difference.{check, parts, class_asked, next_asked, start, pair_at, next_at, onward};
-ghost use Rattle.export_difference.specs.Numbers.{Says, checked_said, parts_said, class_said, next_said, offset_said, SaysStart, cursor_in, cursor_words, pair_words};
+ghost use Rattle.export_difference.specs.Numbers.{Says, checked_said, found_said, class_said, place_said, SaysStart, cursor_in, cursor_words, pair_words};
 
 // Whether both are valid streams: 0, or 16 or 17 beside which of the two it is, the first if both.
 #[unsafe(no_mangle)]
@@ -15,7 +15,7 @@ pub extern "C" fn zelezmut_difference_check(first: &[u8], second: &[u8], said: &
 // The first packet index that is not equal.
 #[unsafe(no_mangle)]
 pub extern "C" fn zelezmut_difference_parts(first: &[u8], second: &[u8], said: &mut [u64; 1]) -> u32
-    ensures { Says (parts_said (parts first.now second.now)) result said.new }
+    ensures { Says (found_said (parts first.now second.now)) result said.new }
 {
     zelezmut::difference::zelezmut_difference_parts(first, second, said)
 }
@@ -42,7 +42,7 @@ pub extern "C" fn zelezmut_difference_next(
     from: u64,
     said: &mut [u64; 1],
 ) -> u32
-    ensures { Says (next_said (next_asked first.now second.now index from)) result said.new }
+    ensures { Says (found_said (next_asked first.now second.now index from)) result said.new }
 {
     zelezmut::difference::zelezmut_difference_next(first, second, index, from, said)
 }
@@ -83,7 +83,7 @@ pub extern "C" fn zelezmut_difference_pair_next(
     from: u64,
     said: &mut [u64; 1],
 ) -> u32
-    ensures { Says (offset_said (next_at first.now second.now (cursor_in cursor.now) from)) result said.new }
+    ensures { Says (place_said (next_at first.now second.now (cursor_in cursor.now) from)) result said.new }
 {
     zelezmut::difference::zelezmut_difference_pair_next(first, second, cursor, from, said)
 }

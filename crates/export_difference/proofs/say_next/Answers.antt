@@ -1,9 +1,0 @@
--- `say_next` meets its contract. Assumes nothing.
-use Rattle.export_difference.specs.Saying.{saying_offset}
-use Rattle.export_difference.proofs.say_next.Goals as goal
-
-pub returns-in-Ok : goal.returns-in-Ok
-returns-in-Ok c = search saying_offset
-
-pub returns-in-Err : goal.returns-in-Err
-returns-in-Err c = search saying_offset
