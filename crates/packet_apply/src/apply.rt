@@ -6,7 +6,7 @@ ghost use Rattle.rules.specs.declared.Packet.TheVariants.{Target};
 ghost use Rattle.kept_entries.specs.Views.{entries_of};
 ghost use Rattle.packet_ranges.specs.Views.{RowsExist};
 ghost use Rattle.packet_held.specs.Held.{holdings_held};
-ghost use Rattle.packet_apply.specs.Apply.{plainly, leaving, Leaves, Takes, TakesDestroy};
+ghost use Rattle.packet_apply.specs.Apply.{Leaves, Takes, TakesDestroy};
 
 use kept_entries::Entries;
 use kept_records::Records;
@@ -26,42 +26,13 @@ use rules::{
     SetScissor, SetTarget,
 };
 
-// What there is to say of a packet beside what it came to: nothing, that nobody knows it, or that it is left.
-pub const PLAIN: u32 = 0;
-
-pub const UNKNOWN: u32 = 1;
-
-pub const LEFT: u32 = 2;
-
-// What a packet came to, or, if it is left, that it has changed nothing, and the packet. That nobody knows it is a hint: more such packets are
-// likely to come.
+// What a packet came to. Of one that nobody knows, and of one that is left, here is what is held as it was. That nobody knows it is a hint: more
+// such packets are likely to come.
 #[derive(Clone, Copy)]
-pub struct Taken {
-    pub changed: Changed,
-    pub what: u32,
-    pub left: SharedPacket,
-}
-
-// A packet of which there is no more to say.
-fn plain(changed: Changed) -> Taken
-    ensures { result ≡ plainly changed }
-{
-    Taken {
-        changed,
-        what: PLAIN,
-        left: SharedPacket::Nothing,
-    }
-}
-
-// A packet that is left: nothing has changed.
-fn leave(h: Held, packet: SharedPacket) -> Taken
-    ensures { result ≡ leaving h packet }
-{
-    Taken {
-        changed: Changed { why: 0, held: h },
-        what: LEFT,
-        left: packet,
-    }
+pub enum Taken {
+    Plain(Changed),
+    Unknown(Held),
+    Left(Held, SharedPacket),
 }
 
 fn make_buffer(
@@ -80,7 +51,7 @@ fn make_buffer(
 {
     take_own(resources, own, h.copied, h.live);
     let a = on_buffer(entries, kept, own, h.live, records, h.made, c);
-    with_own(a, 1, h.target)
+    with_own(a, true, h.target)
 }
 
 fn make_texture(
@@ -99,7 +70,7 @@ fn make_texture(
 {
     take_own(resources, own, h.copied, h.live);
     let a = on_texture(entries, kept, own, h.live, records, h.made, c);
-    with_own(a, 1, h.target)
+    with_own(a, true, h.target)
 }
 
 fn destroy(
@@ -113,20 +84,22 @@ fn destroy(
     ensures { TakesDestroy h resources.now own.old records.now c result own.new records.now }
 {
     take_own(resources, own, h.copied, h.live);
-    let x = destroy_unshared(own, h.live, h.made, c);
-    if x.left {
-        let held = Held {
-            live: h.live,
-            made: h.made,
-            copied: 1,
-            target: h.target,
-        };
-        return leave(held, SharedPacket::Destroy(c));
+    match destroy_unshared(own, h.live, h.made, c) {
+        Some(a) => {
+            let verdict = a.verdict;
+            let target = if_fine(verdict, without(c.handle, h.target), h.target);
+            Taken::Plain(with_own(a, true, target))
+        }
+        None => {
+            let held = Held {
+                live: h.live,
+                made: h.made,
+                copied: true,
+                target: h.target,
+            };
+            Taken::Left(held, SharedPacket::Destroy(c))
+        }
     }
-    let a = x.applied;
-    let verdict = a.verdict;
-    let target = if_fine(verdict, without(c.handle, h.target), h.target);
-    plain(with_own(a, 1, target))
 }
 
 fn dirty<'a>(
@@ -218,27 +191,31 @@ pub fn apply_packet(
         own.new records.new }
 {
     match p {
-        Packet::Buffer(c) => plain(make_buffer(entries, kept, resources, own, records, h, c)),
-        Packet::Texture(c) => plain(make_texture(entries, kept, resources, own, records, h, c)),
+        Packet::Buffer(c) => Taken::Plain(make_buffer(
+            entries, kept, resources, own, records, h, c,
+        )),
+        Packet::Texture(c) => Taken::Plain(make_texture(
+            entries, kept, resources, own, records, h, c,
+        )),
         Packet::Destroy(c) => destroy(resources, own, records, h, c),
-        Packet::Dirty(c) => plain(dirty(entries, kept, resources, own, records, h, c)),
-        Packet::Copy(c) => plain(copy(entries, kept, resources, own, records, h, c)),
-        Packet::Target(c) => plain(aim(resources, own, records, h, c)),
-        Packet::Viewport(c) => plain(with_own(on_viewport(h.live, h.made, c), h.copied, h.target)),
-        Packet::Scissor(c) => plain(cut(resources, own, records, h, c)),
-        Packet::Clear(c) => plain(with_own(on_clear(h.live, h.made, c), h.copied, h.target)),
-        Packet::Export(c) => leave(h, SharedPacket::Export(c)),
-        Packet::Import(c) => leave(h, SharedPacket::Import(c)),
-        Packet::Release(c) => leave(h, SharedPacket::Release(c)),
-        Packet::NotANumber => plain(with_own(
+        Packet::Dirty(c) => Taken::Plain(dirty(entries, kept, resources, own, records, h, c)),
+        Packet::Copy(c) => Taken::Plain(copy(entries, kept, resources, own, records, h, c)),
+        Packet::Target(c) => Taken::Plain(aim(resources, own, records, h, c)),
+        Packet::Viewport(c) => Taken::Plain(with_own(
+            on_viewport(h.live, h.made, c),
+            h.copied,
+            h.target,
+        )),
+        Packet::Scissor(c) => Taken::Plain(cut(resources, own, records, h, c)),
+        Packet::Clear(c) => Taken::Plain(with_own(on_clear(h.live, h.made, c), h.copied, h.target)),
+        Packet::Export(c) => Taken::Left(h, SharedPacket::Export(c)),
+        Packet::Import(c) => Taken::Left(h, SharedPacket::Import(c)),
+        Packet::Release(c) => Taken::Left(h, SharedPacket::Release(c)),
+        Packet::NotANumber => Taken::Plain(with_own(
             refuse(Refusal::BadState, h.live, h.made),
             h.copied,
             h.target,
         )),
-        Packet::Unknown => Taken {
-            changed: Changed { why: 0, held: h },
-            what: UNKNOWN,
-            left: SharedPacket::Nothing,
-        },
+        Packet::Unknown => Taken::Unknown(h),
     }
 }

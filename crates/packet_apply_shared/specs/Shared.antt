@@ -1,6 +1,6 @@
 -- A packet that needs tokens: what it comes to is what the rules say, of the tables that have the submission's resources and tokens, whatever the
 -- records and entries are. Assumes nothing.
-use Rattle.std.specs.Prelude.{◌≡◌, refl, eqb, Err, Ok}
+use Rattle.std.specs.Prelude.{◌≡◌, refl, Bool, true, eqb, Err, Ok}
 use Rattle.std.proofs.Math.Path.{sym, ap}
 use Rattle.std.proofs.Common.{◌∙◌, rules}
 use mathlib.Core.List.{List, [], ◌∷◌}
@@ -30,13 +30,13 @@ use Rattle.packet_export.specs.declared.export.Exported.{Exported}
 use Rattle.packet_share.specs.declared.release.Released.{Released}
 use Rattle.packet_ranges.specs.declared.applied.Applied.{Applied}
 use Rattle.packet_ranges.specs.declared.applied.Renamed.{Renamed}
-use Rattle.packet_held.specs.Tokens.{own_in, tokens_held, Retokened}
-use Rattle.packet_held.specs.Held.{number_of, changed_of, holdings_held, held_of, packet_of}
+use Rattle.packet_held.specs.Tokens.{tokens_held, Retokened}
+use Rattle.packet_held.specs.Held.{changed_of, holdings_held, held_of, packet_of}
 use Rattle.packet_held.specs.declared.tokens.HeldTokens.{HeldTokens}
 use Rattle.packet_held.specs.declared.held.Held.{Held}
 use Rattle.packet_held.specs.declared.held.Changed.{Changed}
 use Rattle.packet_held.specs.declared.held.SharedPacket.{SharedPacket}
-use Rattle.packet_held.specs.declared.held.SharedPacket.TheVariants.{Nothing, Destroy as SharedDestroy, Export as SharedExport, Import as SharedImport, Release as SharedRelease}
+use Rattle.packet_held.specs.declared.held.SharedPacket.TheVariants.{Destroy as SharedDestroy, Export as SharedExport, Import as SharedImport, Release as SharedRelease}
 use Rattle.packet_apply_shared.specs.declared.Shared.{Shared}
 
 abbrev pub shared_of : Changed → HeldTokens → Shared
@@ -45,7 +45,7 @@ shared_of y t = record { changed = y; tokens = t }
 -- what is held after it, its tokens too, and the rule that it breaks are what the rules say, whatever the records and the entries are; their rows
 -- are there
 pub record Shares (k : Held) (u : HeldTokens) (r h dt ot : List ℕ) (p : Packet) (x : Shared) (h' ot' : List ℕ) : Type 0 where
-  pub why : (es : List Entry) (c : List ℕ) → x.changed.why ≡ number_of (pass es (held_of k r h c (tokens_held u dt ot)) p).verdict
+  pub verdict : (es : List Entry) (c : List ℕ) → x.changed.verdict ≡ (pass es (held_of k r h c (tokens_held u dt ot)) p).verdict
   pub held : (es : List Entry) (c : List ℕ) → held_of x.changed.held r h' c (tokens_held x.tokens dt ot') ≡ (pass es (held_of k r h c (tokens_held u dt ot)) p).held
   pub live : x.changed.held.live ≤ most
   pub made : x.changed.held.made ≤ most
@@ -53,16 +53,16 @@ pub record Shares (k : Held) (u : HeldTokens) (r h dt ot : List ℕ) (p : Packet
 
 -- what a packet comes to, by other rows that have what is held, whose outcome and tokens are these
 passes : (p : Packet) (k : Held) (u : HeldTokens) (r h dt ot h' ot' : List ℕ) (held : List ℕ → Holdings) → ((c : List ℕ) → holdings_held k r h c ≡ held c)
-    → (o : Holdings → Outcome) (a : Applied) (copied : ℕ) (l : List ℕ) (t : ℕ) (y : HeldTokens) (x : Shared)
+    → (o : Holdings → Outcome) (a : Applied) (copied : Bool) (l : List ℕ) (t : ℕ) (y : HeldTokens) (x : Shared)
     → ((es : List Entry) (c : List ℕ) → pass es (held_of k r h c (tokens_held u dt ot)) p ≡ passed p (held_of k r h c (tokens_held u dt ot)) (o (holdings_held k r h c)))
-    → x ≡ shared_of (changed_of a copied t) y → pick (own_in copied) h' r ≡ l → ((c : List ℕ) → Applies (o (held c)) a l c)
+    → x ≡ shared_of (changed_of a copied t) y → pick copied h' r ≡ l → ((c : List ℕ) → Applies (o (held c)) a l c)
     → ((c : List ℕ) → t ≡ target_after p (o (held c)).verdict k.target)
     → ((c : List ℕ) → tokens_held y dt ot' ≡ tokens_after p (o (held c)).verdict (held c) (tokens_held u dt ot)) → y.used ≤ most_tokens
     → Shares k u r h dt ot p x h' ot'
 passes p k u r h dt ot h' ot' held same o a copied l t y x passed-as is there q aimed z room =
     rw is
     (record {
-      why = λ es c. rw (passed-as es c, same c) (ap (λ (w : Outcome). number_of w.verdict) (q c).outcome);
+      verdict = λ es c. rw (passed-as es c, same c) (ap (λ (w : Outcome). w.verdict) (q c).outcome);
       held = λ es c.
           rw (passed-as es c, same c, there, z c, aimed c)
           (ap (λ (w : Outcome). record { holdings = w.held; target = target_after p (o (held c)).verdict k.target; tokens = tokens_after p (o (held c)).verdict (held c) (tokens_held u dt ot) }) (q c).outcome);
@@ -74,32 +74,32 @@ passes p k u r h dt ot h' ot' held same o a copied l t y x passed-as is there q 
 -- ---- destroy: on the submission's own table, and its tokens follow
 
 pub destroys : (r h h₁ dt ot h' ot' : List ℕ) (k : Held) (u : HeldTokens) (b : DestroyResource) (m : Renamed) (y : HeldTokens) (after t : ℕ) (w : Changed) (x : Shared)
-    → resources_of k.live h₁ ≡ resources_of k.live (pick (own_in k.copied) h r)
+    → resources_of k.live h₁ ≡ resources_of k.live (pick k.copied h r)
     → Destroys b k.live k.made h₁ m h'
     → Retokened dt (rebind m.old m.new (tokens_held u dt ot)) y ot'
     → after ≡ pick (eqb b.handle k.target) 0 k.target → t ≡ if-fine m.applied.verdict after k.target
-    → w ≡ changed_of m.applied 1 t → x ≡ shared_of w y
+    → w ≡ changed_of m.applied true t → x ≡ shared_of w y
     → Shares k u r h dt ot (Destroy b) x h' ot'
 unfolding pass apply target_after
 destroys r h h₁ dt ot h' ot' k u b m y after t w x same d z i j came is =
     let o : List ℕ → Outcome = λ c. on_destroy_packet (holdings_of k.live h₁ k.made c) b in
     let v : (c : List ℕ) → m.applied.verdict ≡ (o c).verdict = λ c. ap (λ (n : Outcome). n.verdict) (d.applies c).outcome in
     let rows : (c : List ℕ) → holdings_held k r h c ≡ holdings_of k.live h₁ k.made c = λ c. rw same in
-    passes (Destroy b) k u r h dt ot h' ot' (λ c. holdings_of k.live h₁ k.made c) rows (λ n. on_destroy_packet n b) m.applied 1 h' t y x (λ es c. refl) (rw came at is) refl (λ c. d.applies c)
+    passes (Destroy b) k u r h dt ot h' ot' (λ c. holdings_of k.live h₁ k.made c) rows (λ n. on_destroy_packet n b) m.applied true h' t y x (λ es c. refl) (rw came at is) refl (λ c. d.applies c)
     (λ c. rw (← v c, ← i) j) (λ c. z.tokens ∙ rw (← v c) ((d.rebinds c).tokens (tokens_held u dt ot))) z.room
 
 pub ruleset destroying = (destroys, rules)
 
 -- ---- judge_export, judge_import, judge_release: by the table that has the tokens
 
-module _ (live made used i copied : ℕ) (l dt ot t : List ℕ) (here : t ≡ pick (own_in copied) ot dt) (same : i ≡ used) where
-  pub judged-export : (b : ExportSurface) (m : Exported) → Exports b live made i l t m → Exports b live made used l (pick (own_in copied) ot dt) m
+module _ (live made used i : ℕ) (copied : Bool) (l dt ot t : List ℕ) (here : t ≡ pick copied ot dt) (same : i ≡ used) where
+  pub judged-export : (b : ExportSurface) (m : Exported) → Exports b live made i l t m → Exports b live made used l (pick copied ot dt) m
   judged-export b m d = rw (← here, ← same) d
 
-  pub judged-import : (b : ImportSurface) (m : Renamed) (l' : List ℕ) → Imports b live made i l t m l' → Imports b live made used l (pick (own_in copied) ot dt) m l'
+  pub judged-import : (b : ImportSurface) (m : Renamed) (l' : List ℕ) → Imports b live made i l t m l' → Imports b live made used l (pick copied ot dt) m l'
   judged-import b m l' d = rw (← here, ← same) d
 
-  pub judged-release : (b : ReleaseToken) (m : Released) → Releases b live made i l t m → Releases b live made used l (pick (own_in copied) ot dt) m
+  pub judged-release : (b : ReleaseToken) (m : Released) → Releases b live made i l t m → Releases b live made used l (pick copied ot dt) m
   judged-release b m d = rw (← here, ← same) d
 
 pub ruleset judging = (judged-export, judged-import, judged-release, rules)
@@ -107,28 +107,28 @@ pub ruleset judging = (judged-export, judged-import, judged-release, rules)
 -- ---- import: the same
 
 pub imports : (r h h₁ dt ot h' ot' : List ℕ) (k : Held) (u : HeldTokens) (b : ImportSurface) (m : Renamed) (y : HeldTokens) (w : Changed) (x : Shared)
-    → resources_of k.live h₁ ≡ resources_of k.live (pick (own_in k.copied) h r)
-    → Imports b k.live k.made u.used h₁ (pick (own_in u.copied) ot dt) m h'
+    → resources_of k.live h₁ ≡ resources_of k.live (pick k.copied h r)
+    → Imports b k.live k.made u.used h₁ (pick u.copied ot dt) m h'
     → Retokened dt (rebind m.old m.new (tokens_held u dt ot)) y ot'
-    → w ≡ changed_of m.applied 1 k.target → x ≡ shared_of w y
+    → w ≡ changed_of m.applied true k.target → x ≡ shared_of w y
     → Shares k u r h dt ot (Import b) x h' ot'
 unfolding pass apply target_after
 imports r h h₁ dt ot h' ot' k u b m y w x same d z came is =
     let o : List ℕ → Outcome = λ c. on_import_packet (tokens_held u dt ot) (holdings_of k.live h₁ k.made c) b in
     let v : (c : List ℕ) → m.applied.verdict ≡ (o c).verdict = λ c. ap (λ (n : Outcome). n.verdict) (d.applies c).outcome in
     let rows : (c : List ℕ) → holdings_held k r h c ≡ holdings_of k.live h₁ k.made c = λ c. rw same in
-    passes (Import b) k u r h dt ot h' ot' (λ c. holdings_of k.live h₁ k.made c) rows (λ n. on_import_packet (tokens_held u dt ot) n b) m.applied 1 h' k.target y x (λ es c. refl) (rw came at is) refl (λ c. d.applies c)
+    passes (Import b) k u r h dt ot h' ot' (λ c. holdings_of k.live h₁ k.made c) rows (λ n. on_import_packet (tokens_held u dt ot) n b) m.applied true h' k.target y x (λ es c. refl) (rw came at is) refl (λ c. d.applies c)
     (λ c. refl) (λ c. z.tokens ∙ rw (← v c) (d.rebinds c)) z.room
 
 pub ruleset importing = (imports, rules)
 
 -- ---- export, release: on the table that has the resources
 
-module _ (r h l dt ot ot' : List ℕ) (k : Held) (u : HeldTokens) (here : l ≡ pick (own_in k.copied) h r) (w : Changed) (x : Shared) (y : HeldTokens) (is : x ≡ shared_of w y) where
+module _ (r h l dt ot ot' : List ℕ) (k : Held) (u : HeldTokens) (here : l ≡ pick k.copied h r) (w : Changed) (x : Shared) (y : HeldTokens) (is : x ≡ shared_of w y) where
   rows-here : (c : List ℕ) → holdings_held k r h c ≡ holdings_of k.live l k.made c
   rows-here c = rw (← here)
 
-  pub exports : (b : ExportSurface) (m : Exported) → Exports b k.live k.made u.used l (pick (own_in u.copied) ot dt) m
+  pub exports : (b : ExportSurface) (m : Exported) → Exports b k.live k.made u.used l (pick u.copied ot dt) m
       → Retokened dt (pick m.added (pushed (tokens_held u dt ot) (record { name = m.name; token = b.token })) (tokens_held u dt ot)) y ot'
       → w ≡ changed_of m.applied k.copied k.target
       → Shares k u r h dt ot (Export b) x h ot'
@@ -139,8 +139,8 @@ module _ (r h l dt ot ot' : List ℕ) (k : Held) (u : HeldTokens) (here : l ≡ 
       passes (Export b) k u r h dt ot h ot' (λ c. holdings_of k.live l k.made c) rows-here (λ n. on_export_packet (tokens_held u dt ot) n b) m.applied k.copied l k.target y x (λ es c. refl) (rw came at is) (sym here) (λ c. d.applies c)
       (λ c. refl) (λ c. z.tokens ∙ sym (rw (← v c) (d.tokens c))) z.room
 
-  module _ (b : ReleaseToken) (m : Released) (d : Releases b k.live k.made u.used l (pick (own_in u.copied) ot dt) m) (came : w ≡ changed_of m.applied k.copied k.target) where
-    released-as : (ts : List Token) → if-fine m.applied.verdict (over m.place (spent_at (pick (own_in u.copied) ot dt) m.place ∷ []) (tokens_held u dt ot)) (tokens_held u dt ot) ≡ ts
+  module _ (b : ReleaseToken) (m : Released) (d : Releases b k.live k.made u.used l (pick u.copied ot dt) m) (came : w ≡ changed_of m.applied k.copied k.target) where
+    released-as : (ts : List Token) → if-fine m.applied.verdict (over m.place (spent_at (pick u.copied ot dt) m.place ∷ []) (tokens_held u dt ot)) (tokens_held u dt ot) ≡ ts
         → Retokened dt ts y ot' → Shares k u r h dt ot (Release b) x h ot'
     unfolding pass apply target_after
     released-as ts e z =
@@ -150,13 +150,13 @@ module _ (r h l dt ot ot' : List ℕ) (k : Held) (u : HeldTokens) (here : l ≡ 
         (λ c. refl) (λ c. z.tokens ∙ sym (rw (← v c) (d.spends c ∙ e))) z.room
 
     pub releases : m.applied.verdict ≡ Ok tt
-        → Retokened dt (over m.place (spent_at (pick (own_in u.copied) ot dt) m.place ∷ []) (tokens_held u dt ot)) y ot'
+        → Retokened dt (over m.place (spent_at (pick u.copied ot dt) m.place ∷ []) (tokens_held u dt ot)) y ot'
         → Shares k u r h dt ot (Release b) x h ot'
     releases q z = released-as _ (rw q) z
 
 -- one that is refused leaves the tokens where they are
 pub keeps-token : (r h l dt ot : List ℕ) (k : Held) (u : HeldTokens) (b : ReleaseToken) (m : Released) (w : Changed) (x : Shared) (why : Refusal) → ((k.live ≤ most) × (k.made ≤ most)) × (u.used ≤ most_tokens)
-    → l ≡ pick (own_in k.copied) h r → Releases b k.live k.made u.used l (pick (own_in u.copied) ot dt) m → w ≡ changed_of m.applied k.copied k.target → x ≡ shared_of w u
+    → l ≡ pick k.copied h r → Releases b k.live k.made u.used l (pick u.copied ot dt) m → w ≡ changed_of m.applied k.copied k.target → x ≡ shared_of w u
     → m.applied.verdict ≡ Err why
     → Shares k u r h dt ot (Release b) x h ot
 keeps-token r h l dt ot k u b m w x why room here d came is q =
@@ -185,10 +185,4 @@ module _ (r h dt ot h' ot' : List ℕ) (k : Held) (u : HeldTokens) (p : SharedPa
   pub release-shared : (b : ReleaseToken) → p ≡ SharedRelease b → Shares k u r h dt ot (Release b) x h' ot' → Shares k u r h dt ot (packet_of p) x h' ot'
   release-shared b q i = rw q i
 
-pub nothing-shared : (r h dt ot : List ℕ) (k : Held) (u : HeldTokens) (p : SharedPacket) (x : Shared) → ((k.live ≤ most) × (k.made ≤ most)) × (u.used ≤ most_tokens) → p ≡ Nothing
-    → x ≡ shared_of (record { why = 0; held = k }) u → Shares k u r h dt ot (packet_of p) x h ot
-unfolding pass apply target_after tokens_after
-nothing-shared r h dt ot k u p x room q is =
-    rw (q, is) (record { why = λ es c. refl; held = λ es c. refl; live = room.0.0; made = room.0.1; tokens = room.1 })
-
-pub ruleset sharing = (destroy-shared, export-shared, import-shared, release-shared, nothing-shared, rules)
+pub ruleset sharing = (destroy-shared, export-shared, import-shared, release-shared, rules)

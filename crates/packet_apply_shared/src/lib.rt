@@ -9,7 +9,6 @@ ghost use Rattle.rules.specs.declared.Packet.TheVariants.{Destroy, Export, Impor
 ghost use Rattle.packet_export.specs.Export.{Exports};
 ghost use Rattle.packet_share.specs.Import.{Imports};
 ghost use Rattle.packet_share.specs.Release.{Releases};
-ghost use Rattle.packet_held.specs.Tokens.{own_in};
 ghost use Rattle.packet_held.specs.Held.{packet_of};
 ghost use Rattle.packet_apply_shared.specs.Shared.{shared_of, Shares};
 
@@ -60,7 +59,7 @@ fn destroy(
     let a = x.applied;
     let verdict = a.verdict;
     let target = if_fine(verdict, without(c.handle, h.target), h.target);
-    with_tokens(with_own(a, 1, target), held)
+    with_tokens(with_own(a, true, target), held)
 }
 
 // What the rules say of an export, by the table that has the submission's tokens.
@@ -73,7 +72,7 @@ fn judge_export<'a>(
     c: ExportSurface,
 ) -> Exported
     requires { ((h.live ≤ most) × (h.made ≤ most)) × (t.used ≤ most_tokens) }
-    ensures { Exports c h.live h.made t.used table.now (pick (own_in t.copied) owntokens.now tokens.now) result }
+    ensures { Exports c h.live h.made t.used table.now (pick t.copied owntokens.now tokens.now) result }
 {
     let used = chosen_tokens(tokens, owntokens, t.copied);
     on_export(table, h.live, h.made, used, u32_to_usize(t.used), c)
@@ -113,7 +112,7 @@ fn judge_import<'a>(
     c: ImportSurface,
 ) -> Renamed
     requires { ((h.live ≤ most) × (h.made ≤ most)) × (t.used ≤ most_tokens) }
-    ensures { Imports c h.live h.made t.used own.old (pick (own_in t.copied) owntokens.now tokens.now) result own.new }
+    ensures { Imports c h.live h.made t.used own.old (pick t.copied owntokens.now tokens.now) result own.new }
 {
     let used = chosen_tokens(tokens, owntokens, t.copied);
     on_import(own, h.live, h.made, used, u32_to_usize(t.used), c)
@@ -136,7 +135,7 @@ fn import(
     let x = judge_import(own, tokens, owntokens, h, t, c);
     let held = rebound(tokens, owntokens, t, x.old, x.new);
     let a = x.applied;
-    with_tokens(with_own(a, 1, h.target), held)
+    with_tokens(with_own(a, true, h.target), held)
 }
 
 // What the rules say of a release, by the table that has the submission's tokens.
@@ -149,7 +148,7 @@ fn judge_release<'a>(
     c: ReleaseToken,
 ) -> Released
     requires { ((h.live ≤ most) × (h.made ≤ most)) × (t.used ≤ most_tokens) }
-    ensures { Releases c h.live h.made t.used table.now (pick (own_in t.copied) owntokens.now tokens.now) result }
+    ensures { Releases c h.live h.made t.used table.now (pick t.copied owntokens.now tokens.now) result }
 {
     let used = chosen_tokens(tokens, owntokens, t.copied);
     on_release(table, h.live, h.made, used, u32_to_usize(t.used), c)
@@ -181,7 +180,7 @@ fn release<'a>(
     }
 }
 
-// What a packet that was left does to what a submission holds; where none was, nothing.
+// What a packet that was left does to what a submission holds.
 pub fn apply_shared(
     resources: &Resources,
     own: &mut Resources,
@@ -200,6 +199,5 @@ pub fn apply_shared(
         SharedPacket::Export(c) => export(resources, own, tokens, owntokens, h, t, c),
         SharedPacket::Import(c) => import(resources, own, tokens, owntokens, h, t, c),
         SharedPacket::Release(c) => release(resources, own, tokens, owntokens, h, t, c),
-        SharedPacket::Nothing => with_tokens(Changed { why: 0, held: h }, t),
     }
 }

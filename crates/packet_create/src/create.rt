@@ -50,29 +50,21 @@ pub fn on_buffer(
     create(entries, kept, own, live, records, made, good, r)
 }
 
-// Whether a texture is good, and the bytes that it takes in guest memory.
-#[derive(Clone, Copy)]
-struct Weighed {
-    good: bool,
-    bytes: u64,
-}
-
-// Weighs a texture. One in guest memory has bytes exactly if its shape and its pitch are good; a host-backed one has none.
-fn weigh(c: CreateTexture) -> Weighed
+// Weighs a texture: the bytes that it takes in guest memory, or none where its shape or its pitch is not good. One in guest memory has bytes exactly
+// if both are; a host-backed one takes 0.
+fn weigh(c: CreateTexture) -> Option<u64>
     ensures { result ≡ weighed c }
 {
     let shape = c.shape;
     if c.backing == 0 {
-        return Weighed {
-            good: texture_shapes::good_shape(shape),
-            bytes: 0,
+        return if texture_shapes::good_shape(shape) {
+            Some(0)
+        } else {
+            None
         };
     }
     let bytes = texture_sizes::packed_size_of(shape, c.pitch);
-    Weighed {
-        good: bytes != 0,
-        bytes,
-    }
+    if bytes == 0 { None } else { Some(bytes) }
 }
 
 // A new texture.
@@ -90,16 +82,16 @@ pub fn on_texture(
         (holdings_of live own.old made records.old) c)
         result own.new records.new }
 {
-    let w = weigh(c);
+    let weight = weigh(c);
     let shape = c.shape;
     let r = Resource {
         handle: c.handle,
         kind: Kind::Texture(shape),
-        bytes: w.bytes,
+        bytes: weight.unwrap_or(0),
         pitch: backed_only(c.backing, c.pitch),
         backing: c.backing,
         offset: backed_only(c.backing, c.offset),
         lowest: c.handle,
     };
-    create(entries, kept, own, live, records, made, w.good, r)
+    create(entries, kept, own, live, records, made, weight.is_some(), r)
 }

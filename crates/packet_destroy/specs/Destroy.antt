@@ -1,5 +1,5 @@
 -- What a destroy packet comes to, whatever records and tokens are held. Assumes nothing.
-use Rattle.std.specs.Prelude.{◌≡◌, refl, Bool, not, List, ℕ, ◌-◌, ◌≤◌, ◌<◌}
+use Rattle.std.specs.Prelude.{◌≡◌, refl, Bool, not, List, ℕ, ◌-◌, ◌≤◌, ◌<◌, None, Option, Some}
 use Rattle.std.proofs.Math.Path.{sym}
 use Rattle.std.proofs.Common.{ap, ◌∙◌, arith, rules}
 use Rattle.std.proofs.Math.Bool.{true, false}
@@ -21,7 +21,6 @@ use Rattle.packet_ranges.specs.Views.{Applies, Rebinds, refused_with, renamed_no
 use Rattle.packet_ranges.specs.Handout.{accepted_with}
 use Rattle.packet_ranges.specs.declared.applied.Applied.{Applied}
 use Rattle.packet_ranges.specs.declared.applied.Renamed.{Renamed}
-use Rattle.packet_destroy.specs.declared.destroy.Destroyed.{Destroyed}
 
 -- the records and the tokens are not lent: the answer is the rules' outcome, and says how tokens follow, whatever they are
 pub record Destroys (c : DestroyResource) (live made : ℕ) (before : List ℕ) (x : Renamed) (after : List ℕ) : Type 0 where
@@ -66,23 +65,27 @@ pub ruleset destroying = (destroys-nothing, destroys-one, destroys-name, rules)
 -- ---- destroy_unshared
 
 -- done, it is what a destroy comes to that changes no token; left, it has changed nothing
-pub record DestroysUnshared (c : DestroyResource) (live made : ℕ) (before : List ℕ) (x : Destroyed) (after : List ℕ) : Type 0 where
-  pub done : x.left ≡ false → Destroys c live made before (renamed_nothing x.applied) after
-  pub left : x.left ≡ true → after ≡ before
+pub record DestroysUnshared (c : DestroyResource) (live made : ℕ) (before : List ℕ) (x : Option Applied) (after : List ℕ) : Type 0 where
+  pub done : (a : Applied) → x ≡ Some a → Destroys c live made before (renamed_nothing a) after
+  pub left : x ≡ None → after ≡ before
 
-done-unshared : (c : DestroyResource) (live made : ℕ) (l m : List ℕ) (a : Applied) → Destroys c live made l (renamed_nothing a) m → DestroysUnshared c live made l (record { applied = a; left = false }) m
-done-unshared c live made l m a d = record { done = λ e. d; left = λ e. absurd (let z : ◌≡◌ {A = ℕ} 0 1 = cc in omega arith) }
+done-unshared : (c : DestroyResource) (live made : ℕ) (l m : List ℕ) (a : Applied) → Destroys c live made l (renamed_nothing a) m → DestroysUnshared c live made l (Some a) m
+done-unshared c live made l m a d =
+    record {
+      done = λ b e. let same : a ≡ b = cc in rw same at d;
+      left = λ e. absurd (let z : ◌≡◌ {A = ℕ} 0 1 = cc in omega arith);
+    }
 
 module _ (c : DestroyResource) (live made i : ℕ) (l : List ℕ) (room : (live ≤ most) × (made ≤ most)) (place : i ≡ index_of handle_of c.handle (resources_of live l)) where
-  pub unshared-nothing : (a : Applied) → live ≤ i → a ≡ refused_with BadHandle live made → DestroysUnshared c live made l (record { applied = a; left = false }) l
+  pub unshared-nothing : (a : Applied) → live ≤ i → a ≡ refused_with BadHandle live made → DestroysUnshared c live made l (Some a) l
   unshared-nothing a p e = done-unshared c live made l l a (destroys-nothing c live made i l room place (renamed_nothing a) p (ap renamed_nothing e))
 
-  module _ (p : i < live) (r : Resource) (row : r ≡ resource_of_row (row_at 12 l i)) (b : Bool) (is : b ≡ shareable r.kind) where
-    pub unshared-left : (a : Applied) → b ≡ true → DestroysUnshared c live made l (record { applied = a; left = true }) l
-    unshared-left a t = record { done = λ e. absurd (let z : ◌≡◌ {A = ℕ} 0 1 = cc in omega arith); left = λ e. refl }
+  pub unshared-left : DestroysUnshared c live made l None l
+  unshared-left = record { done = λ a e. absurd (let z : ◌≡◌ {A = ℕ} 0 1 = cc in omega arith); left = λ e. refl }
 
+  module _ (p : i < live) (r : Resource) (row : r ≡ resource_of_row (row_at 12 l i)) (b : Bool) (is : b ≡ shareable r.kind) where
     pub unshared-one : (m : List ℕ) → resources_of (live - 1) m ≡ removed i (resources_of live l) → b ≡ false
-        → DestroysUnshared c live made l (record { applied = accepted_with (live - 1) made; left = false }) m
+        → DestroysUnshared c live made l (Some (accepted_with (live - 1) made)) m
     unshared-one m gone t = done-unshared c live made l m (accepted_with (live - 1) made) (destroys-one c live made i l room place p r row m gone b is (rw t))
 
 pub ruleset destroying_unshared = (unshared-nothing, unshared-left, unshared-one, rules)

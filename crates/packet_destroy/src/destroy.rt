@@ -41,53 +41,30 @@ pub fn on_destroy(own: &mut Resources, live: usize, made: usize, c: DestroyResou
     Renamed { applied, old, new }
 }
 
-// What a destroy packet came to, or that it is left, since the resource may have other names and tokens.
-#[derive(Clone, Copy)]
-pub struct Destroyed {
-    pub applied: Applied,
-    pub left: bool,
-}
-
 // Applies a destroy packet in place, unless its resource is a texture that may be shared, of one mip and one layer: that is left, shared or not,
-// and nothing changes.
+// and nothing changes: then there is no answer.
 pub fn destroy_unshared(
     own: &mut Resources,
     live: usize,
     made: usize,
     c: DestroyResource,
-) -> Destroyed
+) -> Option<Applied>
     requires { (live ≤ most) × (made ≤ most) }
     ensures { DestroysUnshared c live made own.old result own.new }
 {
     let place = find_resource(own, live, c.handle);
     if place >= live {
-        let applied = refuse(Refusal::BadHandle, live, made);
-        return Destroyed {
-            applied,
-            left: false,
-        };
+        return Some(refuse(Refusal::BadHandle, live, made));
     }
     let r = resource_row(own, place);
     let kind = r.kind;
     if shareable(kind) {
-        let applied = Applied {
-            verdict: Ok(()),
-            live,
-            made,
-        };
-        return Destroyed {
-            applied,
-            left: true,
-        };
+        return None;
     }
     remove_resource(own, live, place);
-    let applied = Applied {
+    Some(Applied {
         verdict: Ok(()),
         live: live - 1,
         made,
-    };
-    Destroyed {
-        applied,
-        left: false,
-    }
+    })
 }

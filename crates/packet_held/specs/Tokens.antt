@@ -1,6 +1,6 @@
 -- The tokens of a submission, in its own table or still in the device's: what their code asks. Assumes nothing.
-use Rattle.std.specs.Prelude.{◌≡◌, refl, Bool, true, false, not, List, [], ◌∷◌, ℕ, ◌+◌, ◌≤◌, ◌<◌, eqb, get_or}
-use Rattle.std.proofs.Common.{sym, ap, ◌∙◌, arith, rules, eq-eqb, ne_eqb, Fits}
+use Rattle.std.specs.Prelude.{◌≡◌, refl, Bool, true, false, not, List, [], ◌∷◌, ℕ, ◌+◌, ◌≤◌, ◌<◌, get_or}
+use Rattle.std.proofs.Common.{sym, ap, ◌∙◌, arith, rules, Fits}
 use Rattle.std.proofs.lemmas.Bool.{not-true, not-false}
 use Rattle.std.specs.Int.{w32}
 use Rattle.machine.specs.Machine.{pick}
@@ -14,13 +14,9 @@ use Rattle.kept_tokens.specs.Tokens.{is_bound, rebind-unbound}
 use Rattle.packet_ranges.specs.Views.{rebind-same}
 use Rattle.packet_held.specs.declared.tokens.HeldTokens.{HeldTokens}
 
--- whether what is held is in the submission's own table, by a number
-abbrev pub own_in : ℕ → Bool
-own_in n = pick (eqb n 0) false true
-
 -- by the device's rows and the submission's own
 abbrev pub tokens_held : HeldTokens → List ℕ → List ℕ → List Token
-tokens_held x dt ot = tokens_of x.used (pick (own_in x.copied) ot dt)
+tokens_held x dt ot = tokens_of x.used (pick x.copied ot dt)
 
 -- the tokens then are these, and their rows are there
 pub record Retokened (dt : List ℕ) (ts : List Token) (y : HeldTokens) (ot' : List ℕ) : Type 0 where
@@ -32,18 +28,18 @@ no_token = record { name = no_name; token = 0 }
 
 -- ---- chosen, chosen_tokens
 
-module _ (copied : ℕ) (device own : List ℕ) where
-  pub chosen-device : copied ≡ 0 → device ≡ pick (own_in copied) own device
-  chosen-device z = rw (eq-eqb copied 0 z)
+module _ (copied : Bool) (device own : List ℕ) where
+  pub chosen-device : copied ≡ false → device ≡ pick copied own device
+  chosen-device f = rw f
 
-  pub chosen-own : (copied ≡ 0 → ⊥) → own ≡ pick (own_in copied) own device
-  chosen-own n = rw (ne_eqb copied 0 n)
+  pub chosen-own : copied ≡ true → own ≡ pick copied own device
+  chosen-own t = rw t
 
 pub ruleset choosing = (chosen-device, chosen-own, rules)
 
 -- ---- has_token
 
-pub has_chosen : (x : HeldTokens) (dt ot l : List ℕ) (name i : ℕ) (b : Bool) → l ≡ pick (own_in x.copied) ot dt → i ≡ x.used → b ≡ is_bound name (tokens_of i l)
+pub has_chosen : (x : HeldTokens) (dt ot l : List ℕ) (name i : ℕ) (b : Bool) → l ≡ pick x.copied ot dt → i ≡ x.used → b ≡ is_bound name (tokens_of i l)
     → b ≡ is_bound name (tokens_held x dt ot)
 has_chosen x dt ot l name i b here same is = rw (← here, ← same) is
 
@@ -52,11 +48,11 @@ pub ruleset having = (has_chosen, rules)
 -- ---- take_own_tokens
 
 module _ (x : HeldTokens) (dt ot : List ℕ) where
-  pub tokens-owned-before : (x.copied ≡ 0 → ⊥) → tokens_of x.used ot ≡ tokens_held x dt ot
-  tokens-owned-before n = rw (ne_eqb x.copied 0 n)
+  pub tokens-owned-before : not x.copied ≡ false → tokens_of x.used ot ≡ tokens_held x dt ot
+  tokens-owned-before f = rw (not-false x.copied f)
 
-  pub tokens-owned-now : (i : ℕ) (ot' : List ℕ) → x.copied ≡ 0 → i ≡ x.used → tokens_of i ot' ≡ tokens_of i dt → tokens_of x.used ot' ≡ tokens_held x dt ot
-  tokens-owned-now i ot' z same e = rw (eq-eqb x.copied 0 z, ← same) e
+  pub tokens-owned-now : (i : ℕ) (ot' : List ℕ) → not x.copied ≡ true → i ≡ x.used → tokens_of i ot' ≡ tokens_of i dt → tokens_of x.used ot' ≡ tokens_held x dt ot
+  tokens-owned-now i ot' t same e = rw (not-true x.copied t, ← same) e
 
 pub ruleset owning_tokens = (tokens-owned-before, tokens-owned-now, rules)
 
@@ -71,7 +67,7 @@ module _ (x : HeldTokens) (dt ot : List ℕ) (room : x.used ≤ most_tokens) whe
 
   module _ (ot₁ : List ℕ) (same : tokens_of x.used ot₁ ≡ tokens_held x dt ot) where
     pub rebound-each : (old new i : ℕ) (ot' : List ℕ) → i ≡ x.used → tokens_of i ot' ≡ rebind old new (tokens_of i ot₁)
-        → Retokened dt (rebind old new (tokens_held x dt ot)) (record { used = x.used; copied = 1 }) ot'
+        → Retokened dt (rebind old new (tokens_held x dt ot)) (record { used = x.used; copied = true }) ot'
     rebound-each old new i ot' is e = record { tokens = (rw (← is) e) ∙ ap (rebind old new) same; room = room }
 
 module _ (x : HeldTokens) (dt ot : List ℕ) (new : Bool) (t : Token) (room : (x.used ≤ most_tokens) × (new ≡ true → x.used < most_tokens)) where
@@ -79,7 +75,7 @@ module _ (x : HeldTokens) (dt ot : List ℕ) (new : Bool) (t : Token) (room : (x
   none-added n = rw (not-true new n) (record { tokens = refl; room = room.0 })
 
   pub one-added : (i : ℕ) (ot₁ ot' : List ℕ) → not new ≡ false → tokens_of x.used ot₁ ≡ tokens_held x dt ot → i ≡ x.used → tokens_of (i + 1) ot' ≡ pushed (tokens_of i ot₁) t
-      → Retokened dt (pick new (pushed (tokens_held x dt ot) t) (tokens_held x dt ot)) (record { used = x.used + 1; copied = 1 }) ot'
+      → Retokened dt (pick new (pushed (tokens_held x dt ot) t) (tokens_held x dt ot)) (record { used = x.used + 1; copied = true }) ot'
   one-added i ot₁ ot' n same is e =
       let more : x.used < most_tokens = room.1 (not-false new n) in
       let pushes : tokens_of (x.used + 1) ot' ≡ pushed (tokens_of x.used ot₁) t = rw (← is) e in
@@ -102,12 +98,12 @@ same-spent n i l m h same =
 
 pub one-spent : (x : HeldTokens) (dt ot ot₁ ot' : List ℕ) (place i : ℕ) → (x.used ≤ most_tokens) × (place < x.used) → tokens_of x.used ot₁ ≡ tokens_held x dt ot
     → i ≡ x.used → tokens_of i ot' ≡ over place (spent_at ot₁ place ∷ []) (tokens_of i ot₁)
-    → Retokened dt (over place (spent_at (pick (own_in x.copied) ot dt) place ∷ []) (tokens_held x dt ot)) (record { used = x.used; copied = 1 }) ot'
+    → Retokened dt (over place (spent_at (pick x.copied ot dt) place ∷ []) (tokens_held x dt ot)) (record { used = x.used; copied = true }) ot'
 one-spent x dt ot ot₁ ot' place i pre same is e' =
     let e : tokens_of x.used ot' ≡ over place (spent_at ot₁ place ∷ []) (tokens_of x.used ot₁) = rw (← is) e' in
-    let row : spent_at ot₁ place ≡ spent_at (pick (own_in x.copied) ot dt) place = same-spent x.used place ot₁ (pick (own_in x.copied) ot dt) pre.1 same in
+    let row : spent_at ot₁ place ≡ spent_at (pick x.copied ot dt) place = same-spent x.used place ot₁ (pick x.copied ot dt) pre.1 same in
     record {
-      tokens = e ∙ (ap (λ (k : Token). over place (k ∷ []) (tokens_of x.used ot₁)) row ∙ ap (over place (spent_at (pick (own_in x.copied) ot dt) place ∷ [])) same);
+      tokens = e ∙ (ap (λ (k : Token). over place (k ∷ []) (tokens_of x.used ot₁)) row ∙ ap (over place (spent_at (pick x.copied ot dt) place ∷ [])) same);
       room = pre.0;
     }
 

@@ -5,8 +5,7 @@ ghost use Rattle.machine.specs.Machine.{pick};
 ghost use Rattle.rules.specs.Numbers.{most};
 ghost use Rattle.rules.specs.Packets.{if-fine};
 ghost use Rattle.kept_resources.specs.Views.{resources_of};
-ghost use Rattle.packet_held.specs.Tokens.{own_in};
-ghost use Rattle.packet_held.specs.Held.{number_of, changed_of};
+ghost use Rattle.packet_held.specs.Held.{changed_of};
 
 use kept_resources::resources::Resources;
 use kept_storing::copy_resources;
@@ -14,56 +13,45 @@ use packet_ranges::applied::Applied;
 use rules::{DestroyResource, ExportSurface, ImportSurface, Refusal, ReleaseToken};
 
 // What a submission holds, beside the rows of its tables and its tokens: how many resources and records there are, whether the resources are in
-// the submission's own table, 0 if not, and the handle of its target, 0 for none.
+// the submission's own table, and the handle of its target, 0 for none.
 #[derive(Clone, Copy)]
 pub struct Held {
     pub live: usize,
     pub made: usize,
-    pub copied: u32,
+    pub copied: bool,
     pub target: u32,
 }
 
-// What a packet came to: the number of the rule that it breaks, 0 if it breaks none, and what is held after it. A number goes from packet to
-// packet in one register, where a verdict would take two.
+// What a packet came to, and what is held after it.
 #[derive(Clone, Copy)]
 pub struct Changed {
-    pub why: u32,
+    pub verdict: Result<(), Refusal>,
     pub held: Held,
 }
 
-// A packet that is left for whoever has the submission's tokens; or none.
+// A packet that is left for whoever has the submission's tokens.
 #[derive(Clone, Copy)]
 pub enum SharedPacket {
-    Nothing,
     Destroy(DestroyResource),
     Export(ExportSurface),
     Import(ImportSurface),
     Release(ReleaseToken),
 }
 
-// The number of the rule that is broken, 0 if none is.
-pub fn number(verdict: Result<(), Refusal>) -> u32
-    ensures { result ≡ number_of verdict }
-{
-    match verdict {
-        Ok(()) => 0,
-        Err(why) => why.code,
-    }
-}
-
 // What was applied, with the rest of what is then held.
-pub fn with_own(a: Applied, copied: u32, target: u32) -> Changed
+pub fn with_own(a: Applied, copied: bool, target: u32) -> Changed
     ensures { result ≡ changed_of a copied target }
 {
-    let verdict = a.verdict;
-    let why = number(verdict);
     let held = Held {
         live: a.live,
         made: a.made,
         copied,
         target,
     };
-    Changed { why, held }
+    Changed {
+        verdict: a.verdict,
+        held,
+    }
 }
 
 // The target after a packet that would change it: one that is refused does not.
@@ -84,18 +72,18 @@ pub fn without(handle: u32, target: u32) -> u32
 }
 
 // The table that has the submission's resources.
-pub fn chosen<'a>(resources: &'a Resources, own: &'a Resources, copied: u32) -> &'a Resources
-    ensures { result.now ≡ pick (own_in copied) own.now resources.now }
+pub fn chosen<'a>(resources: &'a Resources, own: &'a Resources, copied: bool) -> &'a Resources
+    ensures { result.now ≡ pick copied own.now resources.now }
 {
-    if copied == 0 { resources } else { own }
+    if copied { own } else { resources }
 }
 
 // Sees that the submission's resources are in its own table.
-pub fn take_own(resources: &Resources, own: &mut Resources, copied: u32, live: usize)
+pub fn take_own(resources: &Resources, own: &mut Resources, copied: bool, live: usize)
     requires { live ≤ most }
-    ensures { resources_of live own.new ≡ resources_of live (pick (own_in copied) own.old resources.now) }
+    ensures { resources_of live own.new ≡ resources_of live (pick copied own.old resources.now) }
 {
-    if copied == 0 {
+    if !copied {
         copy_resources(resources, own, live);
     }
 }

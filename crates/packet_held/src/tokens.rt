@@ -6,7 +6,7 @@ ghost use Rattle.rules.specs.Lists.{over, pushed};
 ghost use Rattle.rules.specs.Names.{rebind};
 ghost use Rattle.kept_tokens.specs.Views.{tokens_of, spent_at};
 ghost use Rattle.kept_tokens.specs.Tokens.{is_bound};
-ghost use Rattle.packet_held.specs.Tokens.{own_in, tokens_held, Retokened};
+ghost use Rattle.packet_held.specs.Tokens.{tokens_held, Retokened};
 
 use kept_tokens::Tokens;
 use kept_tokens::finding::is_bound;
@@ -14,18 +14,18 @@ use kept_tokens::storing::{copy_tokens, push_token, rebind, spend};
 use rules::Token;
 use widths::u32_to_usize;
 
-// How many tokens a submission has, and whether they are in its own table: 0 if not.
+// How many tokens a submission has, and whether they are in its own table.
 #[derive(Clone, Copy)]
 pub struct HeldTokens {
     pub used: u32,
-    pub copied: u32,
+    pub copied: bool,
 }
 
 // The table that has the submission's tokens.
-pub fn chosen_tokens<'a>(tokens: &'a Tokens, own: &'a Tokens, copied: u32) -> &'a Tokens
-    ensures { result.now ≡ pick (own_in copied) own.now tokens.now }
+pub fn chosen_tokens<'a>(tokens: &'a Tokens, own: &'a Tokens, copied: bool) -> &'a Tokens
+    ensures { result.now ≡ pick copied own.now tokens.now }
 {
-    if copied == 0 { tokens } else { own }
+    if copied { own } else { tokens }
 }
 
 // Whether a token of the submission is bound to the resource that has this lowest name.
@@ -42,7 +42,7 @@ fn take_own_tokens(tokens: &Tokens, own: &mut Tokens, x: HeldTokens)
     requires { x.used ≤ most_tokens }
     ensures { tokens_of x.used own.new ≡ tokens_held x tokens.now own.old }
 {
-    if x.copied == 0 {
+    if !x.copied {
         copy_tokens(tokens, own, u32_to_usize(x.used));
     }
 }
@@ -59,7 +59,7 @@ fn rebound_all(tokens: &Tokens, own: &mut Tokens, x: HeldTokens, old: u32, new: 
     rebind(own, u32_to_usize(x.used), old, new);
     HeldTokens {
         used: x.used,
-        copied: 1,
+        copied: true,
     }
 }
 
@@ -93,20 +93,20 @@ pub fn with_token(
     push_token(own, u32_to_usize(x.used), t);
     HeldTokens {
         used: x.used + 1,
-        copied: 1,
+        copied: true,
     }
 }
 
 // The token at a place is spent.
 pub fn without_token(tokens: &Tokens, own: &mut Tokens, x: HeldTokens, place: usize) -> HeldTokens
     requires { (x.used ≤ most_tokens) × (place < x.used) }
-    ensures { Retokened tokens.now (over place (spent_at (pick (own_in x.copied) own.old tokens.now) place ∷ [])
+    ensures { Retokened tokens.now (over place (spent_at (pick x.copied own.old tokens.now) place ∷ [])
         (tokens_held x tokens.now own.old)) result own.new }
 {
     take_own_tokens(tokens, own, x);
     spend(own, u32_to_usize(x.used), place);
     HeldTokens {
         used: x.used,
-        copied: 1,
+        copied: true,
     }
 }

@@ -5,8 +5,7 @@ ghost use Rattle.std.specs.Prelude.{◌≤◌};
 ghost use Rattle.run_state.specs.Views.{tag_in};
 ghost use Rattle.run_answered.specs.Views.{Ends, SettlesAnswered};
 
-use rules::numbers::HOST_FAILED;
-use rules::{Ended, Fault};
+use rules::{Ended, Fault, Refusal};
 use run_settle::{settle_accepted, settle_refused};
 use run_state::{DOORBELL, ENABLED, NOTHING, TAG, WAITING, Words};
 
@@ -40,7 +39,7 @@ pub fn settle_answered(words: &mut Words, mem: &mut [u8], good: bool)
         return;
     }
     let fault = Fault {
-        code: HOST_FAILED,
+        code: Refusal::HostFailed as u32,
         place: 0,
     };
     settle_refused(words, mem, fault);

@@ -1,19 +1,12 @@
 -- How a phase stands, as the step machine sees it; and the laws of a phase's loop, once for both phases. Assumes nothing.
-use Rattle.std.specs.Prelude.{◌≡◌, Bool, ℕ, ◌+◌, ◌-◌, ◌<◌, eqb, ltb}
+use Rattle.std.specs.Prelude.{◌≡◌, Bool, ℕ, ◌+◌, ◌-◌, ◌≤◌, ◌<◌, ltb}
 use Rattle.std.proofs.Math.Path.{refl}
-use Rattle.std.proofs.Common.{sym}
+use Rattle.std.proofs.Common.{sym, rules}
 use Rattle.std.proofs.Math.Bool.{true, false}
-use borrow.Author.Tests.{eq-eqb, ne_eqb}
+use borrow.Author.Tests.{lt-ltb, le-ltb}
 use Rattle.machine.specs.Machine.{pick, Out, spent, run_while, loop-turn, loop-stop}
-use Rattle.rules.specs.declared.Refusal.{Refusal}
-
-pub data Ending : Type 0 where
-  -- more of it is left
-  Going : Ending
-  -- all of it is done
-  Done : Ending
-  -- a rule was broken
-  Broken : Refusal → Ending
+use Rattle.run_entries.specs.declared.ending.Ending.{Ending}
+use Rattle.run_entries.specs.declared.ending.Ending.TheVariants.{Going, Done, Broken}
 
 abbrev pub onward : Ending → Bool
 onward Going = true
@@ -24,35 +17,24 @@ onward (Broken r) = false
 abbrev pub ending_at : ℕ → ℕ → Ending
 ending_at at end = pick (ltb at end) Going Done
 
--- an ending's number, and the rule's
-unfoldable pub ending_of : ℕ → ℕ → Ending
-ending_of e why = pick (eqb e 0) Going (pick (eqb e 1) Done (Broken why))
+module _ (at end : ℕ) where
+  pub ends-below : at < end → Going ≡ ending_at at end
+  ends-below h = rw (lt-ltb at end h)
 
-module _ (e why : ℕ) where
-  pub is-going : e ≡ 0 → ending_of e why ≡ Going
-  unfolding ending_of
-  is-going h = rw (eq-eqb _ _ h)
+  pub ends-there : end ≤ at → Done ≡ ending_at at end
+  ends-there h = rw (le-ltb at end h)
 
-  pub is_done : e ≡ 1 → ending_of e why ≡ Done
-  unfolding ending_of
-  is_done h = rw h
+pub ruleset ending = (ends-below, ends-there, rules)
 
-  pub is-broken : (e ≡ 0 → ⊥) → (e ≡ 1 → ⊥) → ending_of e why ≡ Broken why
-  unfolding ending_of
-  is-broken h k = rw (ne_eqb _ _ h, ne_eqb _ _ k)
+pub goes : (e : Ending) → e ≡ Going → onward e ≡ true
+goes e h = rw h
 
-  pub goes : e ≡ 0 → onward (ending_of e why) ≡ true
-  goes h = rw (is-going h)
+pub ends : (e : Ending) → (e ≡ Going → ⊥) → onward e ≡ false
+ends Going h = absurd (h refl)
+ends Done h = refl
+ends (Broken r) h = refl
 
-  pub ends : (e ≡ 0 → ⊥) → onward (ending_of e why) ≡ false
-  unfolding ending_of
-  ends h = rw (ne_eqb _ _ h) (by_number (eqb e 1))
-    where
-      by_number : (t : Bool) → onward (pick t Done (Broken why)) ≡ false
-      by_number true = refl
-      by_number false = refl
-
--- ---- for a loop `while units < allowance { step; units += 1; if ending != GOING { return .. } }`
+-- ---- for a loop `while units < allowance { step; units += 1; let Going = ending else { return .. } }`
 
 module _ {S : Type 0} (go : S → Bool) (step : S → S) (a u : ℕ) (s : S) (o : Out S) (inv : o ≡ spent u (run_while go step (a - u) s)) (more : u < a) (here : go s ≡ true) (s' : S) (stepped : s' ≡ step s) where
   pub phase-on : o ≡ spent (u + 1) (run_while go step (a - (u + 1)) s')

@@ -2,7 +2,7 @@
 use Rattle.std.specs.Prelude.{◌≡◌, Bool, true, false, List, ℕ, ◌+◌, ◌-◌, ◌^◌, ◌≤◌, ◌<◌, ltb, length, Err, Ok}
 use Rattle.std.proofs.Math.Path.{refl}
 use Rattle.std.proofs.Common.{sym, ap, arith, rules}
-use borrow.Author.Tests.{lt-ltb, le-ltb, ltb-true}
+use borrow.Author.Tests.{ltb-true}
 use Rattle.machine.specs.Machine.{pick, Out, spent, run_while, loop-start, loop-out}
 use Rattle.rules.specs.Numbers.{most}
 use Rattle.rules.specs.Judging.{Verdict}
@@ -15,8 +15,9 @@ use Rattle.rules.specs.declared.Refusal.TheVariants.{BadEntry}
 use Rattle.rule_laws.specs.Fine.{both_left}
 use Rattle.rows.specs.Rows.{length-table}
 use Rattle.kept_entries.specs.Views.{entry_of, entries_of, taken_of}
-use Rattle.run_entries.specs.Ending.{Ending, onward, ending_at, ending_of, is-going, is_done, is-broken, goes, ends, phase-on, phase-left}
-use Rattle.run_entries.specs.Ending.Ending.{Going, Broken}
+use Rattle.run_entries.specs.Ending.{onward, ending_at, goes, ends, phase-on, phase-left}
+use Rattle.run_entries.specs.declared.ending.Ending.{Ending}
+use Rattle.run_entries.specs.declared.ending.Ending.TheVariants.{Going, Broken}
 use Rattle.run_entries.specs.declared.entries.EntriesPlace.{EntriesPlace}
 use Rattle.run_entries.specs.declared.entries.EntriesRun.{EntriesRun}
 
@@ -37,7 +38,7 @@ read_step m t s = read_on t.count (take_entry m t s.kept).verdict (take_entry m 
 -- ---- views
 
 abbrev pub reading_of : EntriesPlace → List ℕ → Reading
-reading_of p l = record { kept = entries_of p.kept l; ending = ending_of p.ending p.why }
+reading_of p l = record { kept = entries_of p.kept l; ending = p.ending }
 
 abbrev pub out_of : EntriesRun → List ℕ → Out Reading
 out_of r l = record { state = reading_of r.place l; units = r.units }
@@ -67,11 +68,11 @@ fine-room m t kept h = by-reach (in_reach m t (length kept)) refl h
     by-reach false e f = absurd (let z : ◌≡◌ {A = ℕ} 0 1 = cc in omega arith)
 
 module _ (m : List ℕ) (t : Table) (p : EntriesPlace) (l l' : List ℕ) (v : Verdict) (took : taken_of v p.kept l' ≡ take_entry m t (entries_of p.kept l)) where
-  pub step-broken : (r : Refusal) → p.kept ≤ most → v ≡ Err r → EntryStepped m t p l (record { kept = p.kept; ending = 2; why = r.code }) l'
+  pub step-broken : (r : Refusal) → p.kept ≤ most → v ≡ Err r → EntryStepped m t p l (record { kept = p.kept; ending = Broken r }) l'
   unfolding read_step
   step-broken r h e =
       let taken : taken_of (Err r) p.kept l' ≡ take_entry m t (entries_of p.kept l) = rw e at took in
-      record { step = rw (is-broken 2 r.code (omega arith) (omega arith), ← taken); room = h }
+      record { step = rw (← taken); room = h }
 
   module _ (e : v ≡ Ok tt) where
     taken_fine : taken_of (Ok tt) p.kept l' ≡ take_entry m t (entries_of p.kept l)
@@ -83,37 +84,31 @@ module _ (m : List ℕ) (t : Table) (p : EntriesPlace) (l l' : List ℕ) (v : Ve
     pub step-next-fits : p.kept + 1 < 2 ^ 64
     step-next-fits = omega (arith, step_room)
 
-    module _ (c : ℕ) (same : c ≡ t.count) where
-      pub step-going : p.kept + 1 < c → EntryStepped m t p l (record { kept = p.kept + 1; ending = 0; why = 0 }) l'
-      unfolding read_step
-      step-going h =
-          record { step = rw (is-going 0 0 refl, ← taken_fine, length-table entry_of 4 (p.kept + 1) l', ← same, lt-ltb _ _ h); room = omega (arith, step_room) }
+    pub step-kept : (c : ℕ) (k : Ending) → c ≡ t.count → k ≡ ending_at (p.kept + 1) c → EntryStepped m t p l (record { kept = p.kept + 1; ending = k }) l'
+    unfolding read_step
+    step-kept c k same is =
+        record { step = rw (is, same, ← taken_fine, length-table entry_of 4 (p.kept + 1) l'); room = omega (arith, step_room) }
 
-      pub step-done : c ≤ p.kept + 1 → EntryStepped m t p l (record { kept = p.kept + 1; ending = 1; why = 0 }) l'
-      unfolding read_step
-      step-done h =
-          record { step = rw (is_done 1 0 refl, ← taken_fine, length-table entry_of 4 (p.kept + 1) l', ← same, le-ltb _ _ h); room = omega (arith, step_room) }
-
-pub ruleset stepping_entry = (step-broken, step_room, step-next-fits, step-going, step-done, rules)
+pub ruleset stepping_entry = (step-broken, step_room, step-next-fits, step-kept, rules)
 
 -- ---- read_entries
 
 module _ (m : List ℕ) (t : Table) (n a : ℕ) (l₀ : List ℕ) where
-  pub reads_first : run_while reading_goes (read_step m t) a (from_row n l₀) ≡ spent 0 (run_while reading_goes (read_step m t) (a - 0) (reading_of (record { kept = n; ending = 0; why = 0 }) l₀))
-  reads_first = rw (is-going 0 0 refl) (loop-start reading_goes (read_step m t) a (from_row n l₀))
+  pub reads_first : run_while reading_goes (read_step m t) a (from_row n l₀) ≡ spent 0 (run_while reading_goes (read_step m t) (a - 0) (reading_of (record { kept = n; ending = Going }) l₀))
+  reads_first = loop-start reading_goes (read_step m t) a (from_row n l₀)
 
   module _ (u : ℕ) (p : EntriesPlace) (l : List ℕ) (inv : run_while reading_goes (read_step m t) a (from_row n l₀) ≡ spent u (run_while reading_goes (read_step m t) (a - u) (reading_of p l))) where
     pub reads-no-more : a ≤ u → p.kept ≤ most → EntriesRan m t n l₀ a (record { place = p; units = u }) l
     reads-no-more h room = record { run = loop-out reading_goes (read_step m t) a u (reading_of p l) _ inv h; room = room }
 
-    module _ (more : u < a) (here : p.ending ≡ 0) (r : EntriesPlace) (l' : List ℕ) (s : EntryStepped m t p l r l') where
+    module _ (more : u < a) (here : p.ending ≡ Going) (r : EntriesPlace) (l' : List ℕ) (s : EntryStepped m t p l r l') where
       pub reads_on : run_while reading_goes (read_step m t) a (from_row n l₀) ≡ spent (u + 1) (run_while reading_goes (read_step m t) (a - (u + 1)) (reading_of r l'))
-      reads_on = phase-on reading_goes (read_step m t) a u (reading_of p l) _ inv more (goes p.ending p.why here) (reading_of r l') s.step
+      reads_on = phase-on reading_goes (read_step m t) a u (reading_of p l) _ inv more (goes p.ending here) (reading_of r l') s.step
 
-      pub reads-to-end : (r.ending ≡ 0 → ⊥) → EntriesRan m t n l₀ a (record { place = r; units = u + 1 }) l'
+      pub reads-to-end : (r.ending ≡ Going → ⊥) → EntriesRan m t n l₀ a (record { place = r; units = u + 1 }) l'
       reads-to-end h =
           record {
-            run = phase-left reading_goes (read_step m t) a u (reading_of p l) _ inv more (goes p.ending p.why here) (reading_of r l') s.step (ends r.ending r.why h);
+            run = phase-left reading_goes (read_step m t) a u (reading_of p l) _ inv more (goes p.ending here) (reading_of r l') s.step (ends r.ending h);
             room = s.room;
           }
 

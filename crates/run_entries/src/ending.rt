@@ -1,10 +1,24 @@
-// How a phase stands, as a number: the loop that reads it is left as soon as it is not GOING.
+// How a phase of a submission stands: the loop that reads it is left as soon as it does not go on.
+ghost use Rattle.std.specs.Prelude.{◌≡◌};
+ghost use Rattle.run_entries.specs.Ending.{ending_at};
 
-// More of the phase is left.
-pub const GOING: u32 = 0;
+use rules::Refusal;
 
-// All of it is done.
-pub const DONE: u32 = 1;
+// More of a phase is left, all of it is done, or a rule was broken.
+#[derive(Clone, Copy, Debug, PartialEq, Eq)]
+pub enum Ending {
+    Going,
+    Done,
+    Broken(Refusal),
+}
 
-// A rule was broken; its number stands beside.
-pub const BROKEN: u32 = 2;
+// How a phase stands at a place of what ends there: more is left below the end.
+pub fn ending_at(at: usize, end: usize) -> Ending
+    ensures { result ≡ ending_at at end }
+{
+    if at < end {
+        Ending::Going
+    } else {
+        Ending::Done
+    }
+}

@@ -3,16 +3,15 @@ ghost use Rattle.std.specs.Prelude.{◌≡◌, ◌+◌, ◌≤◌};
 ghost use Rattle.rules.specs.Numbers.{most};
 ghost use Rattle.run_entries.specs.Entries.{EntryStepped, EntriesRan};
 
-use crate::ending::{BROKEN, DONE, GOING};
+use crate::ending::{Ending, ending_at};
 use kept_entries::Entries;
 use rules::Table;
 
-// Where the entries stand: how many are kept, how the phase stands, and the number of a rule that is broken, 0 otherwise.
+// Where the entries stand: how many are kept, and how the phase stands.
 #[derive(Clone, Copy)]
 pub struct EntriesPlace {
     pub kept: usize,
-    pub ending: u32,
-    pub why: u32,
+    pub ending: Ending,
 }
 
 // Where the entries stand after some units, and how many those were.
@@ -37,22 +36,13 @@ fn step_entry(mem: &[u8], t: Table, entries: &mut Entries, p: EntriesPlace) -> E
     match table_entries::entry::take_entry(mem, t, entries, kept) {
         Err(why) => EntriesPlace {
             kept,
-            ending: BROKEN,
-            why: why.code,
+            ending: Ending::Broken(why),
         },
         Ok(()) => {
             let next = kept + 1;
-            if next < size(t.count) {
-                return EntriesPlace {
-                    kept: next,
-                    ending: GOING,
-                    why: 0,
-                };
-            }
             EntriesPlace {
                 kept: next,
-                ending: DONE,
-                why: 0,
+                ending: ending_at(next, size(t.count)),
             }
         }
     }
@@ -71,16 +61,15 @@ pub fn read_entries(
 {
     let mut p = EntriesPlace {
         kept,
-        ending: GOING,
-        why: 0,
+        ending: Ending::Going,
     };
     let mut units: u16 = 0;
     while units < allowance {
         p = step_entry(mem, t, entries, p);
         units += 1;
-        if p.ending != GOING {
+        let Ending::Going = p.ending else {
             return EntriesRun { place: p, units };
-        }
+        };
     }
     EntriesRun { place: p, units }
 }

@@ -63,8 +63,9 @@ module _ (s m : List ℕ) (none : tag_in s ≡ 0) (size : ℕ) (is : size ≡ sm
         side = spell (λ w. sides_in (set w 12 0)) s long;
       }
 
-  pub opens-refused : (j : Job) (why : Refusal) (s₁ s' m' : List ℕ) → v ≡ Refused j why → StoresJob s j s₁ → Refuses s₁ m (record { code = error_number why; place = 0 }) s' m' → Opens s m s' m'
-  opens-refused j why s₁ s' m' e k f =
+  pub opens-refused : (j : Job) (why : Refusal) (code : ℕ) (s₁ s' m' : List ℕ) → v ≡ Refused j why → code ≡ error_number why → StoresJob s j s₁ → Refuses s₁ m (record { code = code; place = 0 }) s' m' → Opens s m s' m'
+  opens-refused j why code s₁ s' m' e q k said =
+      let f : Refuses s₁ m (record { code = error_number why; place = 0 }) s' m' = rw q at said in
       record {
         world = λ x r h dt ot c.
             f.world x r h dt ot c

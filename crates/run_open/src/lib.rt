@@ -6,9 +6,9 @@ ghost use Rattle.std.specs.Prelude.{◌≡◌};
 ghost use Rattle.run_state.specs.Views.{tag_in};
 ghost use Rattle.run_open.specs.Opening.{FaultsRing, Opens};
 
+use refusals::number;
 use ring_opening::opening::open;
-use rules::numbers::BAD_RING;
-use rules::{Fault, Opening};
+use rules::{Fault, Opening, Refusal};
 use run_begin::{start, store_job};
 use run_settle::settle_refused;
 use run_state::{
@@ -25,7 +25,7 @@ fn fault_ring(words: &mut Words)
     let errors = u32_to_word(one_more(low32(words[ERROR_COUNT])));
     let all = &words[..];
     words[FAILED] = 1;
-    words[ERROR_CODE] = BAD_RING as u64;
+    words[ERROR_CODE] = Refusal::BadRing as u64;
     words[ERROR_FENCE] = 0;
     words[ERROR_COUNT] = errors;
     words[ERROR_DETAIL] = 0;
@@ -49,7 +49,7 @@ pub fn open_ring(words: &mut Words, mem: &mut [u8])
         }
         Opening::Refused(job, why) => {
             let fault = Fault {
-                code: why.code,
+                code: number(why),
                 place: 0,
             };
             store_job(words, job);

@@ -4,29 +4,25 @@
 
 ghost use Rattle.std.specs.Prelude.{◌≡◌, ◌+◌, ◌-◌, ◌≤◌, ◌<◌, length};
 ghost use Rattle.packet_ranges.specs.Views.{RowsExist};
-ghost use Rattle.run_packets.specs.Playing.{place_after, nothing_left, PacketTook, PacketStepped, Skips, PacketsRan};
+ghost use Rattle.run_entries.specs.declared.ending.Ending.TheVariants.{Going};
+ghost use Rattle.run_packets.specs.Playing.{place_after, PacketTook, PacketStepped, Skips, PacketsRan};
 
 use kept_entries::Entries;
 use kept_records::Records;
 use kept_resources::resources::Resources;
-use packet_apply::apply::{LEFT, UNKNOWN, apply_packet};
+use packet_apply::apply::{Taken, apply_packet};
 use packet_held::held::{Changed, Held, SharedPacket};
 use rules::Packet;
-use run_entries::ending::{BROKEN, DONE, GOING};
+use run_entries::ending::{Ending, ending_at};
 use stream_packets::framing::{packet_at, unknown_size};
 use widths::u32_to_usize;
 
-// How the phase stands where a packet is left: it needs tokens, and its unit is counted.
-pub const AT_SHARED: u32 = 3;
-
-// Where the packets stand: the place in the stream, what is held, how the phase stands, and the number of a rule that is broken, 0
-// otherwise.
+// Where the packets stand: the place in the stream, what is held, and how the phase stands.
 #[derive(Clone, Copy)]
 pub struct PacketsPlace {
     pub at: usize,
     pub held: Held,
-    pub ending: u32,
-    pub why: u32,
+    pub ending: Ending,
 }
 
 // A packet that is left, and where the next one stands.
@@ -36,22 +32,13 @@ pub struct Left {
     pub packet: SharedPacket,
 }
 
-// Where the packets stand after some units, and how many those were. Where a packet is left, its unit is counted and yet to be done.
+// Where the packets stand after some units, how many those were, and the packet at the place if it is left: then its unit is counted and yet to be
+// done, and the place's ending says no more than that the loop over the others was left.
 #[derive(Clone, Copy)]
 pub struct PacketsRun {
     pub place: PacketsPlace,
     pub units: u16,
-    pub left: Left,
-}
-
-// No packet is left.
-fn nothing_left() -> Left
-    ensures { result ≡ nothing_left }
-{
-    Left {
-        next: 0,
-        packet: SharedPacket::Nothing,
-    }
+    pub left: Option<Left>,
 }
 
 // The place after a packet of the stream: the next one, the end, or where it was refused.
@@ -59,27 +46,17 @@ pub fn place_after(at: usize, next: usize, end: usize, x: Changed) -> PacketsPla
     ensures { result ≡ place_after at next end x }
 {
     let held = x.held;
-    if x.why != 0 {
-        return PacketsPlace {
-            at,
-            held,
-            ending: BROKEN,
-            why: x.why,
-        };
-    }
-    if next < end {
-        return PacketsPlace {
+    match x.verdict {
+        Ok(()) => PacketsPlace {
             at: next,
             held,
-            ending: GOING,
-            why: 0,
-        };
-    }
-    PacketsPlace {
-        at: next,
-        held,
-        ending: DONE,
-        why: 0,
+            ending: ending_at(next, end),
+        },
+        Err(why) => PacketsPlace {
+            at,
+            held,
+            ending: Ending::Broken(why),
+        },
     }
 }
 
@@ -88,7 +65,7 @@ pub fn place_after(at: usize, next: usize, end: usize, x: Changed) -> PacketsPla
 struct Stepped {
     place: PacketsPlace,
     unknown: bool,
-    left: Left,
+    left: Option<Left>,
 }
 
 // A packet that was read: the place after it, or that it is left.
@@ -110,26 +87,34 @@ fn take_packet(
         at next h packet result.place result.left
         (record { entries = entries.now; resources = resources.now; own = own.new; records = records.new }) }
 {
-    let t = apply_packet(entries, kept, resources, own, records, h, packet);
-    let x = t.changed;
-    if t.what == LEFT {
-        let held = x.held;
-        let packet = t.left;
-        return Stepped {
+    match apply_packet(entries, kept, resources, own, records, h, packet) {
+        Taken::Plain(x) => Stepped {
+            place: place_after(at, next, end, x),
+            unknown: false,
+            left: None,
+        },
+        Taken::Unknown(held) => Stepped {
+            place: place_after(
+                at,
+                next,
+                end,
+                Changed {
+                    verdict: Ok(()),
+                    held,
+                },
+            ),
+            unknown: true,
+            left: None,
+        },
+        Taken::Left(held, packet) => Stepped {
             place: PacketsPlace {
                 at,
                 held,
-                ending: AT_SHARED,
-                why: 0,
+                ending: Ending::Done,
             },
             unknown: false,
-            left: Left { next, packet },
-        };
-    }
-    Stepped {
-        place: place_after(at, next, end, x),
-        unknown: t.what == UNKNOWN,
-        left: nothing_left(),
+            left: Some(Left { next, packet }),
+        },
     }
 }
 
@@ -157,11 +142,10 @@ fn step_packet(
             place: PacketsPlace {
                 at,
                 held,
-                ending: BROKEN,
-                why: why.code,
+                ending: Ending::Broken(why),
             },
             unknown: false,
-            left: nothing_left(),
+            left: None,
         },
         Ok((size, packet)) => {
             let next = at + u32_to_usize(size);
@@ -231,7 +215,7 @@ pub fn read_packets(
     from: PacketsPlace,
     allowance: u16,
 ) -> PacketsRun
-    requires { RowsExist kept from.held.live from.held.made × (from.ending ≡ 0) }
+    requires { RowsExist kept from.held.live from.held.made × (from.ending ≡ Going) }
     ensures { PacketsRan stream.now end kept
         (record { entries = entries.now; resources = resources.now; own = own.old; records = records.old })
         from allowance result
@@ -244,14 +228,13 @@ pub fn read_packets(
         let t = step_packet(stream, end, entries, kept, resources, own, records, p);
         p = t.place;
         units += 1;
-        if p.ending != GOING {
-            let left = t.left;
+        let Ending::Going = p.ending else {
             return PacketsRun {
                 place: p,
                 units,
-                left,
+                left: t.left,
             };
-        }
+        };
         if t.unknown {
             let s = skip_unknown(stream, bound, p.at, units, allowance);
             p.at = s.at;
@@ -261,6 +244,6 @@ pub fn read_packets(
     PacketsRun {
         place: p,
         units,
-        left: nothing_left(),
+        left: None,
     }
 }

@@ -27,12 +27,6 @@ set-test x b p = p ∙ by (eqb x 0)
     by true = refl
     by false = refl
 
-pub marks-none : (x : ℕ) → x ≡ 0 → set_in 0 ≡ set_in x
-marks-none x h = rw (eq-eqb x 0 h)
-
-pub marks-set : (x : ℕ) → (x ≡ 0 → ⊥) → set_in 1 ≡ set_in x
-marks-set x h = rw (ne_eqb x 0 h)
-
 pub flagged : (b : Bool) → b ≡ true → 1 ≡ flag_of b
 flagged b e = rw e
 
@@ -67,7 +61,7 @@ pub few-tokens : (x : ℕ) → x ≤ 256 → (x ≡ token_count_in x) × (x ≤ 
 unfolding token_count_in
 few-tokens x h = (rw (le-ltb most_tokens x h), h)
 
-pub ruleset reading_word = (marks-none, marks-set, unset, is_set, set-test, flagged, unflagged, many, few, many-tokens, few-tokens, rules)
+pub ruleset reading_word = (unset, is_set, set-test, flagged, unflagged, many, few, many-tokens, few-tokens, rules)
 
 -- a count that was stored is read
 pub count-as : (x n : ℕ) → (x ≡ n) × (x < 18446744073709551616) → n ≤ most → count_in x ≡ n

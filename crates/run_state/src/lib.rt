@@ -119,13 +119,6 @@ pub fn flag(b: bool) -> u64
     if b { 1 } else { 0 }
 }
 
-// A flag as a number of four bytes, 0 or 1.
-pub fn mark(word: u64) -> u32
-    ensures { set_in result ≡ set_in word }
-{
-    if word == 0 { 0 } else { 1 }
-}
-
 // How many rows a word says; a count above 64 is 64.
 pub fn rows_in(word: u64) -> usize
     ensures { (result ≡ count_in word) × (result ≤ most) }

@@ -13,6 +13,3 @@ returns-in-Import c = search sharing
 
 pub returns-in-Release : goal.returns-in-Release
 returns-in-Release c = search sharing
-
-pub returns-in-Nothing : goal.returns-in-Nothing
-returns-in-Nothing c = search sharing

@@ -2,11 +2,8 @@
 use Rattle.run_packets.specs.Playing.{going_after}
 use Rattle.run_packets.proofs.place_after.Goals as goal
 
-pub returns-then-x-ne0 : goal.returns-then-x-ne0
-returns-then-x-ne0 c = search going_after
+pub returns-in-Ok : goal.returns-in-Ok
+returns-in-Ok c = search going_after
 
-pub returns-then-next-end : goal.returns-then-next-end
-returns-then-next-end c = search going_after
-
-pub returns : goal.returns
-returns c = search going_after
+pub returns-in-Err : goal.returns-in-Err
+returns-in-Err c = search going_after

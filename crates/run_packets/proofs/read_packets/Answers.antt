@@ -11,8 +11,8 @@ loop-units-init c = (omega arith, search playing_on, search playing_on, search p
 pub step_packet-t-requires : goal.step_packet-t-requires
 step_packet-t-requires c = search playing_on
 
-pub returns-then-p-ne-GOING : goal.returns-then-p-ne-GOING
-returns-then-p-ne-GOING c = search playing_on
+pub returns-in_default : goal.returns-in_default
+returns-in_default c = search playing_on
 
 pub skip_unknown-s-requires : goal.skip_unknown-s-requires
 skip_unknown-s-requires c = search playing_on
@@ -28,9 +28,6 @@ loop-units-smaller c = search playing_on
 
 pub loop-units-preserved : goal.loop-units-preserved
 loop-units-preserved c = (omega arith, search playing_on, search playing_on, search playing_on)
-
-pub nothing_left-requires : goal.nothing_left-requires
-nothing_left-requires c = search playing_on
 
 pub returns : goal.returns
 returns c = search playing_on

@@ -2,8 +2,8 @@
 use Rattle.packet_apply.specs.Apply.{destroying}
 use Rattle.packet_apply.proofs.apply.destroy.Goals as goal
 
-pub returns-then-x : goal.returns-then-x
-returns-then-x c = search destroying
+pub returns-in-Some : goal.returns-in-Some
+returns-in-Some c = search destroying
 
-pub returns : goal.returns
-returns c = search destroying
+pub returns-in-None : goal.returns-in-None
+returns-in-None c = search destroying

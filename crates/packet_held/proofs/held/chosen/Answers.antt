@@ -2,8 +2,8 @@
 use Rattle.packet_held.specs.Tokens.{choosing}
 use Rattle.packet_held.proofs.held.chosen.Goals as goal
 
-pub returns-then-copied-eq0 : goal.returns-then-copied-eq0
-returns-then-copied-eq0 c = search choosing
+pub returns-then-copied : goal.returns-then-copied
+returns-then-copied c = search choosing
 
-pub returns-else-copied-eq0 : goal.returns-else-copied-eq0
-returns-else-copied-eq0 c = search choosing
+pub returns-else-copied : goal.returns-else-copied
+returns-else-copied c = search choosing

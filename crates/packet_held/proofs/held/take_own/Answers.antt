@@ -1,8 +1,8 @@
 use Rattle.packet_held.specs.Held.{owning}
 use Rattle.packet_held.proofs.held.take_own.Goals as goal
 
-pub returns-then-copied-eq0 : goal.returns-then-copied-eq0
-returns-then-copied-eq0 c = search owning
+pub returns-then-not-copied : goal.returns-then-not-copied
+returns-then-not-copied c = search owning
 
-pub returns-else-copied-eq0 : goal.returns-else-copied-eq0
-returns-else-copied-eq0 c = search owning
+pub returns-else-not-copied : goal.returns-else-not-copied
+returns-else-not-copied c = search owning

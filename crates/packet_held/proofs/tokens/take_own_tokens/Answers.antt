@@ -2,8 +2,8 @@
 use Rattle.packet_held.specs.Tokens.{owning_tokens}
 use Rattle.packet_held.proofs.tokens.take_own_tokens.Goals as goal
 
-pub returns-then-x-eq0 : goal.returns-then-x-eq0
-returns-then-x-eq0 c = search owning_tokens
+pub returns-then-not-x : goal.returns-then-not-x
+returns-then-not-x c = search owning_tokens
 
-pub returns-else-x-eq0 : goal.returns-else-x-eq0
-returns-else-x-eq0 c = search owning_tokens
+pub returns-else-not-x : goal.returns-else-not-x
+returns-else-not-x c = search owning_tokens

@@ -8,8 +8,8 @@ loop-units-init c = (omega arith, search reading_on, search reading_on, search r
 pub step_entry-p-requires : goal.step_entry-p-requires
 step_entry-p-requires c = search reading_on
 
-pub returns-then-p-ne-GOING : goal.returns-then-p-ne-GOING
-returns-then-p-ne-GOING c = search reading_on
+pub returns-in_default : goal.returns-in_default
+returns-in_default c = search reading_on
 
 pub loop-units-preserved : goal.loop-units-preserved
 loop-units-preserved c = (omega arith, search reading_on, search reading_on, search reading_on)
