@@ -60,7 +60,7 @@ rule-listed BadToken = refl
 rule-listed UnboundToken = refl
 rule-listed BadState = refl
 
-verdict-listed : (v : Verdict) → Listed v
+pub verdict-listed : (v : Verdict) → Listed v
 verdict-listed (Ok _) = omega arith
 verdict-listed (Err r) = rule-listed r
 
