@@ -22,12 +22,6 @@ pub struct EntriesRun {
     pub units: u16,
 }
 
-fn size(x: u32) -> usize
-    ensures { result ≡ x }
-{
-    x as usize
-}
-
 // One unit: the entry after those that are kept.
 fn step_entry(mem: &[u8], t: Table, entries: &mut Entries, p: EntriesPlace) -> EntriesPlace
     requires { p.kept ≤ most }
@@ -42,16 +36,9 @@ fn step_entry(mem: &[u8], t: Table, entries: &mut Entries, p: EntriesPlace) -> E
         },
         Verdict::Fine => {
             let next = kept + 1;
-            if next < size(t.count) {
-                return EntriesPlace {
-                    kept: next,
-                    ending: GOING,
-                    why: 0,
-                };
-            }
             EntriesPlace {
                 kept: next,
-                ending: DONE,
+                ending: if next < t.count as usize { GOING } else { DONE },
                 why: 0,
             }
         }
@@ -74,13 +61,17 @@ pub fn read_entries(
         ending: GOING,
         why: 0,
     };
-    let mut units: u16 = 0;
-    while units < allowance {
+    for units in 0..allowance {
         p = step_entry(mem, t, entries, p);
-        units += 1;
         if p.ending != GOING {
-            return EntriesRun { place: p, units };
+            return EntriesRun {
+                place: p,
+                units: units + 1,
+            };
         }
     }
-    EntriesRun { place: p, units }
+    EntriesRun {
+        place: p,
+        units: allowance,
+    }
 }
