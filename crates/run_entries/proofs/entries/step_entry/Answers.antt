@@ -1,3 +1,4 @@
+-- `step_entry` meets its contract. Assumes nothing.
 use Rattle.run_entries.specs.Entries.{stepping_entry}
 use Rattle.run_entries.proofs.entries.step_entry.Goals as goal
 
