@@ -1,13 +1,13 @@
 -- Entries read, from memory and from kept rows, and found by id: what the code asks. Assumes nothing.
-use Rattle.std.specs.Prelude.{◌≡◌, refl, List, ℕ, ◌+◌, ◌*◌, ◌-◌, ◌%◌, ◌^◌, ◌≤◌, ◌<◌, get_or}
+use Rattle.std.specs.Prelude.{◌≡◌, refl, Option, Some, None, is_some, List, ℕ, ◌+◌, ◌*◌, ◌-◌, ◌%◌, ◌^◌, ◌≤◌, ◌<◌, get_or}
 use Rattle.std.proofs.Common.{sym, ◌∙◌, add-zero, arith, rules}
-use Rattle.rules.specs.Lists.{index_of}
+use Rattle.rules.specs.Numbers.{most}
 use Rattle.rules.specs.Lists.Found.{none, found}
 use Rattle.rules.specs.Layouts.{word, long, entry}
-use Rattle.rules.specs.Table.{entry_id, matching}
+use Rattle.rules.specs.Table.{entry_id, matching, is_found}
 use Rattle.rules.specs.declared.Entry.{Entry}
 use Rattle.rows.specs.Rows.{row_at, table, first_word, row_field}
-use Rattle.rows.specs.Keys.{find-table, lookup-row, lookup-no-row}
+use Rattle.rows.specs.Keys.{place_of, place-table, place_row, place-found, place-missing}
 use Rattle.kept_entries.specs.Views.{entry_of, RowRead, entries_of}
 
 -- ---- entry_at, entry_row
@@ -31,15 +31,28 @@ pub ruleset reading_entry = (entry_read, row_read, rules)
 
 -- ---- find_entry
 
-pub entry-found-at : (n i id : ℕ) (l : List ℕ) → i ≡ index_of first_word id (table (λ r. r) 4 n l) → i ≡ index_of entry_id id (entries_of n l)
-entry-found-at n i id l p = p ∙ sym (find-table entry_of 4 entry_id id (λ r. refl) n l)
+module _ (n id : ℕ) (l : List ℕ) where
+  pub entry-found-at : (r : Option ℕ) → r ≡ place_of first_word id (table (λ r. r) 4 n l) → r ≡ place_of entry_id id (entries_of n l)
+  entry-found-at r p = p ∙ sym (place-table entry_of 4 entry_id id first_word (λ r. refl) n l)
 
--- what the place of an id says: the entry there is the one that has it, and past the last there is none
-module _ (n i id : ℕ) (l : List ℕ) (place : i ≡ index_of entry_id id (entries_of n l)) where
-  pub entry_found : i < n → matching id (entries_of n l) ≡ found (entry_of (row_at 4 l i))
-  entry_found h = lookup-row entry_of 4 entry_id id n i l place h
+  -- what the place of an id says: what stands there is the one that has it, and where there is no place there is none
+  module _ (o : Option ℕ) (place : o ≡ place_of entry_id id (entries_of n l)) where
+    module _ (i : ℕ) (at : o ≡ Some i) where
+      pub entry-place : i < n
+      entry-place = place_row entry_of 4 entry_id id n l i (sym at ∙ place)
 
-  pub entry-missing : n ≤ i → matching id (entries_of n l) ≡ none
-  entry-missing h = lookup-no-row entry_of 4 entry_id id n i l place h
+      pub entry-exists : n ≤ most → i < most
+      entry-exists h = omega (arith, entry-place)
+
+      pub entry_found : matching id (entries_of n l) ≡ found (entry_of (row_at 4 l i))
+      entry_found = place-found entry_of 4 entry_id id n l i (sym at ∙ place)
+
+    pub entry-missing : o ≡ None → matching id (entries_of n l) ≡ none
+    entry-missing e = place-missing entry_of 4 entry_id id n l (sym e ∙ place)
+
+  -- so whether there is one
+  pub entry-known : (o : Option ℕ) → o ≡ place_of entry_id id (entries_of n l) → is_found (matching id (entries_of n l)) ≡ is_some o
+  entry-known None p = rw (entry-missing None p refl)
+  entry-known (Some i) p = rw (entry_found (Some i) p i refl)
 
 pub ruleset finding_entry = (entry-found-at, rules)

@@ -3,10 +3,10 @@
 
 ghost use Rattle.std.specs.Prelude.{◌≡◌, ◌+◌, ◌-◌, ◌≤◌, ◌<◌, length};
 ghost use Rattle.rules.specs.Layouts.{entry, entry_size};
-ghost use Rattle.rules.specs.Lists.{index_of};
 ghost use Rattle.rules.specs.Numbers.{most};
 ghost use Rattle.rules.specs.Table.{entry_id};
 ghost use Rattle.rows.specs.Rows.{row_at};
+ghost use Rattle.rows.specs.Keys.{place_of};
 ghost use Rattle.kept_entries.specs.Views.{RowRead, entries_of};
 
 use rules::Entry;
@@ -39,10 +39,10 @@ pub fn entry_row(entries: &Entries, i: usize) -> Entry
     }
 }
 
-// The place of the kept entry that has an id, or `kept`.
-pub fn find_entry(entries: &Entries, kept: usize, id: u32) -> usize
+// The place of the kept entry that has an id, if one has it.
+pub fn find_entry(entries: &Entries, kept: usize, id: u32) -> Option<usize>
     requires { kept ≤ most }
-    ensures { result ≡ index_of entry_id id (entries_of kept entries.now) }
+    ensures { result ≡ place_of entry_id id (entries_of kept entries.now) }
 {
     rows_finding::find_row(entries, WORDS, kept, id)
 }

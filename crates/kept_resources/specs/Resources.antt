@@ -1,14 +1,15 @@
 -- Rows of resources: what reading, keeping, finding and removing one ask. Assumes nothing.
-use Rattle.std.specs.Prelude.{◌≡◌, refl, List, ℕ, ◌+◌, ◌*◌, ◌%◌, ◌≤◌, ◌<◌, get_or}
+use Rattle.std.specs.Prelude.{◌≡◌, refl, Option, Some, None, is_some, List, ℕ, ◌+◌, ◌*◌, ◌%◌, ◌≤◌, ◌<◌, get_or}
 use Rattle.std.proofs.Common.{sym, ◌∙◌, add-zero, arith, rules, eq-eqb, ne_eqb}
-use Rattle.rules.specs.Lists.{index_of, lookup}
+use Rattle.rules.specs.Numbers.{most}
+use Rattle.rules.specs.Lists.{lookup}
 use Rattle.rules.specs.Lists.Found.{none, found}
-use Rattle.rules.specs.Packets.{handle_of}
+use Rattle.rules.specs.Packets.{handle_of, is_live}
 use Rattle.rules.specs.declared.Kind.{Kind}
 use Rattle.rules.specs.declared.Kind.TheVariants.{Buffer, Texture}
 use Rattle.rules.specs.declared.Resource.{Resource}
 use Rattle.rows.specs.Rows.{row_at, table, first_word, row_field}
-use Rattle.rows.specs.Keys.{find-table, lookup-row, lookup-no-row}
+use Rattle.rows.specs.Keys.{place_of, place-table, place_row, place-found, place-missing}
 use Rattle.kept_resources.specs.Views.{kind_in, resource_of_row, resources_of}
 
 -- ---- kind_at, resource_row
@@ -44,15 +45,28 @@ pub ruleset reading_resource = (kind-buffer-at, kind-texture-at, row_read, handl
 
 -- ---- find_resource
 
-pub resource-found-at : (n i k : ℕ) (l : List ℕ) → i ≡ index_of first_word k (table (λ r. r) 12 n l) → i ≡ index_of handle_of k (resources_of n l)
-resource-found-at n i k l p = p ∙ sym (find-table resource_of_row 12 handle_of k (λ r. refl) n l)
+module _ (n k : ℕ) (l : List ℕ) where
+  pub resource-found-at : (r : Option ℕ) → r ≡ place_of first_word k (table (λ r. r) 12 n l) → r ≡ place_of handle_of k (resources_of n l)
+  resource-found-at r p = p ∙ sym (place-table resource_of_row 12 handle_of k first_word (λ r. refl) n l)
 
--- what the place of a handle says: the resource there is the one that has it, and past the last there is none
-module _ (n i k : ℕ) (l : List ℕ) (place : i ≡ index_of handle_of k (resources_of n l)) where
-  pub resource-found : i < n → lookup handle_of k (resources_of n l) ≡ found (resource_of_row (row_at 12 l i))
-  resource-found h = lookup-row resource_of_row 12 handle_of k n i l place h
+  -- what the place of a handle says: what stands there is the one that has it, and where there is no place there is none
+  module _ (o : Option ℕ) (place : o ≡ place_of handle_of k (resources_of n l)) where
+    module _ (i : ℕ) (at : o ≡ Some i) where
+      pub resource-place : i < n
+      resource-place = place_row resource_of_row 12 handle_of k n l i (sym at ∙ place)
 
-  pub resource-missing : n ≤ i → lookup handle_of k (resources_of n l) ≡ none
-  resource-missing h = lookup-no-row resource_of_row 12 handle_of k n i l place h
+      pub resource-exists : n ≤ most → i < most
+      resource-exists h = omega (arith, resource-place)
+
+      pub resource-found : lookup handle_of k (resources_of n l) ≡ found (resource_of_row (row_at 12 l i))
+      resource-found = place-found resource_of_row 12 handle_of k n l i (sym at ∙ place)
+
+    pub resource-missing : o ≡ None → lookup handle_of k (resources_of n l) ≡ none
+    resource-missing e = place-missing resource_of_row 12 handle_of k n l (sym e ∙ place)
+
+  -- so whether there is one
+  pub resource-known : (o : Option ℕ) → o ≡ place_of handle_of k (resources_of n l) → is_live (lookup handle_of k (resources_of n l)) ≡ is_some o
+  resource-known None p = rw (resource-missing None p refl)
+  resource-known (Some i) p = rw (resource-found (Some i) p i refl)
 
 pub ruleset finding_resource = (resource-found-at, rules)

@@ -2,9 +2,9 @@
 // offset, lowest name. Of a buffer's row the five words after its bytes say nothing.
 ghost use Rattle.std.specs.Prelude.{◌≡◌, ◌+◌, ◌-◌, ◌≤◌, ◌<◌};
 ghost use Rattle.rules.specs.Numbers.{most};
-ghost use Rattle.rules.specs.Lists.{index_of};
 ghost use Rattle.rules.specs.Packets.{handle_of};
 ghost use Rattle.rows.specs.Rows.{row_at};
+ghost use Rattle.rows.specs.Keys.{place_of};
 ghost use Rattle.kept_resources.specs.Views.{resource_of_row, resources_of, kind_in};
 
 use rules::{Kind, Resource, Shape};
@@ -71,10 +71,10 @@ pub fn lowest_at(resources: &Resources, i: usize) -> u32
     words::low32(resources[WORDS * i + LOWEST])
 }
 
-// The place of the live resource that has a handle, or `live`.
-pub fn find_resource(resources: &Resources, live: usize, handle: u32) -> usize
+// The place of the live resource that has a handle, if one has it.
+pub fn find_resource(resources: &Resources, live: usize, handle: u32) -> Option<usize>
     requires { live ≤ most }
-    ensures { result ≡ index_of handle_of handle (resources_of live resources.now) }
+    ensures { result ≡ place_of handle_of handle (resources_of live resources.now) }
 {
     rows_finding::find_row(resources, WORDS, live, handle)
 }

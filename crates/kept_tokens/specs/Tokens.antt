@@ -1,14 +1,14 @@
 -- Rows of tokens: what reading and finding one ask. Assumes nothing.
-use Rattle.std.specs.Prelude.{◌≡◌, refl, Bool, false, List, [], ◌∷◌, ℕ, suc, ◌+◌, ◌*◌, ◌-◌, ◌%◌, ◌≤◌, ◌<◌, ltb, length, get_or}
+use Rattle.std.specs.Prelude.{◌≡◌, refl, Option, Some, None, is_some, Bool, false, List, [], ◌∷◌, ℕ, suc, ◌+◌, ◌*◌, ◌%◌, ◌≤◌, ◌<◌, ltb, length, get_or}
 use Rattle.std.proofs.Common.{sym, ap, ◌∙◌, ⊎_elim, add-zero, arith, rules, ne_eqb, ltb-false}
 use Rattle.rules.specs.Numbers.{most_tokens}
 use Rattle.rules.specs.Lists.{index_of, lookup}
 use Rattle.rules.specs.Lists.Found.{none, found}
 use Rattle.rules.specs.Names.{token_of, rebind}
 use Rattle.rules.specs.declared.Token.{Token}
-use Rattle.rows.specs.Rows.{row_at, table, first_word, row_field, length-table, get_or-table}
-use Rattle.rows.specs.Keys.{same_or_not, index-here, index-later, index_key, find-table, lookup-row, lookup-no-row}
-use Rattle.rows_finding.specs.Among.{Among, eight-left, one-here, one_later, joining, scanning_by_eight}
+use Rattle.rows.specs.Rows.{row_at, table, first_word, row_field, get_or-table}
+use Rattle.rows.specs.Keys.{same_or_not, index-here, index-later, index_key, place_of, place-some, place-known, place-table, place_row, place-found, place-missing}
+use Rattle.rows_finding.specs.Among.{key_in}
 use Rattle.kept_tokens.specs.Views.{token_of_row, tokens_of}
 
 abbrev pub name_of : Token → ℕ
@@ -23,38 +23,36 @@ token-read l i a p =
 
 pub ruleset reading_token = (token-read, rules)
 
--- ---- of_one, of_two, of_four, of_eight
+-- ---- find_token
 
-module _ (k : ℕ) (l : List ℕ) (i : ℕ) where
-  pub token-here : get_or l (2 * i + 1) 0 ≡ k → Among token_of_row token_of k 2 l i 1 0
-  token-here p = one-here token_of_row token_of k 2 l i (rw (row_field 2 l i 1 (omega arith)) p)
+module _ (n k : ℕ) (l : List ℕ) where
+  pub token_found_at : (r : Option ℕ) → r ≡ place_of (key_in 1 (λ x. x)) k (table (λ r. r) 2 n l) → r ≡ place_of token_of k (tokens_of n l)
+  token_found_at r p = p ∙ sym (place-table token_of_row 2 token_of k (key_in 1 (λ x. x)) (λ r. refl) n l)
 
-  pub token-later : (get_or l (2 * i + 1) 0 ≡ k → ⊥) → Among token_of_row token_of k 2 l i 1 1
-  token-later p = one_later token_of_row token_of k 2 l i (λ q. p (rw (row_field 2 l i 1 (omega arith)) at q))
+  -- what the place of a token says: what stands there is the one that has it, and where there is no place there is none
+  module _ (o : Option ℕ) (place : o ≡ place_of token_of k (tokens_of n l)) where
+    module _ (i : ℕ) (at : o ≡ Some i) where
+      pub token-place : i < n
+      token-place = place_row token_of_row 2 token_of k n l i (sym at ∙ place)
 
-pub ruleset finding_token = (token-here, token-later, joining)
+      pub token-exists : n ≤ most_tokens → i < most_tokens
+      token-exists h = omega (arith, token-place)
 
--- ---- by_eight, find_token
+      pub token-found : lookup token_of k (tokens_of n l) ≡ found (token_of_row (row_at 2 l i))
+      token-found = place-found token_of_row 2 token_of k n l i (sym at ∙ place)
 
-pub token-room : (i n : ℕ) → n ≤ most_tokens → i ≤ n → (n - i) % 8 ≡ 0 → (i ≡ n → ⊥) → i + 8 ≤ most_tokens
-token-room i n m g e h = omega (arith, eight-left i n (g, e) h)
+      -- it has that token
+      pub token-at : (token_of_row (row_at 2 l i)).token ≡ k
+      token-at =
+          let here : (i ≡ index_of token_of k (tokens_of n l)) × (i < length (tokens_of n l)) = place-some token_of k i (tokens_of n l) (sym at ∙ place) in
+          let d : Token = token_of_row (row_at 2 l i) in
+          sym (ap token_of (get_or-table token_of_row 2 n l i d token-place))
+          ∙ (ap (λ j. token_of (get_or (tokens_of n l) j d)) here.0 ∙ index_key token_of k (tokens_of n l) d (omega arith))
 
-pub ruleset scanning_tokens = (token-room, scanning_by_eight)
+    pub token-missing : o ≡ None → lookup token_of k (tokens_of n l) ≡ none
+    token-missing e = place-missing token_of_row 2 token_of k n l (sym e ∙ place)
 
--- what the place of a token says: the token there is the one, and past the last there is none
-module _ (n i k : ℕ) (l : List ℕ) (place : i ≡ index_of token_of k (tokens_of n l)) where
-  pub token-found : i < n → lookup token_of k (tokens_of n l) ≡ found (token_of_row (row_at 2 l i))
-  token-found h = lookup-row token_of_row 2 token_of k n i l place h
-
-  pub token-missing : n ≤ i → lookup token_of k (tokens_of n l) ≡ none
-  token-missing h = lookup-no-row token_of_row 2 token_of k n i l place h
-
-  -- it has that token
-  pub token-at : i < n → (token_of_row (row_at 2 l i)).token ≡ k
-  token-at h =
-      let long : length (tokens_of n l) ≡ n = length-table token_of_row 2 n l in
-      sym (ap token_of (get_or-table token_of_row 2 n l i (token_of_row (row_at 2 l i)) h))
-      ∙ (ap (λ j. token_of (get_or (tokens_of n l) j (token_of_row (row_at 2 l i)))) place ∙ index_key token_of k (tokens_of n l) (token_of_row (row_at 2 l i)) (omega arith))
+pub ruleset finding_token = (token_found_at, rules)
 
 -- ---- is_bound
 
@@ -62,8 +60,8 @@ module _ (n i k : ℕ) (l : List ℕ) (place : i ≡ index_of token_of k (tokens
 abbrev pub is_bound : ℕ → List Token → Bool
 is_bound name ts = ltb (index_of name_of name ts) (length ts)
 
-pub bound-found : (n i k : ℕ) (l : List ℕ) → i ≡ index_of first_word k (table (λ r. r) 2 n l) → ltb i n ≡ is_bound k (tokens_of n l)
-bound-found n i k l p = rw (p, ← find-table token_of_row 2 name_of k (λ r. refl) n l, length-table token_of_row 2 n l)
+pub bound-found : (n k : ℕ) (l : List ℕ) (r : Option ℕ) (b : Bool) → r ≡ place_of first_word k (table (λ r. r) 2 n l) → b ≡ is_some r → b ≡ is_bound k (tokens_of n l)
+bound-found n k l r b p q = rw (q, p, ← place-table token_of_row 2 name_of k first_word (λ r. refl) n l) (place-known name_of k (tokens_of n l))
 
 pub ruleset finding_bound = (bound-found, rules)
 

@@ -1,10 +1,10 @@
 -- What a copy packet comes to, a law for each end. Assumes nothing.
-use Rattle.std.specs.Prelude.{◌≡◌, refl, Bool, true, false, ◌||◌, List, ℕ, ◌+◌, ◌%◌, ◌≤◌, ◌<◌, ltb, eqb, None, Option, Some}
+use Rattle.std.specs.Prelude.{◌≡◌, refl, Option, Some, None, Bool, true, false, ◌||◌, List, ℕ, ◌+◌, ◌%◌, ◌≤◌, ◌<◌, ltb, eqb}
 use Rattle.std.proofs.Common.{sym, ap, ◌∙◌, arith, rules}
 use borrow.Author.Tests.{eq-eqb, ne_eqb, lt-ltb, le-ltb}
 use Rattle.machine.specs.Machine.{pick}
 use Rattle.rules.specs.Numbers.{writes}
-use Rattle.rules.specs.Lists.{Found, index_of, lookup}
+use Rattle.rules.specs.Lists.{Found, lookup}
 use Rattle.rules.specs.Lists.Found.{none, found}
 use Rattle.rules.specs.Table.{matching}
 use Rattle.rules.specs.Packets.{Holdings, Outcome, accepted, refused, refuse, handle_of, on_buffer, on_kind, hand_out, write_back, on_copy_packet}
@@ -17,9 +17,10 @@ use Rattle.rules.specs.declared.Kind.{Kind}
 use Rattle.rules.specs.declared.Kind.TheVariants.{Buffer, Texture}
 use Rattle.rules.specs.declared.Refusal.TheVariants.{BadHandle, NotInTable, PastEntry, ReadOnly, PastResource, HostBacked, BadCopy}
 use Rattle.rows.specs.Rows.{row_at}
+use Rattle.rows.specs.Keys.{place_of}
 use Rattle.kept_entries.specs.Views.{entries_of}
 use Rattle.kept_resources.specs.Views.{resource_of_row, resources_of, holdings_of}
-use Rattle.kept_resources.specs.Resources.{resource-found, resource-missing}
+use Rattle.kept_resources.specs.Resources.{resource-place, resource-exists, resource-found, resource-missing}
 use Rattle.packet_ranges.specs.Views.{Applies, RowsExist, refused_with}
 use Rattle.packet_ranges.specs.Handout.{HandsOut, accepted_with, judged, resolved_of, entry-judged, refused-applies, refused-hands}
 use Rattle.packet_ranges.specs.declared.applied.Applied.{Applied}
@@ -37,14 +38,14 @@ unfoldable pub buffer_of : Found Resource → Option Resource
 buffer_of none = None
 buffer_of (found r) = kind_sought r r.kind
 
-module _ (live i k : ℕ) (l : List ℕ) (place : i ≡ index_of handle_of k (resources_of live l)) where
-  pub seeks-nothing : live ≤ i → None ≡ buffer_of (lookup handle_of k (resources_of live l))
+module _ (live k : ℕ) (l : List ℕ) (o : Option ℕ) (place : o ≡ place_of handle_of k (resources_of live l)) where
+  pub seeks-nothing : o ≡ None → None ≡ buffer_of (lookup handle_of k (resources_of live l))
   unfolding buffer_of
-  seeks-nothing p = rw (resource-missing live i k l place p)
+  seeks-nothing p = rw (resource-missing live k l o place p)
 
-  module _ (p : i < live) (r : Resource) (row : r ≡ resource_of_row (row_at 12 l i)) where
+  module _ (i : ℕ) (at : o ≡ Some i) (r : Resource) (row : r ≡ resource_of_row (row_at 12 l i)) where
     here : lookup handle_of k (resources_of live l) ≡ found r
-    here = resource-found live i k l place p ∙ ap found (sym row)
+    here = resource-found live k l o place i at ∙ ap found (sym row)
 
     pub seeks-buffer : r.kind ≡ Buffer → Some r ≡ buffer_of (lookup handle_of k (resources_of live l))
     unfolding buffer_of
@@ -54,7 +55,7 @@ module _ (live i k : ℕ) (l : List ℕ) (place : i ≡ index_of handle_of k (re
     unfolding buffer_of
     seeks-texture s e = rw (here, e)
 
-pub ruleset seeking = (seeks-nothing, seeks-buffer, seeks-texture, rules)
+pub ruleset seeking = (resource-exists, seeks-nothing, seeks-buffer, seeks-texture, rules)
 
 live-not-none : (r : Resource) → ◌≡◌ {A = Option Resource} None (Some r) → ⊥
 live-not-none r e = let z : ◌≡◌ {A = ℕ} 0 1 = cc in omega arith

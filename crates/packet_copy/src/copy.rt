@@ -26,13 +26,11 @@ fn live_buffer(resources: &Resources, live: usize, handle: u32) -> Option<Resour
     requires { live ≤ most }
     ensures { result ≡ buffer_of (lookup handle_of handle (resources_of live resources.now)) }
 {
-    let place = find_resource(resources, live, handle);
-    if place >= live {
+    let Some(place) = find_resource(resources, live, handle) else {
         return None;
-    }
+    };
     let r = resource_row(resources, place);
-    let kind = r.kind;
-    match kind {
+    match r.kind {
         Kind::Buffer => Some(r),
         Kind::Texture(_) => None,
     }

@@ -1,21 +1,22 @@
 -- A resource created, judged in the order of the rules and then stored: what the code asks. Assumes nothing.
-use Rattle.std.specs.Prelude.{◌≡◌, Bool, true, false, not, List, ℕ, ◌+◌, ◌^◌, ◌≤◌, ◌<◌, ltb, Ok}
+use Rattle.std.specs.Prelude.{◌≡◌, Option, Some, None, is_some, Bool, true, false, not, List, ℕ, ◌+◌, ◌^◌, ◌≤◌, ◌<◌, ltb, Ok}
 use Rattle.std.proofs.Common.{sym, ap, subst, ◌∙◌, add-zero, arith, rules}
 use borrow.Author.Tests.{ltb-false, le-leb, lt-leb, eq-eqb, ne_eqb}
 use Rattle.rules.specs.Numbers.{most, backs}
-use Rattle.rules.specs.Lists.{pushed, index_of}
+use Rattle.rules.specs.Lists.{pushed, lookup}
 use Rattle.rules.specs.Lists.Found.{found}
 use Rattle.rules.specs.Table.{entry_id, matching}
-use Rattle.rules.specs.Packets.{Holdings, Outcome, accepted, refused, refuse, full, handle_of, range_of, recorded, stored, create_hosted, create_backed, create}
+use Rattle.rules.specs.Packets.{Holdings, Outcome, accepted, refused, refuse, full, handle_of, is_live, range_of, recorded, stored, create_hosted, create_backed, create}
 use Rattle.rules.specs.declared.Entry.{Entry}
 use Rattle.rules.specs.declared.Resource.{Resource}
 use Rattle.rules.specs.declared.Record.{Record}
 use Rattle.rules.specs.declared.Refusal.TheVariants.{BadHandle, TooMany, BadShape, NotInTable, PastEntry}
 use Rattle.rows.specs.Rows.{row_at, length-table}
+use Rattle.rows.specs.Keys.{place_of}
 use Rattle.kept_entries.specs.Views.{RowRead, entries_of}
-use Rattle.kept_entries.specs.Rows.{entry_found, entry-missing}
+use Rattle.kept_entries.specs.Rows.{entry-exists, entry_found, entry-missing}
 use Rattle.kept_resources.specs.Views.{resource_of_row, resources_of, record_of, records_of, holdings_of}
-use Rattle.kept_resources.specs.Resources.{resource-found, resource-missing}
+use Rattle.kept_resources.specs.Resources.{resource-known}
 use Rattle.packet_ranges.specs.Views.{refused_with, Applies, RowsExist}
 use Rattle.packet_ranges.specs.declared.applied.Applied.{Applied}
 use Rattle.rules.specs.declared.Refusal.{Refusal}
@@ -81,16 +82,16 @@ pub ruleset storing = (no_room, no-record-room, both_stored, rules)
 
 -- ---- create_backed
 
-module _ (n live made : ℕ) (es resources records : List ℕ) (r : Resource) (room : RowsExist n live made) (i : ℕ) (place : i ≡ index_of entry_id r.backing (entries_of n es)) where
-  pub backed-nowhere : (a : Applied) → n ≤ i → a ≡ refused_with NotInTable live made
+module _ (n live made : ℕ) (es resources records : List ℕ) (r : Resource) (room : RowsExist n live made) (o : Option ℕ) (place : o ≡ place_of entry_id r.backing (entries_of n es)) where
+  pub backed-nowhere : (a : Applied) → o ≡ None → a ≡ refused_with NotInTable live made
       → Applies (create_backed (entries_of n es) (holdings_of live resources made records) r) a resources records
   unfolding create_backed
   backed-nowhere a h told =
-      stays live made NotInTable resources records _ a room.live room.made told (rw (entry-missing n i r.backing es place h))
+      stays live made NotInTable resources records _ a room.live room.made told (rw (entry-missing n r.backing es o place h))
 
-  module _ (h : i < n) (e : Entry) (read : RowRead (row_at 4 es i) e) where
+  module _ (i : ℕ) (at : o ≡ Some i) (e : Entry) (read : RowRead (row_at 4 es i) e) where
     matched : matching r.backing (entries_of n es) ≡ found e
-    matched = entry_found n i r.backing es place h ∙ ap found (sym read.entry)
+    matched = entry_found n r.backing es o place i at ∙ ap found (sym read.entry)
 
     -- what the rules ask once the entry is found
     in_entry : create_backed (entries_of n es) (holdings_of live resources made records) r
@@ -115,7 +116,7 @@ module _ (n live made : ℕ) (es resources records : List ℕ) (r : Resource) (r
             → Applies (create_backed (entries_of n es) (holdings_of live resources made records) r) a resources' records'
         backed-inside a resources' records' s = rw (in_entry, ← is, t, add-zero) s
 
-pub ruleset backing = (backed-nowhere, backed-past, backed-fits, backed-inside, rules)
+pub ruleset backing = (entry-exists, backed-nowhere, backed-past, backed-fits, backed-inside, rules)
 
 -- ---- create
 
@@ -126,31 +127,34 @@ module _ (n live made : ℕ) (es resources records : List ℕ) (good : Bool) (r 
   create-no-handle a h e =
       stays live made BadHandle resources records _ a room.live room.made e (rw (eq-eqb _ _ h))
 
-  module _ (h : r.handle ≡ 0 → ⊥) (i : ℕ) (place : i ≡ index_of handle_of r.handle (resources_of live resources)) where
-    pub create-live : (a : Applied) → i < live → a ≡ refused_with BadHandle live made
+  module _ (h : r.handle ≡ 0 → ⊥) (o : Option ℕ) (place : o ≡ place_of handle_of r.handle (resources_of live resources)) (b : Bool) (known : b ≡ is_some o) where
+    taken : is_live (lookup handle_of r.handle (resources_of live resources)) ≡ b
+    taken = resource-known live r.handle resources o place ∙ sym known
+
+    pub create-live : (a : Applied) → b ≡ true → a ≡ refused_with BadHandle live made
         → Applies (create (entries_of n es) (holdings_of live resources made records) good r) a resources records
     unfolding create
     create-live a p e =
         stays live made BadHandle resources records _ a room.live room.made e
-        (rw (ne_eqb _ _ h, resource-found live i r.handle resources place p))
+        (rw (ne_eqb _ _ h, taken, p))
 
-    module _ (p : live ≤ i) where
+    module _ (p : b ≡ false) where
       pub create-bad : (a : Applied) → not good ≡ true → a ≡ refused_with BadShape live made
           → Applies (create (entries_of n es) (holdings_of live resources made records) good r) a resources records
       unfolding create
       create-bad a q e =
           stays live made BadShape resources records _ a room.live room.made e
-          (rw (ne_eqb _ _ h, resource-missing live i r.handle resources place p, q))
+          (rw (ne_eqb _ _ h, taken, p, q))
 
       module _ (q : not good ≡ false) (a : Applied) (resources' : List ℕ) where
         pub create-host : r.backing ≡ 0 → ((l : List ℕ) → Applies (create_hosted (holdings_of live resources made l) r) a resources' l)
             → Applies (create (entries_of n es) (holdings_of live resources made records) good r) a resources' records
         unfolding create
-        create-host s e = rw (ne_eqb _ _ h, resource-missing live i r.handle resources place p, q, eq-eqb _ _ s) (e records)
+        create-host s e = rw (ne_eqb _ _ h, taken, p, q, eq-eqb _ _ s) (e records)
 
         pub create-back : (records' : List ℕ) → (r.backing ≡ 0 → ⊥) → Applies (create_backed (entries_of n es) (holdings_of live resources made records) r) a resources' records'
             → Applies (create (entries_of n es) (holdings_of live resources made records) good r) a resources' records'
         unfolding create
-        create-back records' s e = rw (ne_eqb _ _ h, resource-missing live i r.handle resources place p, q, ne_eqb _ _ s) e
+        create-back records' s e = rw (ne_eqb _ _ h, taken, p, q, ne_eqb _ _ s) e
 
 pub ruleset creating = (create-no-handle, create-live, create-bad, create-host, create-back, rules)

@@ -76,10 +76,9 @@ fn create_backed(
         (holdings_of live own.old made records.old) r)
         result own.new records.new }
 {
-    let place = find_entry(entries, kept, r.backing);
-    if place >= kept {
+    let Some(place) = find_entry(entries, kept, r.backing) else {
         return refuse(Refusal::NotInTable, live, made);
-    }
+    };
     let e = entry_row(entries, place);
     let offset = r.offset as u64;
     if beyond(offset, r.bytes, e.size) {
@@ -114,8 +113,7 @@ pub fn create(
     if r.handle == 0 {
         return refuse(Refusal::BadHandle, live, made);
     }
-    let place = find_resource(own, live, r.handle);
-    if place < live {
+    if find_resource(own, live, r.handle).is_some() {
         return refuse(Refusal::BadHandle, live, made);
     }
     if !good {

@@ -16,12 +16,10 @@ pub fn on_destroy(own: &mut Resources, live: usize, made: usize, c: DestroyResou
     requires { (live ≤ most) × (made ≤ most) }
     ensures { Destroys c live made own.old result own.new }
 {
-    let place = find_resource(own, live, c.handle);
-    if place >= live {
+    let Some(place) = find_resource(own, live, c.handle) else {
         return refuse_renaming(Refusal::BadHandle, live, made);
-    }
+    };
     let r = resource_row(own, place);
-    let kind = r.kind;
     let left = live - 1;
     remove_resource(own, live, place);
     let applied = Applied {
@@ -29,7 +27,7 @@ pub fn on_destroy(own: &mut Resources, live: usize, made: usize, c: DestroyResou
         live: left,
         made,
     };
-    if !shareable(kind) {
+    if !shareable(r.kind) {
         return Renamed {
             applied,
             old: 0,
@@ -52,13 +50,11 @@ pub fn destroy_unshared(
     requires { (live ≤ most) × (made ≤ most) }
     ensures { DestroysUnshared c live made own.old result own.new }
 {
-    let place = find_resource(own, live, c.handle);
-    if place >= live {
+    let Some(place) = find_resource(own, live, c.handle) else {
         return Some(refuse(Refusal::BadHandle, live, made));
-    }
+    };
     let r = resource_row(own, place);
-    let kind = r.kind;
-    if shareable(kind) {
+    if shareable(r.kind) {
         return None;
     }
     remove_resource(own, live, place);

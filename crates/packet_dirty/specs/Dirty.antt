@@ -1,9 +1,9 @@
 -- What a dirty packet comes to, a law for each end. Assumes nothing.
-use Rattle.std.specs.Prelude.{◌≡◌, Bool, true, false, List, ℕ, ◌+◌, ◌≤◌, ◌<◌, ltb}
+use Rattle.std.specs.Prelude.{◌≡◌, Option, Some, None, Bool, true, false, List, ℕ, ◌+◌, ltb}
 use Rattle.std.proofs.Common.{sym, ap, ◌∙◌, rules}
 use borrow.Author.Tests.{eq-eqb, ne_eqb}
 use Rattle.rules.specs.Numbers.{reads}
-use Rattle.rules.specs.Lists.{index_of, lookup}
+use Rattle.rules.specs.Lists.{lookup}
 use Rattle.rules.specs.Lists.Found.{found}
 use Rattle.rules.specs.Table.{matching}
 use Rattle.rules.specs.Packets.{handle_of, hand_out, on_dirty_packet}
@@ -12,9 +12,10 @@ use Rattle.rules.specs.declared.Record.{Record}
 use Rattle.rules.specs.declared.DirtyRange.{DirtyRange}
 use Rattle.rules.specs.declared.Refusal.TheVariants.{BadHandle, NotInTable, PastEntry, PastResource, HostBacked}
 use Rattle.rows.specs.Rows.{row_at}
+use Rattle.rows.specs.Keys.{place_of}
 use Rattle.kept_entries.specs.Views.{entries_of}
 use Rattle.kept_resources.specs.Views.{resource_of_row, resources_of, holdings_of}
-use Rattle.kept_resources.specs.Resources.{resource-found, resource-missing}
+use Rattle.kept_resources.specs.Resources.{resource-place, resource-exists, resource-found, resource-missing}
 use Rattle.packet_ranges.specs.Views.{Applies, RowsExist, refused_with}
 use Rattle.packet_ranges.specs.Handout.{HandsOut, judged, resolved_of, entry-judged, refused-applies}
 use Rattle.packet_ranges.specs.declared.applied.Applied.{Applied}
@@ -26,15 +27,15 @@ Dirties n entries live resources made records c a after =
     Applies (on_dirty_packet (entries_of n entries) (holdings_of live resources made records) c) a resources after
 
 module _ (n : ℕ) (entries : List ℕ) (live : ℕ) (resources : List ℕ) (made : ℕ) (records : List ℕ) (c : DirtyRange) (room : RowsExist n live made)
-    (i : ℕ) (place : i ≡ index_of handle_of c.handle (resources_of live resources)) where
-  pub dirties-not-live : (a : Applied) → live ≤ i → a ≡ refused_with BadHandle live made → Dirties n entries live resources made records c a records
+    (o : Option ℕ) (place : o ≡ place_of handle_of c.handle (resources_of live resources)) where
+  pub dirties-not-live : (a : Applied) → o ≡ None → a ≡ refused_with BadHandle live made → Dirties n entries live resources made records c a records
   unfolding on_dirty_packet
   dirties-not-live a p e =
-      refused-applies BadHandle n live made records a room e _ resources (rw (resource-missing live i c.handle resources place p))
+      refused-applies BadHandle n live made records a room e _ resources (rw (resource-missing live c.handle resources o place p))
 
-  module _ (p : i < live) (r : Resource) (row : r ≡ resource_of_row (row_at 12 resources i)) where
+  module _ (i : ℕ) (at : o ≡ Some i) (r : Resource) (row : r ≡ resource_of_row (row_at 12 resources i)) where
     here : lookup handle_of c.handle (resources_of live resources) ≡ found r
-    here = resource-found live i c.handle resources place p ∙ ap found (sym row)
+    here = resource-found live c.handle resources o place i at ∙ ap found (sym row)
 
     pub dirties-hosted : (a : Applied) → r.backing ≡ 0 → a ≡ refused_with HostBacked live made → Dirties n entries live resources made records c a records
     unfolding on_dirty_packet
@@ -69,4 +70,4 @@ module _ (n : ℕ) (entries : List ℕ) (live : ℕ) (resources : List ℕ) (mad
           dirties-inside flags range a after told hands = rw (judges, told) (hands.applies resources)
 
 pub ruleset dirtying =
-    (dirties-not-live, dirties-hosted, dirties-past, dirties-missing, dirties-past-entry, dirties-inside, rules)
+    (resource-exists, dirties-not-live, dirties-hosted, dirties-past, dirties-missing, dirties-past-entry, dirties-inside, rules)

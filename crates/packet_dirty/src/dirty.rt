@@ -28,10 +28,9 @@ pub fn on_dirty(
         (holdings_of live resources.now made records.old) c)
         result resources.now records.new }
 {
-    let place = find_resource(resources, live, c.handle);
-    if place >= live {
+    let Some(place) = find_resource(resources, live, c.handle) else {
         return refuse(Refusal::BadHandle, live, made);
-    }
+    };
     let r = resource_row(resources, place);
     if r.backing == 0 {
         return refuse(Refusal::HostBacked, live, made);

@@ -1,12 +1,12 @@
 -- What an export packet comes to, whatever records are held. Assumes nothing.
-use Rattle.std.specs.Prelude.{◌≡◌, refl, Bool, not, ◌&&◌, ◌||◌, List, ℕ, ◌≤◌, ◌<◌, eqb, leb, length}
+use Rattle.std.specs.Prelude.{◌≡◌, refl, Option, Some, None, Bool, not, ◌&&◌, ◌||◌, List, ℕ, ◌≤◌, ◌<◌, eqb, leb, length}
 use Rattle.std.proofs.Math.Path.{sym}
 use Rattle.std.proofs.Common.{ap, ◌∙◌, arith, rules}
 use Rattle.std.proofs.Math.Bool.{true, false}
 use borrow.Author.Tests.{eq-eqb, ne_eqb, le-leb, lt-leb, not-true, not-false}
 use Rattle.machine.specs.Machine.{pick}
 use Rattle.rules.specs.Numbers.{most, most_tokens}
-use Rattle.rules.specs.Lists.{index_of, lookup, pushed}
+use Rattle.rules.specs.Lists.{lookup, pushed}
 use Rattle.rules.specs.Lists.Found.{none, found}
 use Rattle.rules.specs.Names.{token_of, shareable, of_another, is_new, with_token}
 use Rattle.rules.specs.Packets.{Holdings, Outcome, handle_of, accepted, refuse, if-fine, on_export_packet, tokens_after}
@@ -16,10 +16,11 @@ use Rattle.rules.specs.declared.Resource.{Resource}
 use Rattle.rules.specs.declared.Token.{Token}
 use Rattle.rules.specs.declared.Refusal.TheVariants.{BadHandle, TooMany, BadShape, BadToken}
 use Rattle.rows.specs.Rows.{row_at, length-table}
+use Rattle.rows.specs.Keys.{place_of}
 use Rattle.kept_resources.specs.Views.{resource_of_row, resources_of, holdings_of}
-use Rattle.kept_resources.specs.Resources.{resource-found, resource-missing}
+use Rattle.kept_resources.specs.Resources.{resource-place, resource-exists, resource-found, resource-missing}
 use Rattle.kept_tokens.specs.Views.{token_of_row, tokens_of}
-use Rattle.kept_tokens.specs.Tokens.{token-found, token-missing}
+use Rattle.kept_tokens.specs.Tokens.{token-exists, token-found, token-missing}
 use Rattle.packet_ranges.specs.Views.{Applies, refused_with}
 use Rattle.packet_ranges.specs.Handout.{accepted_with}
 use Rattle.packet_ranges.specs.declared.applied.Applied.{Applied}
@@ -68,10 +69,10 @@ module _ (low token live made used : ℕ) (t : List ℕ) (room : ((live ≤ most
   pub binds-nothing : (x : Exported) → token ≡ 0 → x ≡ exported_nothing BadToken live made → Binds low token live made used t x
   binds-nothing x p e = refusal-binds BadToken x e (λ h. rw (eq-eqb _ _ p))
 
-  module _ (p : token ≡ 0 → ⊥) (i : ℕ) (place : i ≡ index_of token_of token (tokens_of used t)) where
-    module _ (q : i < used) (k : Token) (row : k ≡ token_of_row (row_at 2 t i)) where
+  module _ (p : token ≡ 0 → ⊥) where
+    module _ (o : Option ℕ) (place : o ≡ place_of token_of token (tokens_of used t)) (i : ℕ) (at : o ≡ Some i) (k : Token) (row : k ≡ token_of_row (row_at 2 t i)) where
       known : lookup token_of token (tokens_of used t) ≡ found k
-      known = token-found used i token t place q ∙ ap found (sym row)
+      known = token-found used token t o place i at ∙ ap found (sym row)
 
       pub binds-another : (x : Exported) → (k.name ≡ low → ⊥) → x ≡ exported_nothing BadToken live made → Binds low token live made used t x
       binds-another x s e = refusal-binds BadToken x e (λ h. rw (ne_eqb _ _ p, known, ne_eqb _ _ s))
@@ -84,9 +85,9 @@ module _ (low token live made used : ℕ) (t : List ℕ) (room : ((live ≤ most
             room = λ z. absurd (apart z);
           }
 
-    module _ (q : used ≤ i) where
+    module _ (o : Option ℕ) (place : o ≡ place_of token_of token (tokens_of used t)) (q : o ≡ None) where
       unknown : lookup token_of token (tokens_of used t) ≡ none
-      unknown = token-missing used i token t place q
+      unknown = token-missing used token t o place q
 
       pub binds-too-many : (x : Exported) → most_tokens ≤ used → x ≡ exported_nothing TooMany live made → Binds low token live made used t x
       binds-too-many x s e = refusal-binds TooMany x e (λ h. rw (ne_eqb _ _ p, unknown, length-table token_of_row 2 used t, le-leb _ _ s))
@@ -99,7 +100,7 @@ module _ (low token live made used : ℕ) (t : List ℕ) (room : ((live ≤ most
             room = λ z. s;
           }
 
-pub ruleset bindings = (binds-nothing, binds-another, binds-again, binds-too-many, binds-new, rules)
+pub ruleset bindings = (token-exists, binds-nothing, binds-another, binds-again, binds-too-many, binds-new, rules)
 
 -- ---- on_export
 
@@ -115,20 +116,21 @@ pub record Exports (c : ExportSurface) (live made used : ℕ) (l t : List ℕ) (
 pub exported-room : (c : ExportSurface) (live made used : ℕ) (l t : List ℕ) (x : Exported) → Exports c live made used l t x → x.added ≡ true → used < most_tokens
 exported-room c live made used l t x e p = e.room p
 
-module _ (c : ExportSurface) (live made used i : ℕ) (l t : List ℕ) (room : ((live ≤ most) × (made ≤ most)) × (used ≤ most_tokens)) (place : i ≡ index_of handle_of c.handle (resources_of live l)) where
-  pub exports-nothing : (x : Exported) → live ≤ i → x ≡ exported_nothing BadHandle live made → Exports c live made used l t x
+module _ (c : ExportSurface) (live made used : ℕ) (l t : List ℕ) (room : ((live ≤ most) × (made ≤ most)) × (used ≤ most_tokens))
+    (o : Option ℕ) (place : o ≡ place_of handle_of c.handle (resources_of live l)) where
+  pub exports-nothing : (x : Exported) → o ≡ None → x ≡ exported_nothing BadHandle live made → Exports c live made used l t x
   unfolding on_export_packet tokens_after
   exports-nothing x p e =
       rw e
       (record {
-        applies = λ records. record { outcome = rw (resource-missing live i c.handle l place p); live = room.0.0; made = room.0.1 };
+        applies = λ records. record { outcome = rw (resource-missing live c.handle l o place p); live = room.0.0; made = room.0.1 };
         tokens = λ records. refl;
         room = λ z. absurd (apart z);
       })
 
-  module _ (p : i < live) (r : Resource) (row : r ≡ resource_of_row (row_at 12 l i)) (b : Bool) (is : b ≡ shareable r.kind) where
+  module _ (i : ℕ) (at : o ≡ Some i) (r : Resource) (row : r ≡ resource_of_row (row_at 12 l i)) (b : Bool) (is : b ≡ shareable r.kind) where
     here : lookup handle_of c.handle (resources_of live l) ≡ found r
-    here = resource-found live i c.handle l place p ∙ ap found (sym row)
+    here = resource-found live c.handle l o place i at ∙ ap found (sym row)
 
     pub exports-no-texture : not b ≡ true → (x : Exported) → x ≡ exported_nothing BadShape live made → Exports c live made used l t x
     unfolding on_export_packet tokens_after
@@ -151,4 +153,4 @@ module _ (c : ExportSurface) (live made used i : ℕ) (l t : List ℕ) (room : (
           room = b'.room;
         }
 
-pub ruleset exporting = (exports-nothing, exports-no-texture, exports-one, rules)
+pub ruleset exporting = (resource-exists, exports-nothing, exports-no-texture, exports-one, rules)

@@ -44,8 +44,7 @@ fn bind(tokens: &Tokens, used: usize, live: usize, made: usize, low: u32, token:
         live,
         made,
     };
-    let place = find_token(tokens, used, token);
-    if place < used {
+    if let Some(place) = find_token(tokens, used, token) {
         let t = token_row(tokens, place);
         if t.name != low {
             return refuse_export(Refusal::BadToken, live, made);
@@ -78,13 +77,11 @@ pub fn on_export(
     requires { ((live ≤ most) × (made ≤ most)) × (used ≤ most_tokens) }
     ensures { Exports c live made used resources.now tokens.now result }
 {
-    let i = find_resource(resources, live, c.handle);
-    if i >= live {
+    let Some(i) = find_resource(resources, live, c.handle) else {
         return refuse_export(Refusal::BadHandle, live, made);
-    }
+    };
     let r = resource_row(resources, i);
-    let kind = r.kind;
-    if !shareable(kind) {
+    if !shareable(r.kind) {
         return refuse_export(Refusal::BadShape, live, made);
     }
     bind(tokens, used, live, made, r.lowest, c.token)

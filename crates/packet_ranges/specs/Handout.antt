@@ -1,12 +1,12 @@
 -- A range of a resource: its end, its entry, its record, and what handing it out comes to. Assumes nothing.
-use Rattle.std.specs.Prelude.{◌≡◌, Bool, true, false, List, ℕ, ◌+◌, ◌-◌, ◌^◌, ◌≤◌, ◌<◌, ltb, Ok}
+use Rattle.std.specs.Prelude.{◌≡◌, Option, Some, None, Bool, true, false, List, ℕ, ◌+◌, ◌-◌, ◌^◌, ◌≤◌, ◌<◌, ltb, Ok}
 use Rattle.std.proofs.Math.Path.{refl}
 use Rattle.std.proofs.Common.{sym, ap, ◌∙◌, add_assoc, rules}
 use native.Mathlib.Omega.{arith}
 use borrow.Author.Tests.{ltb-false, eq-eqb, ne_eqb, le-leb, lt-leb}
 use Rattle.machine.specs.Machine.{pick}
 use Rattle.rules.specs.Numbers.{most}
-use Rattle.rules.specs.Lists.{Found, index_of, pushed}
+use Rattle.rules.specs.Lists.{Found, pushed}
 use Rattle.rules.specs.Lists.Found.{none, found}
 use Rattle.rules.specs.Table.{entry_id, matching}
 use Rattle.rules.specs.Packets.{Holdings, Outcome, refused, refuse, on_entry, range_of, hand_out}
@@ -15,9 +15,10 @@ use Rattle.rules.specs.declared.Resource.{Resource}
 use Rattle.rules.specs.declared.Record.{Record}
 use Rattle.rules.specs.declared.Refusal.TheVariants.{TooMany, NotInTable, PastEntry}
 use Rattle.rows.specs.Rows.{row_at, length-table}
+use Rattle.rows.specs.Keys.{place_of}
 use Rattle.widths.specs.Beyond.{long, short}
 use Rattle.kept_entries.specs.Views.{RowRead, entries_of}
-use Rattle.kept_entries.specs.Rows.{entry_found, entry-missing}
+use Rattle.kept_entries.specs.Rows.{entry-exists, entry_found, entry-missing}
 use Rattle.kept_resources.specs.Views.{record_of, records_of, holdings_of}
 use Rattle.packet_ranges.specs.Views.{Applies, RowsExist, refused_with}
 use Rattle.packet_ranges.specs.declared.applied.Applied.{Applied}
@@ -63,14 +64,15 @@ module _ (kind : ℕ) (r : Resource) (from size : ℕ) where
   entry-judged (found e) h later =
       within-judged (ltb e.size (r.offset + (from + size))) e.flags (range_of kind r e from size) h later
 
-  module _ (n i : ℕ) (l : List ℕ) (place : i ≡ index_of entry_id r.backing (entries_of n l)) where
-    pub resolves-missing : n ≤ i → Missing ≡ resolved_of kind r from size (matching r.backing (entries_of n l))
+  module _ (n : ℕ) (l : List ℕ) (o : Option ℕ) (place : o ≡ place_of entry_id r.backing (entries_of n l)) where
+    pub resolves-missing : o ≡ None → Missing ≡ resolved_of kind r from size (matching r.backing (entries_of n l))
     unfolding resolved_of
-    resolves-missing p = rw (entry-missing n i r.backing l place p)
+    resolves-missing p = rw (entry-missing n r.backing l o place p)
 
-    module _ (p : i < n) (e : Entry) (row : RowRead (row_at 4 l i) e) (b : Bool) (is : b ≡ ltb e.size (r.offset + (from + size))) where
+    module _ (i : ℕ) (at : o ≡ Some i) (e : Entry) (row : RowRead (row_at 4 l i) e)
+        (b : Bool) (is : b ≡ ltb e.size (r.offset + (from + size))) where
       found_here : matching r.backing (entries_of n l) ≡ found e
-      found_here = entry_found n i r.backing l place p ∙ ap found (sym row.entry)
+      found_here = entry_found n r.backing l o place i at ∙ ap found (sym row.entry)
 
       pub resolves-past : b ≡ true → Past ≡ resolved_of kind r from size (matching r.backing (entries_of n l))
       unfolding resolved_of
@@ -87,7 +89,7 @@ module _ (kind : ℕ) (r : Resource) (from size : ℕ) where
       pub range-fits : b ≡ false → e.gpa + (r.offset + from) < 2 ^ 64
       range-fits t = omega (arith, row.ends, ltb-false e.size (r.offset + (from + size)) (sym is ∙ t))
 
-pub ruleset resolving = (resolves-missing, resolves-past, resolves-inside, start_fits, range-fits, rules)
+pub ruleset resolving = (entry-exists, resolves-missing, resolves-past, resolves-inside, start_fits, range-fits, rules)
 
 -- ---- hand_out
 

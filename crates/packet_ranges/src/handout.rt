@@ -47,10 +47,9 @@ pub fn resolve(
     requires { kept ≤ most }
     ensures { result ≡ resolved_of kind r from size (matching r.backing (entries_of kept entries.now)) }
 {
-    let i = find_entry(entries, kept, r.backing);
-    if i >= kept {
+    let Some(i) = find_entry(entries, kept, r.backing) else {
         return Resolved::Missing;
-    }
+    };
     let e = entry_row(entries, i);
     let offset = r.offset as u64;
     if beyond_entry(offset, from, size, e.size) {

@@ -1,27 +1,28 @@
 -- What an import packet comes to, whatever records are held. Assumes nothing.
-use Rattle.std.specs.Prelude.{◌≡◌, refl, Bool, true, false, ◌||◌, List, ℕ, ◌+◌, ◌≤◌, ◌<◌, eqb, ltb}
+use Rattle.std.specs.Prelude.{◌≡◌, refl, Option, Some, None, is_some, Bool, true, false, ◌||◌, List, ℕ, ◌+◌, ◌≤◌, ◌<◌, eqb}
 use Rattle.std.proofs.Math.Path.{sym, ap}
-use Rattle.std.proofs.Common.{◌∙◌, ⊎_elim, arith, rules}
+use Rattle.std.proofs.Common.{◌∙◌, arith, rules}
 use borrow.Author.Tests.{eq-eqb, ne_eqb, le-leb, lt-leb, lt-ltb, le-ltb}
 use Rattle.rules.specs.Numbers.{most, most_tokens}
-use Rattle.rules.specs.Lists.{index_of, lookup, pushed}
+use Rattle.rules.specs.Lists.{lookup, pushed}
 use Rattle.rules.specs.Lists.Found.{found}
-use Rattle.rules.specs.Names.{token_of, lower, under, rename, rebind, names_with}
+use Rattle.rules.specs.Names.{lower, under, rename, rebind, names_with}
 use Rattle.rules.specs.Packets.{handle_of, is_live, refused, bound, on_import_packet, tokens_after}
 use Rattle.rules.specs.declared.ImportSurface.{ImportSurface}
 use Rattle.rules.specs.declared.Packet.TheVariants.{Import}
 use Rattle.rules.specs.declared.Resource.{Resource}
 use Rattle.rules.specs.declared.Refusal.TheVariants.{BadHandle, TooMany, UnboundToken}
-use Rattle.words.specs.Over.{below_or_not}
 use Rattle.rows.specs.Rows.{row_at, length-table}
+use Rattle.rows.specs.Keys.{place_of}
 use Rattle.kept_resources.specs.Views.{resource_of_row, resources_of, holdings_of}
-use Rattle.kept_resources.specs.Resources.{resource-found, resource-missing}
+use Rattle.kept_resources.specs.Resources.{resource-known}
 use Rattle.kept_names.specs.Naming.{rename-same}
 use Rattle.kept_tokens.specs.Views.{tokens_of}
 use Rattle.packet_ranges.specs.Views.{Applies, refused_with, renamed_nothing, rebind-same}
 use Rattle.packet_ranges.specs.Handout.{accepted_with}
 use Rattle.packet_ranges.specs.declared.applied.Renamed.{Renamed}
-use Rattle.packet_share.specs.Bound.{BoundAt}
+use Rattle.packet_share.specs.Bound.{BindsToken, bound-exists}
+use Rattle.packet_share.specs.declared.bound.Bound.{Bound}
 use Rattle.rules.specs.declared.Refusal.{Refusal}
 
 -- ---- is_taken
@@ -34,12 +35,8 @@ module _ (live k : ℕ) (l : List ℕ) where
   pub zero-taken : k ≡ 0 → true ≡ taken_in k (resources_of live l)
   zero-taken p = rw (eq-eqb _ _ p)
 
-  pub live-taken : (j : ℕ) → (k ≡ 0 → ⊥) → j ≡ index_of handle_of k (resources_of live l) → ltb j live ≡ taken_in k (resources_of live l)
-  live-taken j p at =
-      ⊎_elim
-      (λ h. rw (ne_eqb _ _ p, lt-ltb _ _ h, resource-found live j k l at h))
-      (λ h. rw (ne_eqb _ _ p, le-ltb _ _ h, resource-missing live j k l at h))
-      (below_or_not j live)
+  pub live-taken : (o : Option ℕ) (b : Bool) → (k ≡ 0 → ⊥) → o ≡ place_of handle_of k (resources_of live l) → b ≡ is_some o → b ≡ taken_in k (resources_of live l)
+  live-taken o b p at known = rw (known, ne_eqb _ _ p, resource-known live k l o at)
 
 pub ruleset taking = (zero-taken, live-taken, rules)
 
@@ -98,21 +95,21 @@ module _ (c : ImportSurface) (live made used : ℕ) (l t : List ℕ) (room : ((l
     unfolding on_import_packet
     imports-taken x q e = refusal-imports BadHandle x e (λ records. rw (← is, q))
 
-    module _ (q : b ≡ false) (i r : ℕ) (place : i ≡ index_of token_of c.token (tokens_of used t)) (at : BoundAt live l used t i r) where
-      pub imports-unbound : (x : Renamed) → live ≤ r → x ≡ renamed_nothing (refused_with UnboundToken live made) → Imports c live made used l t x l
+    module _ (q : b ≡ false) (o : Option Bound) (at : BindsToken live l used t c.token o) where
+      pub imports-unbound : (x : Renamed) → o ≡ None → x ≡ renamed_nothing (refused_with UnboundToken live made) → Imports c live made used l t x l
       unfolding on_import_packet
-      imports-unbound x h e = refusal-imports UnboundToken x e (λ records. rw (← is, q, at.missing c.token place h))
+      imports-unbound x h e = refusal-imports UnboundToken x e (λ records. rw (← is, q, at.missing h))
 
-      module _ (h : r < live) where
+      module _ (y : Bound) (h : o ≡ Some y) where
         pub imports-too-many : (x : Renamed) → most ≤ live → x ≡ renamed_nothing (refused_with TooMany live made) → Imports c live made used l t x l
         unfolding on_import_packet
         imports-too-many x s e =
-            refusal-imports TooMany x e (λ records. rw (← is, q, at.here c.token place h, length-table resource_of_row 12 live l, le-leb _ _ s))
+            refusal-imports TooMany x e (λ records. rw (← is, q, at.here y h, length-table resource_of_row 12 live l, le-leb _ _ s))
 
-        pub imports-one : live < most → (o : Resource) → o ≡ resource_of_row (row_at 12 l r) → (x : Renamed) (m : List ℕ) → AddsName live made c.handle o l x m → Imports c live made used l t x m
+        pub imports-one : live < most → (s' : Resource) → s' ≡ resource_of_row (row_at 12 l y.row) → (x : Renamed) (m : List ℕ) → AddsName live made c.handle s' l x m → Imports c live made used l t x m
         unfolding on_import_packet tokens_after
-        imports-one s o row x m named =
-            let of : bound c.token (tokens_of used t) (resources_of live l) ≡ found o = at.here c.token place h ∙ ap found (sym row) in
+        imports-one s s' row x m named =
+            let of : bound c.token (tokens_of used t) (resources_of live l) ≡ found s' = at.here y h ∙ ap found (sym row) in
             record {
               applies = λ records.
                   rw named.applied
@@ -120,4 +117,4 @@ module _ (c : ImportSurface) (live made used : ℕ) (l t : List ℕ) (room : ((l
               rebinds = λ records. rw (named.applied, named.old, named.new, of);
             }
 
-pub ruleset importing = (imports-taken, imports-unbound, imports-too-many, imports-one, rules)
+pub ruleset importing = (bound-exists, imports-taken, imports-unbound, imports-too-many, imports-one, rules)

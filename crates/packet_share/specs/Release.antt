@@ -1,5 +1,5 @@
 -- What a release packet comes to, whatever records are held. Assumes nothing.
-use Rattle.std.specs.Prelude.{◌≡◌, List, [], ◌∷◌, ℕ, ◌≤◌, ◌<◌, Err, Ok}
+use Rattle.std.specs.Prelude.{◌≡◌, refl, Option, Some, None, List, [], ◌∷◌, ℕ, ◌≤◌, ◌<◌, Err, Ok}
 use Rattle.std.proofs.Common.{ap, arith, rules}
 use Rattle.rules.specs.Numbers.{most, most_tokens}
 use Rattle.rules.specs.Lists.{index_of, over}
@@ -7,13 +7,15 @@ use Rattle.rules.specs.Names.{token_of}
 use Rattle.rules.specs.Packets.{if-fine, on_release_packet, tokens_after}
 use Rattle.rules.specs.declared.Packet.TheVariants.{Release}
 use Rattle.rules.specs.declared.ReleaseToken.{ReleaseToken}
+use Rattle.rows.specs.Keys.{place_of, place-some}
 use Rattle.kept_resources.specs.Views.{holdings_of}
 use Rattle.kept_tokens.specs.Views.{tokens_of, spent_at}
-use Rattle.kept_tokens.specs.Tokens.{token-at}
+use Rattle.kept_tokens.specs.Tokens.{token-place, token-at}
 use Rattle.packet_ranges.specs.Views.{Applies, refused_with}
 use Rattle.packet_ranges.specs.Handout.{accepted_with}
 use Rattle.packet_ranges.specs.declared.applied.Applied.{Applied}
-use Rattle.packet_share.specs.Bound.{BoundAt}
+use Rattle.packet_share.specs.Bound.{BindsToken}
+use Rattle.packet_share.specs.declared.bound.Bound.{Bound}
 use Rattle.packet_share.specs.declared.release.Released.{Released}
 use Rattle.rules.specs.Judging.{Verdict}
 use Rattle.rules.specs.declared.Refusal.TheVariants.{UnboundToken}
@@ -33,23 +35,25 @@ released-place c live made used l t x r e = r.place e
 broken-not-fine : (x : Verdict) (y : _) → x ≡ Err y → x ≡ Ok tt → ⊥
 broken-not-fine x y e f = let z : ◌≡◌ {A = ℕ} 0 1 = cc in omega arith
 
-module _ (c : ReleaseToken) (live made used i r : ℕ) (l t : List ℕ) (room : ((live ≤ most) × (made ≤ most)) × (used ≤ most_tokens)) (place : i ≡ index_of token_of c.token (tokens_of used t)) (at : BoundAt live l used t i r) where
-  pub releases-nothing : (a : Applied) → live ≤ r → a ≡ refused_with UnboundToken live made → Releases c live made used l t (record { applied = a; place = 0 })
+module _ (c : ReleaseToken) (live made used : ℕ) (l t : List ℕ) (room : ((live ≤ most) × (made ≤ most)) × (used ≤ most_tokens)) (o : Option Bound) (at : BindsToken live l used t c.token o) where
+  pub releases-nothing : (a : Applied) → o ≡ None → a ≡ refused_with UnboundToken live made → Releases c live made used l t (record { applied = a; place = 0 })
   unfolding on_release_packet tokens_after
   releases-nothing a p e =
       record {
-        applies = λ records. rw e (record { outcome = rw (at.missing c.token place p); live = room.0.0; made = room.0.1 });
+        applies = λ records. rw e (record { outcome = rw (at.missing p); live = room.0.0; made = room.0.1 });
         place = λ f. absurd (broken-not-fine a.verdict _ (ap (λ b. b.verdict) e) f);
         spends = λ records. rw e;
       }
 
-  pub releases-one : r < live → Releases c live made used l t (record { applied = accepted_with live made; place = i })
+  pub releases-one : (y : Bound) → o ≡ Some y → Releases c live made used l t (record { applied = accepted_with live made; place = y.place })
   unfolding on_release_packet tokens_after
-  releases-one p =
+  releases-one y p =
+      let place : Some y.place ≡ place_of token_of c.token (tokens_of used t) = (at.known y p).0 in
+      let first : y.place ≡ index_of token_of c.token (tokens_of used t) = (place-some token_of c.token y.place (tokens_of used t) place).0 in
       record {
-        applies = λ records. record { outcome = rw (at.here c.token place p); live = room.0.0; made = room.0.1 };
-        place = λ f. at.known p;
-        spends = λ records. rw (token-at used i c.token t place (at.known p), ← place);
+        applies = λ records. record { outcome = rw (at.here y p); live = room.0.0; made = room.0.1 };
+        place = λ f. token-place used c.token t (Some y.place) place y.place refl;
+        spends = λ records. rw (token-at used c.token t (Some y.place) place y.place refl, ← first);
       }
 
 pub ruleset releasing = (releases-nothing, releases-one, rules)

@@ -4,12 +4,11 @@ ghost use Rattle.rules.specs.Numbers.{most, most_tokens};
 ghost use Rattle.kept_resources.specs.Views.{resources_of};
 ghost use Rattle.packet_share.specs.Import.{taken_in, AddsName, Imports};
 
-use crate::bound::bound_row;
+use crate::bound::find_bound;
 use kept_names::naming::rename;
 use kept_resources::resources::{Resources, find_resource, resource_row};
 use kept_storing::push_resource;
 use kept_tokens::Tokens;
-use kept_tokens::finding::find_token;
 use packet_ranges::applied::{Applied, Renamed, refuse_renaming};
 use rules::numbers::MOST_ROWS;
 use rules::{ImportSurface, Refusal, Resource};
@@ -22,7 +21,7 @@ fn is_taken(resources: &Resources, live: usize, handle: u32) -> bool
     if handle == 0 {
         return true;
     }
-    find_resource(resources, live, handle) < live
+    find_resource(resources, live, handle).is_some()
 }
 
 // A resource by one name more. If that is the lowest, all its names follow.
@@ -30,17 +29,7 @@ fn add_name(own: &mut Resources, live: usize, made: usize, handle: u32, r: Resou
     requires { (live < most) × (made ≤ most) }
     ensures { AddsName live made handle r own.old result own.new }
 {
-    let kind = r.kind;
-    let named = Resource {
-        handle,
-        kind,
-        bytes: r.bytes,
-        pitch: r.pitch,
-        backing: r.backing,
-        offset: r.offset,
-        lowest: r.lowest,
-    };
-    push_resource(own, live, named);
+    push_resource(own, live, Resource { handle, ..r });
     let applied = Applied {
         verdict: Ok(()),
         live: live + 1,
@@ -77,14 +66,12 @@ pub fn on_import(
     if is_taken(own, live, c.handle) {
         return refuse_renaming(Refusal::BadHandle, live, made);
     }
-    let place = find_token(tokens, used, c.token);
-    let i = bound_row(own, live, tokens, used, place);
-    if i >= live {
+    let Some(bound) = find_bound(own, live, tokens, used, c.token) else {
         return refuse_renaming(Refusal::UnboundToken, live, made);
-    }
+    };
     if live >= MOST_ROWS {
         return refuse_renaming(Refusal::TooMany, live, made);
     }
-    let r = resource_row(own, i);
+    let r = resource_row(own, bound.row);
     add_name(own, live, made, c.handle, r)
 }

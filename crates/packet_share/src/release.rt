@@ -3,10 +3,9 @@ ghost use Rattle.std.specs.Prelude.{◌≤◌};
 ghost use Rattle.rules.specs.Numbers.{most, most_tokens};
 ghost use Rattle.packet_share.specs.Release.{Releases};
 
-use crate::bound::bound_row;
+use crate::bound::find_bound;
 use kept_resources::resources::Resources;
 use kept_tokens::Tokens;
-use kept_tokens::finding::find_token;
 use packet_ranges::applied::{Applied, refuse};
 use rules::{Refusal, ReleaseToken};
 
@@ -29,16 +28,17 @@ pub fn on_release(
     requires { ((live ≤ most) × (made ≤ most)) × (used ≤ most_tokens) }
     ensures { Releases c live made used resources.now tokens.now result }
 {
-    let place = find_token(tokens, used, c.token);
-    let i = bound_row(resources, live, tokens, used, place);
-    if i >= live {
+    let Some(bound) = find_bound(resources, live, tokens, used, c.token) else {
         let applied = refuse(Refusal::UnboundToken, live, made);
         return Released { applied, place: 0 };
-    }
+    };
     let applied = Applied {
         verdict: Ok(()),
         live,
         made,
     };
-    Released { applied, place }
+    Released {
+        applied,
+        place: bound.place,
+    }
 }

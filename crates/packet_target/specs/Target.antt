@@ -1,5 +1,5 @@
 -- What a target and a scissor come to, a law for each end. Assumes nothing.
-use Rattle.std.specs.Prelude.{◌≡◌, refl, Bool, true, false, List, [], ℕ, ◌+◌, ◌^◌, ◌≤◌, ◌<◌, ℤ, nat_abs, None, Option, Some}
+use Rattle.std.specs.Prelude.{◌≡◌, refl, Option, Some, None, Bool, true, false, List, [], ℕ, ◌+◌, ◌^◌, ◌≤◌, ◌<◌, ℤ, nat_abs}
 use Rattle.std.proofs.Common.{sym, ◌∙◌, rules, to_z, of_z}
 use Rattle.std.proofs.Math.Path.{ap}
 use native.Mathlib.Omega.{arith}
@@ -8,7 +8,7 @@ use Rattle.std.specs.Int.{w32}
 use Rattle.std.specs.Int.Signed.{mag}
 use Rattle.std.proofs.lemmas.Int.{to_z-of_z}
 use Rattle.rules.specs.Numbers.{most, clips}
-use Rattle.rules.specs.Lists.{Found, index_of, lookup, pushed}
+use Rattle.rules.specs.Lists.{Found, lookup, pushed}
 use Rattle.rules.specs.Lists.Found.{none, found}
 use Rattle.rules.specs.StatePackets.{negative, bad_sides, begins, common, rectangle, clip_of}
 use Rattle.rules.specs.Packets.{Holdings, Outcome, refuse, accepted, full, recorded, handle_of, live_texture, on_target_packet, on_scissor_packet}
@@ -20,8 +20,9 @@ use Rattle.rules.specs.declared.SetTarget.{SetTarget}
 use Rattle.rules.specs.declared.SetScissor.{SetScissor}
 use Rattle.rules.specs.declared.Refusal.TheVariants.{BadHandle, TooMany, BadState}
 use Rattle.rows.specs.Rows.{row_at, length-table}
+use Rattle.rows.specs.Keys.{place_of}
 use Rattle.kept_resources.specs.Views.{record_of, records_of, resource_of_row, resources_of, holdings_of}
-use Rattle.kept_resources.specs.Resources.{resource-found, resource-missing}
+use Rattle.kept_resources.specs.Resources.{resource-place, resource-exists, resource-found, resource-missing}
 use Rattle.packet_ranges.specs.Views.{Applies, refused_with}
 use Rattle.packet_ranges.specs.Handout.{HandsOut, accepted_with}
 use Rattle.packet_ranges.specs.declared.applied.Applied.{Applied}
@@ -38,14 +39,14 @@ module _ (live k : ℕ) (l : List ℕ) where
   unfolding live_texture
   aims-at-zero e = rw (eq-eqb _ _ e)
 
-  module _ (n : k ≡ 0 → ⊥) (i : ℕ) (place : i ≡ index_of handle_of k (resources_of live l)) where
-    pub aims-at-nothing : live ≤ i → None ≡ aimed_of (live_texture k (holdings_of live l 0 []))
+  module _ (n : k ≡ 0 → ⊥) (o : Option ℕ) (place : o ≡ place_of handle_of k (resources_of live l)) where
+    pub aims-at-nothing : o ≡ None → None ≡ aimed_of (live_texture k (holdings_of live l 0 []))
     unfolding live_texture
-    aims-at-nothing p = rw (ne_eqb _ _ n, resource-missing live i k l place p)
+    aims-at-nothing p = rw (ne_eqb _ _ n, resource-missing live k l o place p)
 
-    module _ (p : i < live) (r : Resource) (row : r ≡ resource_of_row (row_at 12 l i)) where
+    module _ (i : ℕ) (at : o ≡ Some i) (r : Resource) (row : r ≡ resource_of_row (row_at 12 l i)) where
       here : lookup handle_of k (resources_of live l) ≡ found r
-      here = resource-found live i k l place p ∙ ap found (sym row)
+      here = resource-found live k l o place i at ∙ ap found (sym row)
 
       pub aims-at-buffer : r.kind ≡ Buffer → None ≡ aimed_of (live_texture k (holdings_of live l 0 []))
       unfolding live_texture
@@ -55,7 +56,7 @@ module _ (live k : ℕ) (l : List ℕ) where
       unfolding live_texture
       aims-at-texture s e = rw (ne_eqb _ _ n, here, e)
 
-pub ruleset aiming = (aims-at-zero, aims-at-nothing, aims-at-buffer, aims-at-texture, rules)
+pub ruleset aiming = (resource-exists, aims-at-zero, aims-at-nothing, aims-at-buffer, aims-at-texture, rules)
 
 aimed-none : (f : Found Shape) → aimed_of f ≡ None → f ≡ none
 aimed-none none e = refl

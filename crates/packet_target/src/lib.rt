@@ -26,13 +26,10 @@ fn live_texture(resources: &Resources, live: usize, handle: u32) -> Option<Shape
     if handle == 0 {
         return None;
     }
-    let place = find_resource(resources, live, handle);
-    if place >= live {
+    let Some(place) = find_resource(resources, live, handle) else {
         return None;
-    }
-    let r = resource_row(resources, place);
-    let kind = r.kind;
-    match kind {
+    };
+    match resource_row(resources, place).kind {
         Kind::Buffer => None,
         Kind::Texture(shape) => Some(shape),
     }

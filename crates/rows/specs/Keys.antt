@@ -1,6 +1,6 @@
 -- Lists whose members have a key: where a key is found, and what a removal leaves found. With the laws of tables that
 -- speak of keys. Assumes nothing.
-use Rattle.std.specs.Prelude.{◌≡◌, Bool, true, false, ◌⊎◌, eqb, length, drop}
+use Rattle.std.specs.Prelude.{◌≡◌, Bool, true, false, ◌⊎◌, Option, Some, None, is_some, eqb, ltb, length, drop}
 use Rattle.std.proofs.Math.Path.{refl}
 use Rattle.std.proofs.Common.{sym, ap, ◌∙◌, inl, inr, add-zero, eq-eqb, ne_eqb, eqb-true, length-append, length-drop, get_or-drop}
 use mathlib.Core.List.{List, [], ◌∷◌, ◌++◌}
@@ -8,6 +8,8 @@ use Rattle.std.proofs.Math.Logic.{⊎_elim}
 use Prim.Native.Nat.{ℕ, zero, suc, ◌+◌, ◌*◌, ◌-◌, ◌≤◌, ◌<◌}
 use native.Mathlib.Omega.{arith}
 use Rattle.std.proofs.lemmas.Bool.{eqb-false}
+use borrow.Author.Tests.{lt-ltb, le-ltb}
+use Rattle.machine.specs.Machine.{pick}
 use Rattle.std.proofs.Math.ListN.{get_or, get_or-append}
 use Rattle.std.proofs.Math.Seq.{length-take-le, get_or-take, get_or-append_seam}
 use Rattle.rules.specs.Lists.{over, pushed, removed, lookup, index_of, found, none}
@@ -119,6 +121,49 @@ module _ {A : Type 0} (key : A → ℕ) (k : ℕ) where
       let q : lookup key k xs ≡ found (get_or xs (index_of key k xs) d) = lookup-at xs d (omega (arith, index-least xs d j p)) in
       let z : ◌≡◌ {A = ℕ} 0 1 = cc in
       omega arith
+
+-- ---- the place of the first that has a key, if one has it
+
+-- a place, if it is before the end
+unfoldable pub before : ℕ → ℕ → Option ℕ
+before end place = pick (ltb place end) (Some place) None
+
+pub before-end : (end place : ℕ) → place < end → before end place ≡ Some place
+unfolding before
+before-end end place h = rw (lt-ltb _ _ h)
+
+pub past-end : (end place : ℕ) → end ≤ place → before end place ≡ None
+unfolding before
+past-end end place h = rw (le-ltb _ _ h)
+
+module _ {A : Type 0} (key : A → ℕ) (k : ℕ) where
+  unfoldable pub place_of : List A → Option ℕ
+  place_of xs = before (length xs) (index_of key k xs)
+
+  pub place-some : (i : ℕ) (xs : List A) → Some i ≡ place_of xs → (i ≡ index_of key k xs) × (i < length xs)
+  unfolding place_of
+  place-some i xs e =
+      ⊎_elim
+      (λ h. let s : Some i ≡ Some (index_of key k xs) = e ∙ before-end (length xs) (index_of key k xs) h in let z : i ≡ index_of key k xs = cc in (z, omega arith))
+      (λ h. let s : Some i ≡ None = e ∙ past-end (length xs) (index_of key k xs) h in let z : ◌≡◌ {A = ℕ} 0 1 = cc in absurd (omega arith))
+      (below_or_not (index_of key k xs) (length xs))
+
+  pub place_none : (xs : List A) → None ≡ place_of xs → length xs ≤ index_of key k xs
+  unfolding place_of
+  place_none xs e =
+      ⊎_elim
+      (λ h. let s : None ≡ Some (index_of key k xs) = e ∙ before-end (length xs) (index_of key k xs) h in let z : ◌≡◌ {A = ℕ} 0 1 = cc in absurd (omega arith))
+      (λ h. h)
+      (below_or_not (index_of key k xs) (length xs))
+
+  -- whether one has it
+  pub place-known : (xs : List A) → is_some (place_of xs) ≡ ltb (index_of key k xs) (length xs)
+  unfolding place_of before
+  place-known xs = by_test (ltb (index_of key k xs) (length xs))
+    where
+      by_test : (t : Bool) → is_some (pick t (Some (index_of key k xs)) None) ≡ t
+      by_test true = refl
+      by_test false = refl
 
 -- ---- a member removed
 
@@ -279,17 +324,39 @@ module _ {A : Type 0} (key : A → ℕ) where
 
 -- ---- keys of tables
 
-module _ {E : Type 0} (f : List ℕ → E) (key : E → ℕ) (k : ℕ) (same : (r : List ℕ) → key (f r) ≡ first_word r) (row : ℕ → List ℕ) where
-  find-tab : (i n : ℕ) → index_of key k (tab (λ i. f (row i)) i n) ≡ index_of first_word k (tab row i n)
+module _ {E : Type 0} (f : List ℕ → E) (key : E → ℕ) (k : ℕ) (word : List ℕ → ℕ) (same : (r : List ℕ) → key (f r) ≡ word r) (row : ℕ → List ℕ) where
+  find-tab : (i n : ℕ) → index_of key k (tab (λ i. f (row i)) i n) ≡ index_of word k (tab row i n)
   unfolding tab index_of
   find-tab i zero = refl
   find-tab i (suc n) = rw (same (row i), find-tab (suc i) n)
 
 module _ {E : Type 0} (f : List ℕ → E) (w : ℕ) (key : E → ℕ) (k : ℕ) where
-  -- members that are read from rows are found where the rows' first words are
-  pub find-table : ((r : List ℕ) → key (f r) ≡ first_word r) → (n : ℕ) (l : List ℕ) → index_of key k (table f w n l) ≡ index_of first_word k (table (λ r. r) w n l)
+  -- members that are read from rows are found where the rows are that have the word for their key
+  pub find-table-by : (word : List ℕ → ℕ) → ((r : List ℕ) → key (f r) ≡ word r) → (n : ℕ) (l : List ℕ) → index_of key k (table f w n l) ≡ index_of word k (table (λ r. r) w n l)
   unfolding table
-  find-table same n l = find-tab f key k same (λ i. row_at w l i) 0 n
+  find-table-by word same n l = find-tab f key k word same (λ i. row_at w l i) 0 n
+
+  -- and so by the rows' first words
+  pub find-table : ((r : List ℕ) → key (f r) ≡ first_word r) → (n : ℕ) (l : List ℕ) → index_of key k (table f w n l) ≡ index_of first_word k (table (λ r. r) w n l)
+  find-table same n l = find-table-by first_word same n l
+
+  pub place-table : (word : List ℕ → ℕ) → ((r : List ℕ) → key (f r) ≡ word r) → (n : ℕ) (l : List ℕ) → place_of key k (table f w n l) ≡ place_of word k (table (λ r. r) w n l)
+  unfolding place_of
+  place-table word same n l = rw (find-table-by word same n l, length-table f w n l, length-table (λ r. r) w n l)
+
+  module _ (n : ℕ) (l : List ℕ) where
+    -- where rows have a place for the key, it is one of them, and what is read there is found
+    pub place_row : (i : ℕ) → Some i ≡ place_of key k (table f w n l) → i < n
+    place_row i e = omega (arith, (place-some key k i (table f w n l) e).1, length-table f w n l)
+
+    pub place-found : (i : ℕ) → Some i ≡ place_of key k (table f w n l) → lookup key k (table f w n l) ≡ found (f (row_at w l i))
+    place-found i e =
+        lookup-found key k (table f w n l) i (f (row_at w l i)) (f (row_at w l i)) (place-some key k i (table f w n l) e).0 (place-some key k i (table f w n l) e).1
+        (sym (get_or-table f w n l i (f (row_at w l i)) (place_row i e)))
+
+    -- and where they have none, nothing is
+    pub place-missing : None ≡ place_of key k (table f w n l) → lookup key k (table f w n l) ≡ none
+    place-missing e = lookup-none key k (table f w n l) (omega (arith, place_none key k (table f w n l) e, index-bound key k (table f w n l)))
 
   -- the row at the index is the one found
   pub lookup-row : (n i : ℕ) (l : List ℕ) → i ≡ index_of key k (table f w n l) → i < n → lookup key k (table f w n l) ≡ found (f (row_at w l i))
@@ -303,15 +370,15 @@ module _ {E : Type 0} (f : List ℕ → E) (w : ℕ) (key : E → ℕ) (k : ℕ)
 
   -- the same of what `find_row` says, and of what `move_row` then makes of the rows
   module _ (same : (r : List ℕ) → key (f r) ≡ first_word r) (n i : ℕ) (l : List ℕ) (at : i ≡ index_of first_word k (table (λ r. r) w n l)) where
-    place_of : i ≡ index_of key k (table f w n l)
-    place_of = at ∙ sym (find-table same n l)
+    index_here : i ≡ index_of key k (table f w n l)
+    index_here = at ∙ sym (find-table same n l)
 
     pub row-found : i < n → lookup key k (table f w n l) ≡ found (f (row_at w l i))
-    row-found h = lookup-row n i l place_of h
+    row-found h = lookup-row n i l index_here h
 
     pub row-missing : n ≤ i → lookup key k (table f w n l) ≡ none
-    row-missing h = lookup-no-row n i l place_of h
+    row-missing h = lookup-no-row n i l index_here h
 
     pub row-removed : (m : List ℕ) → w * n ≤ length l → i < n → m ≡ over (w * i) (row_at w l (n - 1)) l
         → table f w (n - 1) m ≡ removed (index_of key k (table f w n l)) (table f w n l)
-    row-removed m room h e = rw (e, ← place_of) (table-remove f w n i l room h)
+    row-removed m room h e = rw (e, ← index_here) (table-remove f w n i l room h)

@@ -1,37 +1,38 @@
--- The scan for a row's first word: what its code asks. Assumes nothing.
-use Rattle.std.specs.Prelude.{◌≡◌, List, ℕ, ◌+◌, ◌*◌, ◌-◌, ◌≤◌, ◌<◌, ◌%◌, ◌^◌, length, get_or}
-use Rattle.std.proofs.Common.{sym, ◌∙◌, add-zero, le_refl, mul-le-mul, mul-le-mul_left, arith}
-use Rattle.rows.specs.Rows.{row_at, first_word, row_field}
-use Rattle.rows_finding.specs.Among.{Among, eight-left, one-here, one_later, joining, scanning_by_eight}
+-- The scan for a row's key: what its code asks. Assumes nothing.
+use Rattle.std.specs.Prelude.{◌≡◌, Some, None, Bool, true, false, eqb, List, ℕ, ◌+◌, ◌*◌, ◌-◌, ◌≤◌, ◌<◌, ◌%◌, length, get_or}
+use Rattle.std.proofs.Common.{sym, ◌∙◌, eqb-true, le_refl, mul-le-mul, mul-le-mul_left, arith}
+use Rattle.std.proofs.lemmas.Bool.{eqb-false}
+use Rattle.rows.specs.Rows.{row_at, row_field}
+use Rattle.rows_finding.specs.Among.{key_in, Among, eight-left, one-here, one_later, joining, scanning_by_eight}
 
 -- ---- of_one
 
-module _ (k w : ℕ) (l : List ℕ) (i : ℕ) (wide : 0 < w) (v : ℕ) (u : v ≡ get_or l (w * i) 0 % 2 ^ 32) where
-  first : first_word (row_at w l i) ≡ v
-  first = rw (row_field w l i 0 wide, add-zero) (sym u)
+module _ (word : ℕ) (reading : ℕ → ℕ) (k w : ℕ) (l : List ℕ) (i : ℕ) (wide : word < w) (b : Bool) (is : b ≡ eqb (reading (get_or l (w * i + word) 0)) k) where
+  read : key_in word reading (row_at w l i) ≡ reading (get_or l (w * i + word) 0)
+  read = rw (row_field w l i word wide)
 
-  pub first-here : v ≡ k → Among (λ r. r) first_word k w l i 1 0
-  first-here q = one-here (λ r. r) first_word k w l i (first ∙ q)
+  pub found-here : b ≡ true → Among (λ r. r) (key_in word reading) k w l i 1 (Some i)
+  found-here p = one-here (λ r. r) (key_in word reading) k w l i (read ∙ eqb-true _ _ (sym is ∙ p))
 
-  pub first-later : (v ≡ k → ⊥) → Among (λ r. r) first_word k w l i 1 1
-  first-later q = one_later (λ r. r) first_word k w l i (λ p. q (sym first ∙ p))
+  pub not_here : b ≡ false → Among (λ r. r) (key_in word reading) k w l i 1 None
+  not_here p = one_later (λ r. r) (key_in word reading) k w l i (λ q. eqb-false _ _ (sym is ∙ p) (sym read ∙ q))
 
-pub ruleset finding = (first-here, first-later, joining)
+pub ruleset finding = (found-here, not_here, joining)
 
 -- ---- of_two, of_four, of_eight
 
 -- a row's index is no larger than its place in words
-pub index-fits : (w i m : ℕ) (l : List ℕ) → (0 < w) × (w * (i + m) ≤ length l) → i + m ≤ length l
-index-fits w i m l pre = omega (arith, pre.1, mul-le-mul pre.0 (le_refl (i + m)))
+pub index-fits : (v w i m : ℕ) (l : List ℕ) → (v < w) × (w * (i + m) ≤ length l) → i + m ≤ length l
+index-fits v w i m l pre = let wide : 0 < w = omega arith in omega (arith, pre.1, mul-le-mul wide (le_refl (i + m)))
 
 -- ---- by_eight, find_row
 
 -- the next rows are within the list
-module _ (w i n : ℕ) (l : List ℕ) (pre : (0 < w) × (w * n ≤ length l)) where
+module _ (v w i n : ℕ) (l : List ℕ) (pre : (v < w) × (w * n ≤ length l)) where
   room : (m : ℕ) → i + m ≤ n → w * (i + m) ≤ length l
   room m h = omega (arith, pre.1, mul-le-mul_left w h)
 
-  pub eight-room : i ≤ n → (n - i) % 8 ≡ 0 → (i ≡ n → ⊥) → w * (i + 8) ≤ length l
+  pub eight-room : i ≤ n → (n - i) % 8 ≡ 0 → i < n → w * (i + 8) ≤ length l
   eight-room g e h = room 8 (eight-left i n (g, e) h)
 
   pub few-room : i < n % 8 → w * (i + 1) ≤ length l

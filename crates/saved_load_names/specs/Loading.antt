@@ -1,16 +1,16 @@
 -- What the loading of other names asks: each is of one of the resources before them, which stay as they are. Assumes nothing.
-use Rattle.std.specs.Prelude.{◌≡◌, List, [], ◌∷◌, ◌++◌, ◌⊎◌, ℕ, zero, suc, ◌+◌, ◌*◌, ◌≤◌, ◌<◌, length, take}
-use Rattle.std.proofs.Common.{sym, ap, ◌∙◌, append_assoc, append-nil, inl, inr, add-zero, suc-add, arith, rules, take_at}
+use Rattle.std.specs.Prelude.{◌≡◌, refl, Option, Some, None, IsSome, List, [], ◌∷◌, ◌++◌, ℕ, zero, suc, ◌+◌, ◌*◌, ◌≤◌, ◌<◌, length, take}
+use Rattle.std.proofs.Common.{sym, ap, ◌∙◌, append_assoc, append-nil, add-zero, suc-add, arith, rules, take_at}
 use Rattle.rules.specs.Numbers.{most}
 use Rattle.rules.specs.Lists.{index_of, lookup, pushed}
 use Rattle.rules.specs.Lists.Found.{none, found}
 use Rattle.rules.specs.Layouts.{word}
 use Rattle.rules.specs.Packets.{handle_of}
 use Rattle.rules.specs.declared.Resource.{Resource}
-use Rattle.words.specs.Over.{below_or_not}
 use Rattle.rows.specs.Rows.{row_at, table-take, length-table}
+use Rattle.rows.specs.Keys.{place_of}
 use Rattle.kept_resources.specs.Views.{resource_of_row, resources_of}
-use Rattle.kept_resources.specs.Resources.{resource-found, resource-missing}
+use Rattle.kept_resources.specs.Resources.{resource-exists, resource-found, resource-missing}
 use Rattle.rules.specs.Saved.{name_bytes}
 use Rattle.rules.specs.Loaded.{named, loaded_names}
 use Rattle.saved_fields.specs.Good.{IsFound}
@@ -21,28 +21,29 @@ NamesFound n rs b start = (i : ℕ) → i < n → IsFound (lookup handle_of (wor
 
 -- ---- name_at
 
-module _ (l b : List ℕ) (live at k i : ℕ) (e : k ≡ word b (at + 4)) (place : i ≡ index_of handle_of k (resources_of live l)) where
+module _ (l b : List ℕ) (live at k : ℕ) (e : k ≡ word b (at + 4)) (o : Option ℕ) (place : o ≡ place_of handle_of k (resources_of live l)) where
   -- the lowest name has a row
-  known-row : IsFound (lookup handle_of (word b (at + 4)) (resources_of live l)) → i < live
-  known-row known = by (below_or_not i live)
+  pub row-known : IsFound (lookup handle_of (word b (at + 4)) (resources_of live l)) → IsSome o
+  row-known known = by o place
     where
-      by : (i < live) ⊎ (live ≤ i) → i < live
-      by (inl h) = h
-      by (inr h) =
-          let gone : lookup handle_of (word b (at + 4)) (resources_of live l) ≡ none = rw (sym e) (resource-missing live i k l place h) in
+      by : (o' : Option ℕ) → o' ≡ place_of handle_of k (resources_of live l) → IsSome o'
+      by (Some i) p = refl
+      by None p =
+          let gone : lookup handle_of (word b (at + 4)) (resources_of live l) ≡ none = rw (sym e) (resource-missing live k l None p refl) in
           absurd (rw gone at known)
 
-  pub row-there : live ≤ most → IsFound (lookup handle_of (word b (at + 4)) (resources_of live l)) → i < most
-  row-there few known = omega (arith, known-row known)
+  module _ (i : ℕ) (here : o ≡ Some i) where
+    pub row-there : live ≤ most → i < most
+    row-there few = resource-exists live k l o place i here few
 
-  pub says-name : (n : ℕ) (r : Resource) → IsFound (lookup handle_of (word b (at + 4)) (resources_of live l)) → n ≡ word b at → r ≡ resource_of_row (row_at 12 l i)
-      → named (word b at) (lookup handle_of (word b (at + 4)) (resources_of live l))
-      ≡ record { handle = n; kind = r.kind; bytes = r.bytes; pitch = r.pitch; backing = r.backing; offset = r.offset; lowest = r.lowest } ∷ []
-  says-name n r known f g =
-      let it : lookup handle_of (word b (at + 4)) (resources_of live l) ≡ found (resource_of_row (row_at 12 l i)) = rw (sym e) (resource-found live i k l place (known-row known)) in
-      rw (it, f, g)
+    pub says-name : (n : ℕ) (r : Resource) → n ≡ word b at → r ≡ resource_of_row (row_at 12 l i)
+        → named (word b at) (lookup handle_of (word b (at + 4)) (resources_of live l))
+        ≡ record { handle = n; kind = r.kind; bytes = r.bytes; pitch = r.pitch; backing = r.backing; offset = r.offset; lowest = r.lowest } ∷ []
+    says-name n r f g =
+        let it : lookup handle_of (word b (at + 4)) (resources_of live l) ≡ found (resource_of_row (row_at 12 l i)) = rw (sym e) (resource-found live k l o place i here) in
+        rw (it, f, g)
 
-pub ruleset saying = (row-there, says-name, rules)
+pub ruleset saying = (row-known, row-there, says-name, rules)
 
 -- ---- load_names
 

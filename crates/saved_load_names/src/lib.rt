@@ -28,7 +28,7 @@ fn name_at(resources: &Resources, live: usize, file: &[u8], at: usize) -> Resour
     ensures { named (word file.now at) (lookup handle_of (word file.now (at + 4)) (resources_of live resources.now)) ≡ result ∷ [] }
 {
     let handle = u32_at(file, at);
-    let i = find_resource(resources, live, u32_at(file, at + 4));
+    let i = find_resource(resources, live, u32_at(file, at + 4)).unwrap();
     let r = resource_row(resources, i);
     Resource { handle, ..r }
 }

@@ -1,12 +1,12 @@
 -- One entry: what its reading, its judging and its keeping ask, and how a kept one is found again. Assumes nothing.
 use Rattle.std.proofs.Math.Path.{◌≡◌}
-use Rattle.std.specs.Prelude.{refl, Bool, not, ◌&&◌, List, [], ◌∷◌, ℕ, ◌+◌, ◌*◌, ◌-◌, ◌^◌, ◌≤◌, ◌<◌, ltb, leb, eqb, length, set, Err, Ok}
+use Rattle.std.specs.Prelude.{refl, Option, is_some, Bool, not, ◌&&◌, List, [], ◌∷◌, ℕ, ◌+◌, ◌*◌, ◌-◌, ◌^◌, ◌≤◌, ◌<◌, ltb, leb, eqb, length, set, Err, Ok}
 use Rattle.std.proofs.Common.{sym, ap, ◌∙◌, mod-eq_of_lt, arith, rules}
 use Rattle.std.proofs.Math.Bool.{true, false}
 use Rattle.std.proofs.Math.Numerals.{towards_suc}
 use borrow.Author.Tests.{lt-ltb, le-ltb, ltb-false, leb-true, eq-eqb, ne_eqb, not-true, not-false}
 use Rattle.rules.specs.Numbers.{most}
-use Rattle.rules.specs.Lists.{pushed, index_of}
+use Rattle.rules.specs.Lists.{pushed}
 use Rattle.rules.specs.Judging.{rule, ◌▹◌, Verdict}
 use Rattle.rules.specs.Layouts.{entry, entry_size, table_header_size}
 use Rattle.rules.specs.Table.{entry_id, matching, is_found, entry_rules, entry_place, take_entry, in_reach}
@@ -15,9 +15,10 @@ use Rattle.rules.specs.declared.Refusal.{Refusal}
 use Rattle.rules.specs.declared.Table.{Table}
 use Rattle.rules.specs.declared.Refusal.TheVariants.{BadEntry, TwiceInTable}
 use Rattle.rows.specs.Rows.{length-table, table-push-sets}
+use Rattle.rows.specs.Keys.{place_of}
 use Rattle.widths.specs.Beyond.{leb-ltb}
 use Rattle.kept_entries.specs.Views.{entry_of, entries_of, taken_of}
-use Rattle.kept_entries.specs.Rows.{entry_found, entry-missing}
+use Rattle.kept_entries.specs.Rows.{entry-known}
 
 -- ---- sound
 
@@ -72,15 +73,15 @@ module _ (memory n : ℕ) (l : List ℕ) (e : Entry) (good : Bool) (is : good �
   pub judged-unsound : not good ≡ true → Err BadEntry ≡ entry_rules memory (entries_of n l) e
   judged-unsound h = sym (unsound memory (entries_of n l) e (sym is ∙ not-true good h))
 
-  module _ (h : not good ≡ false) (i : ℕ) (place : i ≡ index_of entry_id e.id (entries_of n l)) where
-    once : entry_rules memory (entries_of n l) e ≡ rule TwiceInTable (is_found (matching e.id (entries_of n l)))
-    once = sound-once memory (entries_of n l) e (sym is ∙ not-false good h)
+  module _ (h : not good ≡ false) (r : Option ℕ) (place : r ≡ place_of entry_id e.id (entries_of n l)) (b : Bool) (known : b ≡ is_some r) where
+    once : entry_rules memory (entries_of n l) e ≡ rule TwiceInTable b
+    once = sound-once memory (entries_of n l) e (sym is ∙ not-false good h) ∙ rw (entry-known n e.id l r place, known)
 
-    pub judged-twice : i < n → Err TwiceInTable ≡ entry_rules memory (entries_of n l) e
-    judged-twice p = rw (once, entry_found n i e.id l place p)
+    pub judged-twice : b ≡ true → Err TwiceInTable ≡ entry_rules memory (entries_of n l) e
+    judged-twice p = rw (once, p)
 
-    pub judged-fine : n ≤ i → Ok tt ≡ entry_rules memory (entries_of n l) e
-    judged-fine p = rw (once, entry-missing n i e.id l place p)
+    pub judged-fine : b ≡ false → Ok tt ≡ entry_rules memory (entries_of n l) e
+    judged-fine p = rw (once, p)
 
 pub ruleset judging_entry = (judged-unsound, judged-twice, judged-fine, rules)
 

@@ -35,8 +35,7 @@ pub fn judge_entry(memory: u64, e: Entry, entries: &Entries, kept: usize) -> Res
     if !sound(memory, e) {
         return Err(Refusal::BadEntry);
     }
-    let place = find_entry(entries, kept, e.id);
-    if place < kept {
+    if find_entry(entries, kept, e.id).is_some() {
         return Err(Refusal::TwiceInTable);
     }
     Ok(())

@@ -5,8 +5,8 @@ use Rattle.packet_create_rules.proofs.create.Goals as goal
 pub returns-then-r-eq0 : goal.returns-then-r-eq0
 returns-then-r-eq0 c = search creating
 
-pub returns-then-place-live : goal.returns-then-place-live
-returns-then-place-live c = search creating
+pub returns-then-is_some : goal.returns-then-is_some
+returns-then-is_some c = search creating
 
 pub returns-then-not-good : goal.returns-then-not-good
 returns-then-not-good c = search creating

@@ -2,8 +2,8 @@
 use Rattle.rows_finding.specs.Finding.{finding}
 use Rattle.rows_finding.proofs.of_one.Goals as goal
 
-pub returns-then-low32-key : goal.returns-then-low32-key
-returns-then-low32-key c = search finding
+pub returns-then-is_at : goal.returns-then-is_at
+returns-then-is_at g c = search finding
 
 pub returns : goal.returns
-returns c = search finding
+returns g c = search finding

@@ -2,8 +2,8 @@
 use Rattle.packet_dirty.specs.Dirty.{dirtying}
 use Rattle.packet_dirty.proofs.dirty.on_dirty.Goals as goal
 
-pub returns-then-place-live : goal.returns-then-place-live
-returns-then-place-live c = search dirtying
+pub returns-in_default : goal.returns-in_default
+returns-in_default c = search dirtying
 
 pub returns-then-r-eq0 : goal.returns-then-r-eq0
 returns-then-r-eq0 c = search dirtying
@@ -19,3 +19,6 @@ returns-in-Past c = search dirtying
 
 pub returns-in-Inside : goal.returns-in-Inside
 returns-in-Inside c = search dirtying
+
+pub resource_row-r-requires : goal.resource_row-r-requires
+resource_row-r-requires c = search dirtying

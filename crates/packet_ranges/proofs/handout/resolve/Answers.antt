@@ -2,8 +2,11 @@
 use Rattle.packet_ranges.specs.Handout.{resolving}
 use Rattle.packet_ranges.proofs.handout.resolve.Goals as goal
 
-pub returns-then-i-kept : goal.returns-then-i-kept
-returns-then-i-kept c = search resolving
+pub returns-in_default : goal.returns-in_default
+returns-in_default c = search resolving
+
+pub entry_row-e-requires : goal.entry_row-e-requires
+entry_row-e-requires c = search resolving
 
 pub returns-then-beyond_entry : goal.returns-then-beyond_entry
 returns-then-beyond_entry c = search resolving

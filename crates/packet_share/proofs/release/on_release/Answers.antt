@@ -2,8 +2,8 @@
 use Rattle.packet_share.specs.Release.{releasing}
 use Rattle.packet_share.proofs.release.on_release.Goals as goal
 
-pub returns-then-i-live : goal.returns-then-i-live
-returns-then-i-live c = search releasing
+pub returns-in_default : goal.returns-in_default
+returns-in_default c = search releasing
 
 pub returns : goal.returns
 returns c = search releasing

@@ -5,8 +5,8 @@ use Rattle.table_entries.proofs.entry.judge_entry.Goals as goal
 pub returns-then-not-sound : goal.returns-then-not-sound
 returns-then-not-sound c = search judging_entry
 
-pub returns-then-place-kept : goal.returns-then-place-kept
-returns-then-place-kept c = search judging_entry
+pub returns-then-is_some : goal.returns-then-is_some
+returns-then-is_some c = search judging_entry
 
 pub returns : goal.returns
 returns c = search judging_entry
