@@ -12,8 +12,8 @@ use Rattle.rules.specs.declared.Entry.{Entry}
 use Rattle.rules.specs.declared.Job.{Job}
 use Rattle.rules.specs.declared.Stream.{Stream}
 use Rattle.rules.specs.declared.Opened.{Opened}
-use Rattle.run_entries.specs.Ending.{Ending}
-use Rattle.run_entries.specs.Ending.Ending.{Going, Done, Broken}
+use Rattle.run_entries.specs.declared.ending.Ending.{Ending}
+use Rattle.run_entries.specs.declared.ending.Ending.TheVariants.{Going, Done, Broken}
 use Rattle.run_entries.specs.Entries.{Reading, reading_of}
 use Rattle.run_entries.specs.declared.entries.EntriesPlace.{EntriesPlace}
 use Rattle.run_packets.specs.Playing.{Playing, packet_tables, playing}

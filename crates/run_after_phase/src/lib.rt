@@ -3,29 +3,33 @@
 #![tactic(auto)]
 
 ghost use Rattle.std.specs.Prelude.{◌≡◌, ◌≤◌};
-ghost use Rattle.rules.specs.Judging.{refusal, fault_at};
+ghost use Rattle.rules.specs.Judging.{fault_at};
 ghost use Rattle.rules.specs.Numbers.{most};
 ghost use Rattle.run_state.specs.Views.{tag_in};
 ghost use Rattle.run_after_phase.specs.Views.{LandsEntries, LandsPackets};
 
-use rules::Fault;
+use refusals::number;
+use rules::{Fault, Refusal};
 use run_begin::begin_packets;
-use run_entries::ending::{DONE, GOING};
+use run_entries::ending::Ending;
 use run_entries::entries::EntriesPlace;
 use run_packets::PacketsPlace;
 use run_settle::settle_refused;
 use run_state::{
-    COPIED, HELD, KEPT, MADE, PLACE, STREAM_GPA, STREAM_SIZE, TAG, TARGET, WAITING, Words,
+    COPIED, HELD, KEPT, MADE, PLACE, STREAM_GPA, STREAM_SIZE, TAG, TARGET, WAITING, Words, flag,
 };
 use widths::{u32_to_word, usize_to_word};
 use words::low32;
 
 // A rule that a phase broke, at the place where the phase stands.
-fn fault(why: u32, at: usize) -> Fault
-    ensures { result ≡ fault_at at (refusal why) }
+fn fault(why: Refusal, at: usize) -> Fault
+    ensures { result ≡ fault_at at why }
 {
     let place = low32(usize_to_word(at));
-    Fault { code: why, place }
+    Fault {
+        code: number(why),
+        place,
+    }
 }
 
 // The entries at a place.
@@ -33,17 +37,19 @@ pub fn land_entries(words: &mut Words, p: EntriesPlace, mem: &mut [u8])
     requires { (tag_in words.old ≡ 1) × (p.kept ≤ most) }
     ensures { LandsEntries words.old p mem.old words.new mem.new }
 {
-    if p.ending == GOING {
-        let kept = usize_to_word(p.kept);
-        let all = &words[..];
-        words[KEPT] = kept;
-        return;
+    match p.ending {
+        Ending::Going => {
+            let kept = usize_to_word(p.kept);
+            let all = &words[..];
+            words[KEPT] = kept;
+        }
+        Ending::Done => {
+            begin_packets(words, p.kept);
+        }
+        Ending::Broken(why) => {
+            settle_refused(words, mem, fault(why, p.kept));
+        }
     }
-    if p.ending == DONE {
-        begin_packets(words, p.kept);
-        return;
-    }
-    settle_refused(words, mem, fault(p.why, p.kept));
 }
 
 // The packets at a place; the tokens are in the words already. A submission that waits has no word of its stream left.
@@ -55,28 +61,30 @@ pub fn land_packets(words: &mut Words, p: PacketsPlace, mem: &mut [u8])
     let at = usize_to_word(p.at);
     let live = usize_to_word(held.live);
     let made = usize_to_word(held.made);
-    let copied = u32_to_word(held.copied);
+    let copied = flag(held.copied);
     let target = u32_to_word(held.target);
-    if p.ending == GOING {
-        let all = &words[..];
-        words[PLACE] = at;
-        words[HELD] = live;
-        words[MADE] = made;
-        words[COPIED] = copied;
-        words[TARGET] = target;
-        return;
+    match p.ending {
+        Ending::Going => {
+            let all = &words[..];
+            words[PLACE] = at;
+            words[HELD] = live;
+            words[MADE] = made;
+            words[COPIED] = copied;
+            words[TARGET] = target;
+        }
+        Ending::Done => {
+            let all = &words[..];
+            words[TAG] = WAITING;
+            words[STREAM_GPA] = 0;
+            words[STREAM_SIZE] = 0;
+            words[PLACE] = 0;
+            words[HELD] = live;
+            words[MADE] = made;
+            words[COPIED] = copied;
+            words[TARGET] = target;
+        }
+        Ending::Broken(why) => {
+            settle_refused(words, mem, fault(why, p.at));
+        }
     }
-    if p.ending == DONE {
-        let all = &words[..];
-        words[TAG] = WAITING;
-        words[STREAM_GPA] = 0;
-        words[STREAM_SIZE] = 0;
-        words[PLACE] = 0;
-        words[HELD] = live;
-        words[MADE] = made;
-        words[COPIED] = copied;
-        words[TARGET] = target;
-        return;
-    }
-    settle_refused(words, mem, fault(p.why, p.at));
 }

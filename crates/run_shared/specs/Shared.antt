@@ -1,12 +1,11 @@
 -- A packet that needs tokens, on the words: what it comes to, with the submission's tokens in the words before and after, and that all else that the
 -- words mean while packets are due is as it was, but for the place and what else is held, which landing sets. Assumes nothing.
-use Rattle.std.specs.Prelude.{◌≡◌, List, ℕ, ◌≤◌, ◌<◌, length, get_or, set}
+use Rattle.std.specs.Prelude.{◌≡◌, Bool, List, ℕ, ◌≤◌, ◌<◌, length, get_or, set}
 use Rattle.std.proofs.Common.{◌∙◌, arith, rules, eq-eqb, ne_eqb}
 use Rattle.machine.specs.Machine.{pick}
 use Rattle.rules.specs.Numbers.{most, most_tokens}
 use Rattle.rules.specs.Packets.{pass}
 use Rattle.rules.specs.declared.Entry.{Entry}
-use Rattle.rule_laws.specs.Listed.{pass_listed}
 use Rattle.packet_held.specs.Tokens.{tokens_held}
 use Rattle.packet_held.specs.Held.{held_of, packet_of}
 use Rattle.packet_held.specs.declared.tokens.HeldTokens.{HeldTokens}
@@ -15,8 +14,8 @@ use Rattle.packet_apply_shared.specs.declared.Shared.{Shared}
 use Rattle.run_packets.specs.Playing.{packet_tables, playing, shared_step, place_after, after-plays, after-held}
 use Rattle.run_packets.specs.declared.PacketsPlace.{PacketsPlace}
 use Rattle.run_packets.specs.declared.Left.{Left}
-use Rattle.run_state.specs.Views.{set_in, token_count_in, tag_in, job_in, stream_in, kept_in, held_tokens_in, bare_in, sides_in, token_side_in}
-use Rattle.run_state.specs.Reading.{token-count-as}
+use Rattle.run_state.specs.Views.{set_in, flag_of, token_count_in, tag_in, job_in, stream_in, kept_in, held_tokens_in, bare_in, sides_in, token_side_in}
+use Rattle.run_state.specs.Reading.{flag-as, token-count-as}
 use Rattle.run_state.specs.Spelled.{spell}
 use Rattle.run_shared.specs.declared.SharedStep.{SharedStep}
 
@@ -27,7 +26,7 @@ pub record TokensHeldIn (s : List ℕ) (t : HeldTokens) : Type 0 where
   pub tokens : (dt ot : List ℕ) → tokens_held t dt ot ≡ held_tokens_in s dt ot
   pub room : t.used ≤ most_tokens
 
-pub held-are : (s : List ℕ) (used own : ℕ) → (used ≡ token_count_in (get_or s 33 0)) × (used ≤ most_tokens) → set_in own ≡ set_in (get_or s 35 0) → TokensHeldIn s (record { used = used; copied = own })
+pub held-are : (s : List ℕ) (used : ℕ) (own : Bool) → (used ≡ token_count_in (get_or s 33 0)) × (used ≤ most_tokens) → own ≡ set_in (get_or s 35 0) → TokensHeldIn s (record { used = used; copied = own })
 held-are s used own i j = record { tokens = λ dt ot. rw (i.0, j); room = i.1 }
 
 pub ruleset finding_tokens = (held-are, rules)
@@ -46,10 +45,10 @@ pub record StoresTokens (s : List ℕ) (t : HeldTokens) (s' : List ℕ) : Type 0
   pub tokens : (dt ot : List ℕ) → held_tokens_in s' dt ot ≡ tokens_held t dt ot
   pub same : SameButTokens s s'
 
-pub stored : (s : List ℕ) (t : HeldTokens) (k i : ℕ) → length s ≡ 36 → t.used ≤ most_tokens → (k ≡ t.used) × (k < 4294967296) → (i ≡ t.copied) × (i < 4294967296) → StoresTokens s t (set (set s 33 k) 35 i)
+pub stored : (s : List ℕ) (t : HeldTokens) (k i : ℕ) → length s ≡ 36 → t.used ≤ most_tokens → (k ≡ t.used) × (k < 4294967296) → i ≡ flag_of t.copied → StoresTokens s t (set (set s 33 k) 35 i)
 stored s t k i long room is-k is-i =
     record {
-      tokens = λ dt ot. spell (λ w. held_tokens_in (set (set w 33 k) 35 i) dt ot) s long ∙ rw (token-count-as k t.used (is-k.0, omega (arith, is-k.1)) room, is-i.0);
+      tokens = λ dt ot. spell (λ w. held_tokens_in (set (set w 33 k) 35 i) dt ot) s long ∙ rw (token-count-as k t.used (is-k.0, omega (arith, is-k.1)) room, flag-as i t.copied is-i);
       same = record {
         tag = spell (λ w. tag_in (set (set w 33 k) 35 i)) s long;
         bare = λ r dt m. spell (λ w. bare_in (set (set w 33 k) 35 i) r dt m) s long;
@@ -79,7 +78,7 @@ shared-stepped end r h dt ot h' ot' p q y u x s is =
     (record {
       step = λ es e c.
           after-plays p.at y.next end x.changed (packet_tables e r h' c) (tokens_held x.tokens dt ot') (pass es (held_of p.held r h c (tokens_held u dt ot)) (packet_of y.packet))
-          (pass_listed es (held_of p.held r h c (tokens_held u dt ot)) (packet_of y.packet)) (s.why es c) (s.held es c);
+          (s.verdict es c) (s.held es c);
       live = rw held s.live;
       made = rw held s.made;
       tokens = s.tokens;

@@ -11,7 +11,7 @@ use kept_tokens::Tokens;
 use packet_apply_shared::apply_shared;
 use packet_held::tokens::HeldTokens;
 use run_packets::{Left, PacketsPlace, place_after};
-use run_state::{HELD_TOKENS, TOKEN_SIDE, TOKENS_COPIED, Words, mark, tokens_in};
+use run_state::{HELD_TOKENS, TOKEN_SIDE, TOKENS_COPIED, Words, flag, is_set, tokens_in};
 use widths::u32_to_word;
 
 // The submission's tokens, by the device's words.
@@ -20,7 +20,7 @@ fn held_tokens(words: &Words) -> HeldTokens
 {
     HeldTokens {
         used: tokens_in(words[HELD_TOKENS]),
-        copied: mark(words[TOKENS_COPIED]),
+        copied: is_set(words[TOKENS_COPIED]),
     }
 }
 
@@ -30,7 +30,7 @@ fn store_tokens(words: &mut Words, t: HeldTokens)
     ensures { StoresTokens words.old t words.new }
 {
     let used = u32_to_word(t.used);
-    let copied = u32_to_word(t.copied);
+    let copied = flag(t.copied);
     let all = &words[..];
     words[HELD_TOKENS] = used;
     words[TOKENS_COPIED] = copied;
