@@ -1,4 +1,4 @@
-// The device as a value: every call takes it and hands it back, with the call's answer and its values. It is a struct of the words and
+// The device as a value: every call takes it and hands it back, with the call's outcome. It is a struct of the words and
 // tables that the calls work on, and lends them. No call asks anything of its caller: whatever stands in the device or in memory, it ends
 // and says what it gives.
 #![tactic(auto)]
@@ -12,9 +12,10 @@ ghost use Rattle.device_calls.specs.Views.{value_of, record_read_of};
 ghost use Rattle.saved_save.specs.Views.{saved_of};
 ghost use Rattle.device.specs.Views.{state_of, world_of, wrote_of, ran_of, loaded_of};
 
-use device_calls::{RecordRead, ValueRead};
-use rules::{Ended, Form};
-use saved_save::FileSaved;
+use call_errors::CallError;
+use device_memory_calls::Spent;
+use rules::{Form, Record};
+use saved_load::BadFile;
 
 // A device by value: its words, the entries kept, the two tables of resources, the two of tokens, and the records.
 #[derive(Clone, Copy)]
@@ -28,27 +29,24 @@ pub struct Device {
     pub records: [u64; 320],
 }
 
-// What a write answers, and the device after it.
+// What came of a write, and the device after it.
 #[derive(Clone, Copy)]
 pub struct Wrote {
-    pub answer: u32,
+    pub answer: Result<(), CallError>,
     pub device: Device,
 }
 
-// What a run or an answer is answered with, the units spent, how it ended, and the device after it.
+// What came of a run or an answer, and the device after it.
 #[derive(Clone, Copy)]
 pub struct Ran {
-    pub answer: u32,
-    pub units: u16,
-    pub ended: Ended,
+    pub answer: Result<Spent, CallError>,
     pub device: Device,
 }
 
-// What a load answers, the place of the first field or byte that is bad, and the device after it.
+// What came of a load, and the device after it.
 #[derive(Clone, Copy)]
 pub struct Loaded {
-    pub answer: u32,
-    pub place: u32,
+    pub answer: Result<(), BadFile>,
     pub device: Device,
 }
 
@@ -74,81 +72,42 @@ impl Device {
     pub fn write(self, offset: u32, value: u32) -> Wrote
         ensures { wrote_of result ≡ call_write (state_of self) offset value }
     {
-        let mut words = self.words;
-        let entries = self.entries;
-        let first = self.first;
-        let second = self.second;
-        let firsttokens = self.firsttokens;
-        let secondtokens = self.secondtokens;
-        let records = self.records;
-        let answer = register_writes::write(&mut words, offset, value);
-        let device = Device {
-            words,
-            entries,
-            first,
-            second,
-            firsttokens,
-            secondtokens,
-            records,
-        };
+        let mut device = self;
+        let answer = register_writes::write(&mut device.words, offset, value);
         Wrote { answer, device }
     }
 
     // What a register shows.
-    pub fn read(self, offset: u32) -> ValueRead
+    pub fn read(self, offset: u32) -> Result<u32, CallError>
         ensures { value_of result ≡ call_read (state_of self) offset }
     {
-        let words = self.words;
-        device_calls::read(&words, offset)
+        device_calls::read(&self.words, offset)
     }
 
     // Record i of the submission that waits.
-    pub fn record(self, i: u32) -> RecordRead
+    pub fn record(self, i: u32) -> Result<Record, CallError>
         ensures { record_read_of result ≡ call_record (state_of self) i }
     {
-        let words = self.words;
-        let records = self.records;
-        device_calls::record(&words, &records, i)
+        device_calls::record(&self.words, &self.records, i)
     }
 
     // As many units as are allowed, over the memory lent now; says how many were spent and how it ended.
     pub fn run(self, mem: &mut [u8], allowance: u16) -> Ran
         ensures { ran_of result mem.new ≡ call_run (world_of self mem.old) allowance }
     {
-        let mut words = self.words;
-        let mut entries = self.entries;
-        let mut first = self.first;
-        let mut second = self.second;
-        let mut firsttokens = self.firsttokens;
-        let mut secondtokens = self.secondtokens;
-        let mut records = self.records;
-        let x = device_memory_calls::run(
-            &mut words,
-            &mut entries,
-            &mut first,
-            &mut second,
-            &mut firsttokens,
-            &mut secondtokens,
-            &mut records,
+        let mut device = self;
+        let answer = device_memory_calls::run(
+            &mut device.words,
+            &mut device.entries,
+            &mut device.first,
+            &mut device.second,
+            &mut device.firsttokens,
+            &mut device.secondtokens,
+            &mut device.records,
             mem,
             allowance,
         );
-        let ended = x.ended;
-        let device = Device {
-            words,
-            entries,
-            first,
-            second,
-            firsttokens,
-            secondtokens,
-            records,
-        };
-        Ran {
-            answer: x.answer,
-            units: x.units,
-            ended,
-            device,
-        }
+        Ran { answer, device }
     }
 
     // The host's answer to what waits, and at once as many units as are allowed; says how many were spent and how it ended. An allowance
@@ -156,59 +115,33 @@ impl Device {
     pub fn answer(self, mem: &mut [u8], good: bool, allowance: u16) -> Ran
         ensures { ran_of result mem.new ≡ call_answer (world_of self mem.old) good allowance }
     {
-        let mut words = self.words;
-        let mut entries = self.entries;
-        let mut first = self.first;
-        let mut second = self.second;
-        let mut firsttokens = self.firsttokens;
-        let mut secondtokens = self.secondtokens;
-        let mut records = self.records;
-        let x = device_memory_calls::answer(
-            &mut words,
-            &mut entries,
-            &mut first,
-            &mut second,
-            &mut firsttokens,
-            &mut secondtokens,
-            &mut records,
+        let mut device = self;
+        let answer = device_memory_calls::answer(
+            &mut device.words,
+            &mut device.entries,
+            &mut device.first,
+            &mut device.second,
+            &mut device.firsttokens,
+            &mut device.secondtokens,
+            &mut device.records,
             mem,
             good,
             allowance,
         );
-        let ended = x.ended;
-        let device = Device {
-            words,
-            entries,
-            first,
-            second,
-            firsttokens,
-            secondtokens,
-            records,
-        };
-        Ran {
-            answer: x.answer,
-            units: x.units,
-            ended,
-            device,
-        }
+        Ran { answer, device }
     }
 
     // Writes the device, at rest, into the lent buffer, in this form of a saved desk; says how many bytes those are.
-    pub fn save(self, form: Form, buffer: &mut [u8]) -> FileSaved
+    pub fn save(self, form: Form, buffer: &mut [u8]) -> Result<u32, CallError>
         ensures { saved_of result buffer.new ≡ call_save form (state_of self) buffer.old }
     {
-        let words = self.words;
-        let first = self.first;
-        let second = self.second;
-        let firsttokens = self.firsttokens;
-        let secondtokens = self.secondtokens;
         saved_save::save(
             form,
-            &words,
-            &first,
-            &second,
-            &firsttokens,
-            &secondtokens,
+            &self.words,
+            &self.first,
+            &self.second,
+            &self.firsttokens,
+            &self.secondtokens,
             buffer,
         )
     }
@@ -217,27 +150,13 @@ impl Device {
     pub fn load(self, file: &[u8]) -> Loaded
         ensures { loaded_of result ≡ call_load (state_of self) file.now }
     {
-        let mut words = self.words;
-        let entries = self.entries;
-        let mut first = self.first;
-        let second = self.second;
-        let mut firsttokens = self.firsttokens;
-        let secondtokens = self.secondtokens;
-        let records = self.records;
-        let x = saved_load::load(&mut words, &mut first, &mut firsttokens, file);
-        let device = Device {
-            words,
-            entries,
-            first,
-            second,
-            firsttokens,
-            secondtokens,
-            records,
-        };
-        Loaded {
-            answer: x.answer,
-            place: x.place,
-            device,
-        }
+        let mut device = self;
+        let answer = saved_load::load(
+            &mut device.words,
+            &mut device.first,
+            &mut device.firsttokens,
+            file,
+        );
+        Loaded { answer, device }
     }
 }

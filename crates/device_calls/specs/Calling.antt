@@ -1,11 +1,12 @@
 -- The calls that are lent no guest memory: what their code asks. Assumes nothing.
-use Rattle.std.specs.Prelude.{◌≡◌, refl, ℕ, zero, suc, ◌+◌, ◌≤◌, ◌<◌, length, get_or, set, None, Option, Some}
+use Rattle.std.specs.Prelude.{◌≡◌, refl, ℕ, zero, suc, ◌+◌, ◌≤◌, ◌<◌, length, get_or, set, Option, Ok, Err}
+use Rattle.std.specs.Option.{ok_or}
 use Rattle.std.proofs.Math.Path.{sym}
 use Rattle.std.proofs.Common.{◌∙◌, add-zero, suc-add, add-suc, arith, rules}
 use mathlib.Core.List.{List, []}
 use Rattle.std.proofs.Math.Nat.{zero-add}
 use Rattle.machine.specs.Machine.{pick}
-use Rattle.rules.specs.Numbers.{done, no_register, most}
+use Rattle.rules.specs.Numbers.{most}
 use Rattle.rules.specs.Lists.{Found, nth}
 use Rattle.rules.specs.Lists.Found.{none, found}
 use Rattle.rules.specs.Registers.{Read as ReadAt, register}
@@ -19,8 +20,9 @@ use Rattle.run_state.specs.Views.{count_in, registers_in, tag_in, world_in, rest
 use Rattle.run_state.specs.Reading.{none-live, none-used}
 use Rattle.run_state.specs.Stages.{waits_in, outs-in}
 use Rattle.run_state.specs.Spelled.{spell}
-use Rattle.device_calls.specs.Views.{no_record_read, Makes, Reads, GivesRecord}
-use Rattle.device_calls.specs.declared.RecordRead.{RecordRead}
+use Rattle.device_calls.specs.Views.{value_of, Makes, Reads, GivesRecord}
+use Rattle.call_errors.specs.declared.CallError.{CallError}
+use Rattle.call_errors.specs.declared.CallError.TheVariants.{NoRegister, NoRecord}
 
 -- ---- make
 
@@ -41,24 +43,15 @@ pub ruleset making = (makes, rules)
 
 -- ---- read
 
-shown-none : (f : Found ReadAt) → shown f ≡ None → valued f ≡ record { answer = no_register; value = 0 }
-shown-none none e = refl
-shown-none (found x) e = absurd (let z : ◌≡◌ {A = ℕ} 0 1 = cc in omega arith)
+value-shown : (f : Found ReadAt) → value_of (ok_or (shown f) NoRegister) ≡ valued f
+value-shown none = refl
+value-shown (found x) = refl
 
-shown-value : (f : Found ReadAt) (v : ℕ) → shown f ≡ Some v → valued f ≡ record { answer = done; value = v }
-shown-value none v e = absurd (let z : ◌≡◌ {A = ℕ} 0 1 = cc in omega arith)
-shown-value (found x) v e = let same : x.value ≡ v = cc in rw same
+pub reads-shown : (s : List ℕ) (offset : ℕ) (x : Option ℕ) → x ≡ shown (register (registers_in s) offset) → Reads s offset (ok_or x NoRegister)
+unfolding call_read world_in
+reads-shown s offset x is = record { value = λ e a b ft st c. rw is (value-shown (register (registers_in s) offset)) }
 
-module _ (s : List ℕ) (offset : ℕ) (x : Option ℕ) (is : x ≡ shown (register (registers_in s) offset)) where
-  pub reads_none : x ≡ None → Reads s offset (record { answer = no_register; value = 0 })
-  unfolding call_read world_in
-  reads_none q = record { value = λ e a b ft st c. sym (shown-none (register (registers_in s) offset) (sym is ∙ q)) }
-
-  pub reads-value : (v : ℕ) → x ≡ Some v → Reads s offset (record { answer = done; value = v })
-  unfolding call_read world_in
-  reads-value v q = record { value = λ e a b ft st c. sym (shown-value (register (registers_in s) offset) v (sym is ∙ q)) }
-
-pub ruleset reading = (reads_none, reads-value, rules)
+pub ruleset reading = (reads-shown, rules)
 
 -- ---- record
 
@@ -75,24 +68,24 @@ nth_past f i (suc n) zero h = absurd (omega arith)
 nth_past f i (suc n) (suc k) h = nth_past f (suc i) n k (omega arith)
 
 module _ (s c : List ℕ) (i k : ℕ) (at : k ≡ i) where
-  pub hands-unasked : (x : RecordRead) → tag_in s < 3 → x ≡ no_record_read → GivesRecord s c i x
+  pub hands-unasked : tag_in s < 3 → GivesRecord s c i (Err NoRecord)
   unfolding call_record nth
-  hands-unasked x low p = record { hands = λ e a b ft st. rw (p, outs-in s e (pick (side_in s) b a) (pick (side_in s) a b) (pick (token_side_in s) st ft) (pick (token_side_in s) ft st) c [] low) }
+  hands-unasked low = record { hands = λ e a b ft st. rw (outs-in s e (pick (side_in s) b a) (pick (side_in s) a b) (pick (token_side_in s) st ft) (pick (token_side_in s) ft st) c [] low) }
 
   module _ (waiting : 3 ≤ tag_in s) (n : ℕ) (is : (n ≡ count_in (get_or s 27 0)) × (n ≤ most)) where
     there : (e a b ft st : List ℕ) → handed_out (state_in s e a b ft st c).work ≡ records_of n c
     there e a b ft st = rw (waits_in s e (pick (side_in s) b a) (pick (side_in s) a b) (pick (token_side_in s) st ft) (pick (token_side_in s) ft st) c [] waiting, is.0)
 
-    pub hands-past : (x : RecordRead) → n ≤ k → x ≡ no_record_read → GivesRecord s c i x
+    pub hands-past : n ≤ k → GivesRecord s c i (Err NoRecord)
     unfolding call_record table
-    hands-past x p q =
+    hands-past p =
         let out : nth (records_of n c) i ≡ none = nth_past (λ j. record_of (row_at 5 c j)) 0 n i (omega arith) in
-        record { hands = λ e a b ft st. rw (q, there e a b ft st, out) }
+        record { hands = λ e a b ft st. rw (there e a b ft st, out) }
 
     pub record-room : k < n → k < most
     record-room p = omega (arith, is.1)
 
-    pub hands-there : (x : Record) → k < n → x ≡ record_of (row_at 5 c k) → GivesRecord s c i (record { answer = done; range = x })
+    pub hands-there : (x : Record) → k < n → x ≡ record_of (row_at 5 c k) → GivesRecord s c i (Ok x)
     unfolding call_record table
     hands-there x p q =
         let out : nth (records_of n c) i ≡ found (record_of (row_at 5 c (0 + i))) = nth-tab (λ j. record_of (row_at 5 c j)) 0 n i (omega arith) in

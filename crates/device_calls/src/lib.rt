@@ -1,14 +1,12 @@
 // The calls on a device's words that are lent no guest memory: make, read, record (write stands in `registers`). None asks anything of its
-// caller; a refused one gives its number and zeros.
+// caller.
 #![tactic(auto)]
 
-ghost use Rattle.std.specs.Prelude.{◌≡◌};
-ghost use Rattle.device_calls.specs.Views.{no_record_read, Makes, Reads, GivesRecord};
+ghost use Rattle.device_calls.specs.Views.{Makes, Reads, GivesRecord};
 
+use call_errors::CallError;
 use kept_records::{Records, record_row};
-use registers::Option<u32>;
 use rules::Record;
-use rules::numbers::{DONE, NO_RECORD, NO_REGISTER};
 use run_state::{
     COMPLETED, DOORBELL, ENABLED, ERROR_CODE, ERROR_COUNT, ERROR_DETAIL, ERROR_FENCE, FAILED,
     FENCE_PAGE, FENCED, IRQ_ENABLE, LIVE, MADE, MEMORY, RING, RING_SIZE, SIDE, TAG, TOKEN_SIDE,
@@ -16,19 +14,14 @@ use run_state::{
 };
 use widths::{u32_to_usize, usize_to_word};
 
-// What a read answers, and the register's value.
-#[derive(Clone, Copy)]
-pub struct ValueRead {
-    pub answer: u32,
-    pub value: u32,
-}
-
-// What a record call answers, and the record.
-#[derive(Clone, Copy)]
-pub struct RecordRead {
-    pub answer: u32,
-    pub range: Record,
-}
+// What stands beside the answer of a refused record call.
+pub const ZERO_RECORD: Record = Record {
+    kind: 0,
+    handle: 0,
+    id: 0,
+    gpa: 0,
+    length: 0,
+};
 
 // Makes a device for a memory of so many bytes. Its tables may hold anything.
 pub fn make(words: &mut Words, memory: usize)
@@ -58,52 +51,19 @@ pub fn make(words: &mut Words, memory: usize)
 }
 
 // Reads a register.
-pub fn read(words: &Words, offset: u32) -> ValueRead
+pub fn read(words: &Words, offset: u32) -> Result<u32, CallError>
     ensures { Reads words.now offset result }
 {
-    match registers::read(words, offset) {
-        None => ValueRead {
-            answer: NO_REGISTER,
-            value: 0,
-        },
-        Some(value) => ValueRead {
-            answer: DONE,
-            value,
-        },
-    }
-}
-
-// No record: every value beside the refusal is zero.
-fn no_record() -> RecordRead
-    ensures { result ≡ no_record_read }
-{
-    let range = Record {
-        kind: 0,
-        handle: 0,
-        id: 0,
-        gpa: 0,
-        length: 0,
-    };
-    RecordRead {
-        answer: NO_RECORD,
-        range,
-    }
+    registers::read(words, offset).ok_or(CallError::NoRegister)
 }
 
 // Record i of the submission that waits.
-pub fn record(words: &Words, records: &Records, i: u32) -> RecordRead
+pub fn record(words: &Words, records: &Records, i: u32) -> Result<Record, CallError>
     ensures { GivesRecord words.now records.now i result }
 {
     let at = u32_to_usize(i);
-    if words[TAG] < WAITING {
-        return no_record();
+    if words[TAG] < WAITING || at >= rows_in(words[MADE]) {
+        return Err(CallError::NoRecord);
     }
-    if at >= rows_in(words[MADE]) {
-        return no_record();
-    }
-    let range = record_row(records, at);
-    RecordRead {
-        answer: DONE,
-        range,
-    }
+    Ok(record_row(records, at))
 }

@@ -3,35 +3,40 @@
 #![tactic(auto)]
 
 ghost use Rattle.std.specs.Prelude.{◌≡◌};
-ghost use Rattle.device_memory_calls.specs.Views.{refused_with, Runs, Answers};
+ghost use Rattle.device_memory_calls.specs.Views.{lent_memory, Runs, Answers};
 
+use call_errors::CallError;
 use kept_entries::Entries;
 use kept_records::Records;
 use kept_resources::resources::Resources;
 use kept_tokens::Tokens;
 use rules::Ended;
-use rules::numbers::{DONE, NOTHING_WAITS, OTHER_MEMORY};
 use run_answered::{ended_in, settle_answered};
 use run_sides::run_on;
 use run_state::{MEMORY, TAG, WAITING, Words};
 use widths::word_to_usize;
 
-// What a run or an answer is answered with: the call's answer, the units spent and how it ended.
+// What a run or an answer gives: the units spent and how it ended.
 #[derive(Clone, Copy)]
 pub struct Spent {
-    pub answer: u32,
     pub units: u16,
     pub ended: Ended,
 }
 
-// A call that is refused with this answer: nothing was spent, and it says idle.
-fn refused(answer: u32) -> Spent
-    ensures { result ≡ refused_with answer }
+// What stands beside the answer of a refused run.
+pub const NOTHING_SPENT: Spent = Spent {
+    units: 0,
+    ended: Ended::Idle,
+};
+
+// Whether the memory lent is as long as that which the device was made for.
+fn own_memory(words: &Words, mem: &[u8]) -> Result<(), CallError>
+    ensures { result ≡ lent_memory words.now mem.now }
 {
-    Spent {
-        answer,
-        units: 0,
-        ended: Ended::Idle,
+    if mem.len() == word_to_usize(words[MEMORY]) {
+        Ok(())
+    } else {
+        Err(CallError::OtherMemory)
     }
 }
 
@@ -46,7 +51,7 @@ pub fn run(
     records: &mut Records,
     mem: &mut [u8],
     allowance: u16,
-) -> Spent
+) -> Result<Spent, CallError>
     ensures { Runs allowance
         (record {
           words = words.old;
@@ -70,10 +75,7 @@ pub fn run(
           mem = mem.new;
         }) }
 {
-    let memory = word_to_usize(words[MEMORY]);
-    if mem.len() != memory {
-        return refused(OTHER_MEMORY);
-    }
+    own_memory(words, mem)?;
     let units = run_on(
         words,
         entries,
@@ -85,12 +87,10 @@ pub fn run(
         mem,
         allowance,
     );
-    let ended = ended_in(words);
-    Spent {
-        answer: DONE,
+    Ok(Spent {
         units,
-        ended,
-    }
+        ended: ended_in(words),
+    })
 }
 
 // The host's answer to what waits, and at once as many units as are allowed; says how many were spent and how it ended. An allowance of 0
@@ -106,7 +106,7 @@ pub fn answer(
     mem: &mut [u8],
     good: bool,
     allowance: u16,
-) -> Spent
+) -> Result<Spent, CallError>
     ensures { Answers good allowance
         (record {
           words = words.old;
@@ -130,12 +130,9 @@ pub fn answer(
           mem = mem.new;
         }) }
 {
-    let memory = word_to_usize(words[MEMORY]);
-    if mem.len() != memory {
-        return refused(OTHER_MEMORY);
-    }
+    own_memory(words, mem)?;
     if words[TAG] < WAITING {
-        return refused(NOTHING_WAITS);
+        return Err(CallError::NothingWaits);
     }
     settle_answered(words, mem, good);
     if allowance > 0 {
@@ -150,17 +147,13 @@ pub fn answer(
             mem,
             allowance,
         );
-        let ended = ended_in(words);
-        return Spent {
-            answer: DONE,
+        return Ok(Spent {
             units,
-            ended,
-        };
+            ended: ended_in(words),
+        });
     }
-    let ended = ended_in(words);
-    Spent {
-        answer: DONE,
+    Ok(Spent {
         units: 0,
-        ended,
-    }
+        ended: ended_in(words),
+    })
 }

@@ -1,5 +1,5 @@
 -- What the writers of a dump's text ask for: its lines one after the other, behind a good header, and the room that there is. Assumes nothing.
-use Rattle.std.specs.Prelude.{◌≡◌, refl, Bool, false, not, List, [], ◌++◌, ℕ, ◌+◌, ◌≤◌, ◌<◌, take, Err, Ok, Result}
+use Rattle.std.specs.Prelude.{◌≡◌, refl, Bool, false, not, List, [], ◌++◌, ℕ, ◌+◌, ◌≤◌, ◌<◌, take, Ok, Err, Result}
 use Rattle.std.proofs.Common.{sym, ◌∙◌, append-nil, arith, rules, ltb-false}
 use Rattle.std.proofs.Math.Path.{ap}
 use Rattle.std.proofs.Math.Bool.{true}
@@ -7,7 +7,7 @@ use Rattle.std.proofs.Math.Nat.{zero-add}
 use Rattle.std.proofs.Math.Dec.{ltb}
 use Rattle.std.proofs.Math.ListN.{length}
 use Rattle.machine.specs.Machine.{pick}
-use Rattle.rules.specs.Numbers.{done, too_short}
+use Rattle.rules.specs.Numbers.{done}
 use Rattle.rules.specs.Lists.{over}
 use Rattle.rules.specs.Layouts.{stream_header, stream_header_size}
 use Rattle.rules.specs.Stream.{stream_rules, stream_of}
@@ -25,6 +25,7 @@ use Rattle.dump_next.specs.declared.Going.TheVariants.{On, Ended}
 use Rattle.dump_room.specs.Widest.{error-bound}
 use Rattle.dump_room.specs.Longest.{rest-small}
 use Rattle.dump_room.specs.Fitting.{fits}
+use Rattle.call_errors.specs.declared.CallError.TheVariants.{TooShort}
 use Rattle.dump_listing.specs.Views.{PutsDump, too_short_for, call_dump, Dumps}
 
 -- ---- put_packets
@@ -127,15 +128,15 @@ module _ (strict : Bool) (s b : List ℕ) (t : Bool) (tells : t ≡ fits (text_o
   by-not true e = refl
   by-not false e = absurd (let z : ◌≡◌ {A = ℕ} 0 1 = cc in omega arith)
 
-  module _ (h : t ≡ true) where
+  module _ (h : not t ≡ false) where
     enough : ltb (length b) (length text) ≡ false
     unfolding fits
-    enough = by_test (ltb (length b) (length text)) (sym tells ∙ h)
+    enough = by_test (ltb (length b) (length text)) (sym tells ∙ by-not t h)
 
     pub text-room : length (text_of (dump_of strict s)) ≤ length b
     text-room = ltb-false (length b) (length text) enough
 
-    pub dumps-text : (end long : ℕ) (m : List ℕ) → PutsDump strict s b end m → long ≡ end → Dumps strict s b (record { answer = done; length = long }) m
+    pub dumps-text : (end long : ℕ) (m : List ℕ) → PutsDump strict s b end m → long ≡ end → Dumps strict s b (Ok long) m
     unfolding call_dump
     dumps-text end long m p e =
         let k : long ≡ length text = e ∙ (p.puts.place ∙ zero-add (length text)) in
@@ -144,10 +145,10 @@ module _ (strict : Bool) (s b : List ℕ) (t : Bool) (tells : t ≡ fits (text_o
           small = rw e p.small;
         }
 
-  pub dumps-none : t ≡ false → Dumps strict s b (record { answer = too_short; length = 0 }) b
+  pub dumps-none : not t ≡ true → Dumps strict s b (Err TooShort) b
   unfolding call_dump fits
   dumps-none h =
-      let short : ltb (length b) (length text) ≡ true = by-not (ltb (length b) (length text)) (sym tells ∙ h) in
+      let short : ltb (length b) (length text) ≡ true = by-not (ltb (length b) (length text)) (sym tells ∙ by_test t h) in
       record {
         dumps = rw short;
         small = omega arith;

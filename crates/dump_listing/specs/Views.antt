@@ -1,11 +1,13 @@
 -- What the writers of a dump's text say: the rule book's text, in a lent buffer.
-use Rattle.std.specs.Prelude.{◌≡◌, Bool, List, ℕ, ◌≤◌, ◌<◌, ◌^◌, ltb, length, take}
+use Rattle.std.specs.Prelude.{◌≡◌, Bool, List, ℕ, ◌≤◌, ◌<◌, ◌^◌, ltb, length, take, Result}
+use Rattle.std.specs.Result.{result_unwrap_or}
 use Rattle.machine.specs.Machine.{pick}
 use Rattle.rules.specs.Numbers.{done, too_short}
 use Rattle.rules.specs.Lists.{over}
 use Rattle.rules.specs.Dump.{text_of, dump_of, listing}
 use Rattle.text_numbers.specs.Writing.{Puts}
-use Rattle.dump_listing.specs.declared.DumpListed.{DumpListed}
+use Rattle.call_errors.specs.Answers.{answer_of}
+use Rattle.call_errors.specs.declared.CallError.{CallError}
 
 -- ---- put_dump
 
@@ -36,12 +38,13 @@ call_dump strict s buffer =
       buffer = over 0 (text_of (dump_of strict s)) buffer;
     })
 
-abbrev pub dumped_of : DumpListed → List ℕ → Dumped
-dumped_of x buffer = record { answer = x.answer; length = x.length; buffer = buffer }
+-- beside a refusal stands length 0
+abbrev pub dumped_of : Result ℕ CallError → List ℕ → Dumped
+dumped_of x buffer = record { answer = answer_of x; length = result_unwrap_or x 0; buffer = buffer }
 
-pub record Dumps (strict : Bool) (s buffer : List ℕ) (x : DumpListed) (buffer' : List ℕ) : Type 0 where
+pub record Dumps (strict : Bool) (s buffer : List ℕ) (x : Result ℕ CallError) (buffer' : List ℕ) : Type 0 where
   pub dumps : dumped_of x buffer' ≡ call_dump strict s buffer
-  pub small : x.length < 2 ^ 36
+  pub small : result_unwrap_or x 0 < 2 ^ 36
 
 -- ---- list
 

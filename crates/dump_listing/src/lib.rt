@@ -9,9 +9,9 @@ ghost use Rattle.text_numbers.specs.Writing.{Puts};
 ghost use Rattle.dump_next.specs.Rest.{rest_from};
 ghost use Rattle.dump_listing.specs.Views.{PutsDump, Dumps, longest_listing, Listing};
 
+use call_errors::CallError;
 use dump_next::{Going, put_error, put_next};
 use dump_room::dump_fits;
-use rules::numbers::{DONE, TOO_SHORT};
 use stream_header::header::check_header;
 use text_filling::fill;
 use widths::{u32_to_usize, usize_to_word};
@@ -20,13 +20,6 @@ const STREAM_HEADER_SIZE: usize = rules::numbers::STREAM_HEADER_SIZE as usize;
 
 // The most bytes of a dump that the program reads.
 const LONGEST_DUMP: usize = 65536;
-
-// What a host's call gives beside the buffer: its answer, and the length of the text.
-#[derive(Clone, Copy)]
-pub struct DumpListed {
-    pub answer: u32,
-    pub length: u64,
-}
 
 // Writes every line of a stream from its first packet on to the front of a buffer with room for them; gives their length.
 fn put_packets(out: &mut [u8], dump: &[u8], strict: bool) -> usize
@@ -61,22 +54,16 @@ fn put_dump(out: &mut [u8], dump: &[u8], strict: bool) -> usize
     }
 }
 
-// For a host: writes the text of a dump of any length to the front of any buffer, and keeps the bytes behind it. A buffer that is shorter than the
-// text is refused, and no byte of it is written.
-pub fn list_dump(dump: &[u8], strict: bool, buffer: &mut [u8]) -> DumpListed
+// For a host: writes the text of a dump of any length to the front of any buffer, and keeps the bytes behind it; gives its length. A buffer that is
+// shorter than the text is refused, and no byte of it is written.
+pub fn list_dump(dump: &[u8], strict: bool, buffer: &mut [u8]) -> Result<u64, CallError>
     ensures { Dumps strict dump.now buffer.old result buffer.new }
 {
-    if dump_fits(dump, strict, buffer.len()) {
-        let length = put_dump(buffer, dump, strict);
-        return DumpListed {
-            answer: DONE,
-            length: usize_to_word(length),
-        };
+    if !dump_fits(dump, strict, buffer.len()) {
+        return Err(CallError::TooShort);
     }
-    DumpListed {
-        answer: TOO_SHORT,
-        length: 0,
-    }
+    let length = put_dump(buffer, dump, strict);
+    Ok(usize_to_word(length))
 }
 
 // Writes the one fixed line.

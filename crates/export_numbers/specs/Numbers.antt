@@ -1,7 +1,10 @@
 -- What the exports say: the values of a call, in one number or in five words.
-use Rattle.std.specs.Prelude.{List, [], ◌∷◌, ℕ, ◌+◌, ◌*◌}
+use Rattle.std.specs.Prelude.{List, [], ◌∷◌, ℕ, ◌+◌, ◌*◌, Result}
 use Rattle.rules.specs.Calls.{ended_number, Value, Ran}
 use Rattle.rules.specs.declared.Record.{Record}
+use Rattle.call_errors.specs.Answers.{answer_of}
+use Rattle.call_errors.specs.declared.CallError.{CallError}
+use Rattle.device_memory_calls.specs.Views.{spent_beside}
 use Rattle.device_memory_calls.specs.declared.Spent.{Spent}
 
 -- a value, the answer above it
@@ -20,8 +23,8 @@ said_value x = said_beside x.value x.answer
 abbrev pub said_run : Ran → ℕ
 said_run x = x.answer + (256 * ended_number x.ended + 65536 * x.units)
 
-abbrev pub said_spent : Spent → ℕ
-said_spent x = x.answer + (256 * ended_number x.ended + 65536 * x.units)
+abbrev pub said_spent : Result Spent CallError → ℕ
+said_spent x = answer_of x + (256 * ended_number (spent_beside x).ended + 65536 * (spent_beside x).units)
 
 abbrev pub record_words : Record → List ℕ
 record_words c = c.kind ∷ c.handle ∷ c.id ∷ c.gpa ∷ c.length ∷ []

@@ -1,16 +1,20 @@
 -- What the saying of a call's values asks. Assumes nothing.
-use Rattle.std.specs.Prelude.{◌≡◌, List, [], ◌∷◌, ℕ, ◌+◌, ◌*◌, ◌≤◌, ◌<◌, length, set, drop}
+use Rattle.std.specs.Prelude.{◌≡◌, List, [], ◌∷◌, ℕ, ◌+◌, ◌*◌, ◌≤◌, ◌<◌, length, set, drop, Result}
 use Rattle.std.proofs.Common.{◌∙◌, arith, rules, drop_of_length-le}
 use Rattle.std.proofs.lemmas.List.Edits.{sets-eq}
 use Rattle.rules.specs.Calls.{ended_number}
 use Rattle.rules.specs.declared.Record.{Record}
+use Rattle.call_errors.specs.Answers.{answer_of}
+use Rattle.call_errors.specs.declared.CallError.{CallError}
+use Rattle.device_memory_calls.specs.Views.{spent_beside}
 use Rattle.device_memory_calls.specs.declared.Spent.{Spent}
 use Rattle.export_numbers.specs.Numbers.{said_spent, record_words}
 
 -- ---- said
 
-pub says-number : (x : Spent) (n u v : ℕ) → (n ≡ ended_number x.ended) × (n ≤ 2) → u ≡ x.units → (v ≡ x.answer) × (v < 4294967296) → v + (256 * n + 65536 * u) ≡ said_spent x
-says-number x n u v p q t = rw (p.0, q, t.0)
+pub says-number : (x : Result Spent CallError) (y : Spent) (n u v w : ℕ) → y ≡ spent_beside x → (n ≡ ended_number y.ended) × (n ≤ 2) → u ≡ y.units → w ≡ answer_of x → (v ≡ w) × (v < 4294967296)
+    → v + (256 * n + 65536 * u) ≡ said_spent x
+says-number x y n u v w e p q a t = rw (p.0, q, t.0, a, e)
 
 pub ruleset saying_number = (says-number, rules)
 

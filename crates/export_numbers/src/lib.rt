@@ -4,10 +4,13 @@
 
 ghost use Rattle.std.specs.Prelude.{◌≡◌, ◌≤◌, ◌<◌};
 ghost use Rattle.rules.specs.Calls.{ended_number};
+ghost use Rattle.std.specs.Result.{result_unwrap_or};
+ghost use Rattle.call_errors.specs.Answers.{answer_of};
 ghost use Rattle.export_numbers.specs.Numbers.{record_words, said_beside, said_long, said_spent};
 ghost use Rattle.export_numbers.specs.Layout.{layout_number};
 
-use device_memory_calls::Spent;
+use call_errors::{CallError, answer};
+use device_memory_calls::{NOTHING_SPENT, Spent};
 use rules::{Ended, Record};
 use widths::{u16_to_word, u32_to_word};
 
@@ -37,6 +40,13 @@ pub fn beside_long(length: u64, answer: u32) -> u64
     length + ABOVE_LENGTH * u32_to_word(answer)
 }
 
+// What a call gives in one number: its value, 0 beside a refusal, and 2^32 times its answer.
+pub fn said_value(x: Result<u32, CallError>) -> u64
+    ensures { result ≡ said_beside (result_unwrap_or x 0) (answer_of x) }
+{
+    beside(x.unwrap_or(0), answer(x))
+}
+
 // Idle 0, waiting 1, paused 2.
 fn number_of(ended: Ended) -> u64
     ensures { (result ≡ ended_number ended) × (result ≤ 2) }
@@ -49,13 +59,13 @@ fn number_of(ended: Ended) -> u64
 }
 
 // What was spent in one number: the call's answer, 2^8 times how it ended and 2^16 times the units.
-pub fn said(x: Spent) -> u64
+pub fn said(x: Result<Spent, CallError>) -> u64
     ensures { result ≡ said_spent x }
 {
-    let how = x.ended;
-    let ended = number_of(how);
-    let units = u16_to_word(x.units);
-    u32_to_word(x.answer) + (ABOVE_ANSWER * ended + ABOVE_ENDED * units)
+    let spent = x.unwrap_or(NOTHING_SPENT);
+    let ended = number_of(spent.ended);
+    let units = u16_to_word(spent.units);
+    u32_to_word(answer(x)) + (ABOVE_ANSWER * ended + ABOVE_ENDED * units)
 }
 
 // Says a record: kind, handle, id, GPA, length.

@@ -7,6 +7,7 @@ ghost use Rattle.rules.specs.Month.{totals, fed, merged};
 ghost use Rattle.month_feed.specs.Views.{finished};
 ghost use Rattle.month.specs.Views.{totals_of, fed_of};
 
+use call_errors::CallError;
 use kept_records::Records;
 
 // 26 words in the published order.
@@ -18,7 +19,7 @@ pub struct Totals {
 // The answer of a feed or a merge, and the totals after it.
 #[derive(Clone, Copy)]
 pub struct Fed {
-    pub answer: u32,
+    pub answer: Result<(), CallError>,
     pub totals: Totals,
 }
 
@@ -32,28 +33,21 @@ impl Totals {
         Totals { words }
     }
 
-    // Feeds one submission, whose records are the first rows of a table: 0, 10 or 9.
+    // Feeds one submission, whose records are the first rows of a table.
     pub fn feed(self, error: u32, units: u32, count: u32, records: &Records) -> Fed
         ensures { fed_of result ≡ fed (totals_of self) (finished error units count records.now) }
     {
-        let mut words = self.words;
-        let answer = month_feed::feed(&mut words, error, units, count, records);
-        Fed {
-            answer,
-            totals: Totals { words },
-        }
+        let mut totals = self;
+        let answer = month_feed::feed(&mut totals.words, error, units, count, records);
+        Fed { answer, totals }
     }
 
-    // Adds the totals of another part of the month: 0 or 9.
+    // Adds the totals of another part of the month.
     pub fn merge(self, other: Totals) -> Fed
         ensures { fed_of result ≡ merged (totals_of self) (totals_of other) }
     {
-        let mut words = self.words;
-        let others = other.words;
-        let answer = month_totals::merge(&mut words, &others);
-        Fed {
-            answer,
-            totals: Totals { words },
-        }
+        let mut totals = self;
+        let answer = month_totals::merge(&mut totals.words, &other.words);
+        Fed { answer, totals }
     }
 }

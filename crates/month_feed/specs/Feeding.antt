@@ -1,5 +1,5 @@
 -- One submission is fed: its own totals, and the result of merging them into others. Assumes nothing.
-use Rattle.std.specs.Prelude.{◌≡◌, Bool, not, ◌&&◌, ◌||◌, List, [], ◌∷◌, ◌++◌, ℕ, ◌+◌, ◌-◌, ◌≤◌, ◌<◌, eqb, get_or, take, set, replicate, None, Option, Some}
+use Rattle.std.specs.Prelude.{◌≡◌, Bool, not, ◌&&◌, ◌||◌, List, [], ◌∷◌, ◌++◌, ℕ, ◌+◌, ◌≤◌, ◌<◌, eqb, get_or, take, set, replicate, Result, Ok, Err, ⊤}
 use Rattle.std.proofs.Math.Path.{refl, sym}
 use Rattle.std.proofs.Common.{ap, ◌∙◌, add-zero, arith, rules, length-take-le}
 use Rattle.std.proofs.Math.Bool.{true, false}
@@ -14,6 +14,11 @@ use Rattle.kept_resources.specs.Views.{record_of, records_of}
 use Rattle.rules.specs.Month.{Finished, totals, sum, greatest, every, small, added, merged, fed, length_in, bytes_in, largest_write, listed_kind, alone, good_feed}
 use Rattle.month_totals.specs.Views.{totals_in, Merges, Feeds}
 use Rattle.month_totals.specs.Summing.{get_or-added, length-added, every-at}
+use Rattle.std.specs.Result.{IsErrAnd}
+use Rattle.std.proofs.lemmas.Result.{err_from_is_err_and}
+use Rattle.call_errors.specs.Answers.{answer_of}
+use Rattle.call_errors.specs.declared.CallError.{CallError}
+use Rattle.call_errors.specs.declared.CallError.TheVariants.{TooMuch}
 use Rattle.month_feed.specs.Views.{finished, within, good_error, place_of, ended, only}
 use Rattle.month_feed.specs.Judging.{both, counts-one}
 
@@ -35,23 +40,23 @@ single-is s = simp (add-zero, max-zero)
 
 -- ---- a sum of bytes, below 2^64 or not
 
-by-small : (n : ℕ) (t : Bool) → small n ≡ t → pick t (Some n) None ≡ within n
+by-small : (n : ℕ) (t : Bool) → small n ≡ t → pick t (Ok n) (Err TooMuch) ≡ within n
 unfolding within
 by-small n t h = rw h
 
-pub told-reached : (n : ℕ) → within n ≡ None → 18446744073709551616 ≤ n
-told-reached n h = by_test (small n) refl
+pub told-reached : (n : ℕ) (r : CallError) → within n ≡ Err r → (18446744073709551616 ≤ n) × (r ≡ TooMuch)
+told-reached n r h = by_test (small n) refl
   where
-    by_test : (t : Bool) → small n ≡ t → 18446744073709551616 ≤ n
-    by_test true e = absurd (let q : pick true (Some n) None ≡ within n = by-small n true e in let z : ◌≡◌ {A = Option ℕ} (Some n) None = q ∙ h in let y : ◌≡◌ {A = ℕ} 0 1 = cc in omega arith)
-    by_test false e = ltb-false n 18446744073709551616 e
+    by_test : (t : Bool) → small n ≡ t → (18446744073709551616 ≤ n) × (r ≡ TooMuch)
+    by_test true e = let q : Ok n ≡ Err r = by-small n true e ∙ h in cc
+    by_test false e = let q : Err TooMuch ≡ Err r = by-small n false e ∙ h in let same : r ≡ TooMuch = cc in (ltb-false n 18446744073709551616 e, same)
 
-pub told_below : (n m : ℕ) → within n ≡ Some m → m ≡ n
+pub told_below : (n m : ℕ) → within n ≡ Ok m → m ≡ n
 told_below n m h = by_test (small n) refl
   where
     by_test : (t : Bool) → small n ≡ t → m ≡ n
-    by_test true e = let q : Some n ≡ within n = by-small n true e in let z : ◌≡◌ {A = Option ℕ} (Some n) (Some m) = q ∙ h in cc
-    by_test false e = absurd (let q : None ≡ within n = by-small n false e in let z : ◌≡◌ {A = Option ℕ} None (Some m) = q ∙ h in let y : ◌≡◌ {A = ℕ} 0 1 = cc in omega arith)
+    by_test true e = let q : Ok n ≡ Ok m = by-small n true e ∙ h in cc
+    by_test false e = let q : Err TooMuch ≡ Ok m = by-small n false e ∙ h in cc
 
 -- ---- totals that would reach 2^64
 
@@ -120,20 +125,24 @@ module _ (l r : List ℕ) (e u n : ℕ) (t : Bool) (judged : t ≡ good_feed (fi
       unfolding fed
       fed-is = rw (good, same) (ap (merged (totals_in l)) (single-is (finished e u n r)))
 
-      leaves-over : length l ≡ 26 → fed (totals_in l) (finished e u n r) ≡ record { answer = 9; totals = totals_in l } → Feeds l (finished e u n r) 9 l
-      leaves-over w p = record { answer = rw p; words = rw p }
+      -- what a refusal of a sum is handed on as
+      leaves-over : (c : CallError) (y : Result ⊤ CallError) → c ≡ TooMuch → IsErrAnd y (λ z. z ≡ c) → fed (totals_in l) (finished e u n r) ≡ record { answer = 9; totals = totals_in l }
+          → Feeds l (finished e u n r) (answer_of y) l
+      leaves-over c y q h p = let z = err_from_is_err_and y h in record { answer = rw (z.1, z.2, q, p); words = rw p }
 
-      pub feed-reads-over : length l ≡ 26 → (x : Option ℕ) → x ≡ within (sum (length_in reads) (records_of k r)) → x ≡ None → Feeds l (finished e u n r) 9 l
-      feed-reads-over w x p q = leaves-over w (fed-is ∙ reads_over l w e u _ _ _ (told-reached _ (sym p ∙ q)))
+      pub feed-reads-over : length l ≡ 26 → (x : Result ℕ CallError) (c : CallError) (y : Result ⊤ CallError) → x ≡ within (sum (length_in reads) (records_of k r)) → x ≡ Err c
+          → IsErrAnd y (λ z. z ≡ c) → Feeds l (finished e u n r) (answer_of y) l
+      feed-reads-over w x c y p q h = let o = told-reached _ c (sym p ∙ q) in leaves-over c y o.1 h (fed-is ∙ reads_over l w e u _ _ _ o.0)
 
-      pub feed-writes-over : length l ≡ 26 → (x : Option ℕ) → x ≡ within (sum (length_in writes) (records_of k r)) → x ≡ None → Feeds l (finished e u n r) 9 l
-      feed-writes-over w x p q = leaves-over w (fed-is ∙ writes-over l w e u _ _ _ (told-reached _ (sym p ∙ q)))
+      pub feed-writes-over : length l ≡ 26 → (x : Result ℕ CallError) (c : CallError) (y : Result ⊤ CallError) → x ≡ within (sum (length_in writes) (records_of k r)) → x ≡ Err c
+          → IsErrAnd y (λ z. z ≡ c) → Feeds l (finished e u n r) (answer_of y) l
+      feed-writes-over w x c y p q h = let o = told-reached _ c (sym p ∙ q) in leaves-over c y o.1 h (fed-is ∙ writes-over l w e u _ _ _ o.0)
 
-      pub feed-merged : (read written top : ℕ) (x y : Option ℕ) → x ≡ within (sum (length_in reads) (records_of k r)) → x ≡ Some read → y ≡ within (sum (length_in writes) (records_of k r)) → y ≡ Some written
+      pub feed-merged : (read written top : ℕ) (x y : Result ℕ CallError) → x ≡ within (sum (length_in reads) (records_of k r)) → x ≡ Ok read → y ≡ within (sum (length_in writes) (records_of k r)) → y ≡ Ok written
           → top ≡ greatest (length_in writes) (records_of k r) → (one m : List ℕ) (a : ℕ) → totals_in one ≡ only e u read written top → Merges l (totals_in one) a m → Feeds l (finished e u n r) a m
       feed-merged read written top x y p p' q q' g one m a o d =
           let f : fed (totals_in l) (finished e u n r) ≡ merged (totals_in l) (totals_in one) =
           fed-is ∙ ap (merged (totals_in l)) (sym (o ∙ rw (told_below _ _ (sym p ∙ p'), told_below _ _ (sym q ∙ q'), g))) in
           record { answer = rw f d.answer; words = rw f d.words }
 
-pub ruleset feeding = (feed-bad, feed-error, feed-count, feed-reads-over, feed-writes-over, feed-merged, rules)
+pub ruleset feeding = (feed-bad, feed-error, feed-count, rules)

@@ -1,5 +1,5 @@
 -- The records of a submission, one at each turn of a loop. Assumes nothing.
-use Rattle.std.specs.Prelude.{◌≡◌, Bool, true, false, not, ◌&&◌, List, length, None, Some}
+use Rattle.std.specs.Prelude.{◌≡◌, Bool, true, false, not, ◌&&◌, List}
 use Rattle.std.proofs.Math.Path.{sym, ap}
 use Rattle.std.proofs.Common.{◌∙◌, rules}
 use Prim.Native.Nat.{ℕ, ◌+◌, ◌≤◌, ◌<◌, max}
@@ -10,6 +10,8 @@ use Rattle.rules.specs.declared.Record.{Record}
 use Rattle.rows.specs.Rows.{row_at, table_from, from_first, from-none, from_zero}
 use Rattle.kept_resources.specs.Views.{record_of, records_of}
 use Rattle.rules.specs.Month.{sum, greatest, every, length_in, listed_kind, small}
+use Rattle.std.specs.Prelude.{Ok, Err}
+use Rattle.call_errors.specs.declared.CallError.TheVariants.{TooMuch}
 use Rattle.month_feed.specs.Views.{within}
 
 abbrev pub left : ℕ → ℕ → List ℕ → List Record
@@ -83,7 +85,7 @@ module _ (kind n : ℕ) (l : List ℕ) where
           ∙ ap (λ b. b + rest (i + 1)) (sym (e ∙ ap (length_in kind) row))
 
       module _ (t : Bool) (b : t ≡ not (small (total + m))) where
-        pub bytes-over : t ≡ true → None ≡ within whole
+        pub bytes-over : t ≡ true → Err TooMuch ≡ within whole
         unfolding within
         bytes-over q =
             let o : rest i ≡ m + rest (i + 1) = one in
@@ -96,7 +98,7 @@ module _ (kind n : ℕ) (l : List ℕ) where
       pub bytes_next : whole ≡ (total + m) + rest (i + 1)
       bytes_next = let o : rest i ≡ m + rest (i + 1) = one in omega arith
 
-    pub bytes-end : n ≤ i → total < 18446744073709551616 → Some total ≡ within whole
+    pub bytes-end : n ≤ i → total < 18446744073709551616 → Ok total ≡ within whole
     unfolding within sum
     bytes-end h w =
         let z : rest i ≡ 0 = rw (from-none record_of 5 i n l h) in

@@ -1,16 +1,19 @@
 -- A submission as it is fed, and its own totals.
-use Rattle.std.specs.Prelude.{Bool, ◌||◌, List, [], ◌∷◌, ◌++◌, map, ℕ, ◌-◌, eqb, None, Option, Some}
+use Rattle.std.specs.Prelude.{Bool, ◌||◌, List, [], ◌∷◌, ◌++◌, map, ℕ, ◌-◌, eqb, Result, Ok, Err}
 use Rattle.machine.specs.Machine.{pick}
 use Rattle.rules.specs.Numbers.{done}
 use Rattle.kept_resources.specs.Views.{records_of}
 use Rattle.rules.specs.Month.{Finished, Totals, small, refusals, listed_error}
+use Rattle.call_errors.specs.declared.CallError.{CallError}
+use Rattle.call_errors.specs.declared.CallError.TheVariants.{TooMuch}
 
 -- an error, units, and the first rows of a table of records
 abbrev pub finished : ℕ → ℕ → ℕ → List ℕ → Finished
 finished error units count l = record { error = error; units = units; records = records_of count l }
 
-unfoldable pub within : ℕ → Option ℕ
-within n = pick (small n) (Some n) None
+-- a sum, if it stays below 2^64
+unfoldable pub within : ℕ → Result ℕ CallError
+within n = pick (small n) (Ok n) (Err TooMuch)
 
 abbrev pub good_error : ℕ → Bool
 good_error e = eqb e done || listed_error e

@@ -5,13 +5,15 @@ ghost use Rattle.std.specs.Prelude.{◌≡◌, true, ◌≤◌, ◌<◌};
 ghost use Rattle.rules.specs.Numbers.{most, writes};
 ghost use Rattle.kept_resources.specs.Views.{records_of};
 ghost use Rattle.rules.specs.Month.{sum, greatest, every, length_in, listed_kind, good_feed};
+ghost use Rattle.call_errors.specs.Answers.{answer_of};
 ghost use Rattle.month_totals.specs.Views.{totals_in, Feeds};
 ghost use Rattle.month_feed.specs.Views.{finished, within, good_error, only, place_of};
 
+use call_errors::CallError;
 use kept_records::{Records, record_row};
 use month_totals::{LARGEST, READ, TotalsWords, UNITS, WORDS, WRITTEN, merge, reaches};
 use rules::Record;
-use rules::numbers::{BACKS, BAD_FEED, CLIPS, READS, TOO_MUCH, WRITES};
+use rules::numbers::{BACKS, CLIPS, READS, WRITES};
 use widths::{u32_to_usize, u32_to_word};
 
 const FIRST_ERROR: u32 = 10;
@@ -46,8 +48,8 @@ fn length_of(kind: u32, c: Record) -> u64
     if c.kind == kind { c.length } else { 0 }
 }
 
-// The bytes of all records of a kind.
-fn bytes(records: &Records, count: usize, kind: u32) -> Option<u64>
+// The bytes of all records of a kind, if they stay below 2^64.
+fn bytes(records: &Records, count: usize, kind: u32) -> Result<u64, CallError>
     requires { count ≤ most }
     ensures { result ≡ within (sum (length_in kind) (records_of count records.now)) }
 {
@@ -55,11 +57,11 @@ fn bytes(records: &Records, count: usize, kind: u32) -> Option<u64>
     for i in 0..count {
         let n = length_of(kind, record_row(records, i));
         if reaches(total, n) {
-            return None;
+            return Err(CallError::TooMuch);
         }
         total += n;
     }
-    Some(total)
+    Ok(total)
 }
 
 // The largest write of one record.
@@ -114,23 +116,23 @@ fn single(error: u32, units: u32, read: u64, written: u64, top: u64) -> TotalsWo
     one
 }
 
-// Feeds one submission. Answers 0; 10 for an unlisted error or kind, more than 64 records, or records beside an error; else 9 if a total
-// would reach 2^64. Refused, it counts nothing.
-pub fn feed(totals: &mut TotalsWords, error: u32, units: u32, count: u32, records: &Records) -> u32
-    ensures { Feeds totals.old (finished error units count records.now) result totals.new }
+// Feeds one submission. A bad feed is one with an unlisted error or kind, more than 64 records, or records beside an error; else it is too
+// much if a total would reach 2^64. Refused, it counts nothing.
+pub fn feed(
+    totals: &mut TotalsWords,
+    error: u32,
+    units: u32,
+    count: u32,
+    records: &Records,
+) -> Result<(), CallError>
+    ensures { Feeds totals.old (finished error units count records.now) (answer_of result) totals.new }
 {
     if !is_good(error, count, records) {
-        return BAD_FEED;
+        return Err(CallError::BadFeed);
     }
     let n = u32_to_usize(count);
-    let reads = bytes(records, n, READS);
-    let Some(read) = reads else {
-        return TOO_MUCH;
-    };
-    let writes = bytes(records, n, WRITES);
-    let Some(written) = writes else {
-        return TOO_MUCH;
-    };
+    let read = bytes(records, n, READS)?;
+    let written = bytes(records, n, WRITES)?;
     let one = single(error, units, read, written, largest(records, n));
     merge(totals, &one)
 }

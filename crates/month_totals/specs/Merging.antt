@@ -1,5 +1,5 @@
 -- Two totals merged, word by word. Assumes nothing.
-use Rattle.std.specs.Prelude.{◌≡◌, Bool, true, not, List, ℕ, ◌+◌, ◌-◌, ◌≤◌, ◌<◌, max, ltb, take, drop, set, replicate}
+use Rattle.std.specs.Prelude.{◌≡◌, Bool, true, not, List, ℕ, ◌+◌, ◌≤◌, ◌<◌, max, ltb, take, drop, set, replicate}
 use Rattle.std.proofs.Math.Path.{refl, sym, ap}
 use Rattle.std.proofs.Common.{◌∙◌, arith, rules, get_or-take, length-take-le, take_all, take_at, get_or-set_same}
 use Rattle.std.proofs.Math.Bool.{false}

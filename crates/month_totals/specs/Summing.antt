@@ -4,7 +4,7 @@ use Rattle.std.proofs.Common.{ap, add-one, arith, drop_of_length-le}
 use Rattle.std.specs.Prelude.{Bool, ◌&&◌, length, get_or, drop}
 use Rattle.std.proofs.Math.Bool.{true, false}
 use mathlib.Core.List.{List, [], ◌∷◌}
-use Prim.Native.Nat.{ℕ, zero, suc, ◌+◌, ◌-◌, ◌≤◌, ◌<◌}
+use Prim.Native.Nat.{ℕ, zero, suc, ◌+◌, ◌≤◌, ◌<◌}
 use Rattle.std.proofs.Math.Seq.{drop-cons}
 use Rattle.rules.specs.Month.{every, added}
 

@@ -5,9 +5,10 @@
 ghost use Rattle.std.specs.Prelude.{◌≡◌, true, not, ◌+◌, take, get_or};
 ghost use Rattle.rules.specs.Lists.{over};
 ghost use Rattle.rules.specs.Month.{small, below, joined, added};
+ghost use Rattle.call_errors.specs.Answers.{answer_of};
 ghost use Rattle.month_totals.specs.Views.{totals_in, Zeroes, Merges};
 
-use rules::numbers::{DONE, TOO_MUCH};
+use call_errors::CallError;
 use widths::{beyond, u32_to_usize};
 
 pub type TotalsWords = [u64; 26];
@@ -64,16 +65,16 @@ fn add(a: &mut TotalsWords, b: &TotalsWords)
     }
 }
 
-// Adds the second totals to the first. Answers 0, or 9 if a sum would reach 2^64; then the first are unchanged.
-pub fn merge(a: &mut TotalsWords, b: &TotalsWords) -> u32
-    ensures { Merges a.old (totals_in b.now) result a.new }
+// Adds the second totals to the first, but too much where a sum would reach 2^64; then the first are unchanged.
+pub fn merge(a: &mut TotalsWords, b: &TotalsWords) -> Result<(), CallError>
+    ensures { Merges a.old (totals_in b.now) (answer_of result) a.new }
 {
     if !fit(a, b) {
-        return TOO_MUCH;
+        return Err(CallError::TooMuch);
     }
     add(a, b);
     a[LARGEST] = a[LARGEST].max(b[LARGEST]);
-    DONE
+    Ok(())
 }
 
 // The total at a place of the published order, 0 past the last.

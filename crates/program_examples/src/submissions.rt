@@ -6,12 +6,12 @@ use crate::guest::{
     RING_SIZE, put_create, put_descriptor, put_dirty, put_entry, put_ring, put_stream, put_table,
     table_size,
 };
+use call_errors::answer;
 use device::{Device, Ran};
+use device_memory_calls::NOTHING_SPENT;
 use program_lines::Count;
 use registers::offsets;
-use rules::numbers::{
-    CREATE_BUFFER_SIZE, DESCRIPTOR_SIZE, DIRTY_RANGE_SIZE, DONE, STREAM_HEADER_SIZE,
-};
+use rules::numbers::{CREATE_BUFFER_SIZE, DESCRIPTOR_SIZE, DIRTY_RANGE_SIZE, STREAM_HEADER_SIZE};
 use rules::{CreateBuffer, Descriptor, DirtyRange, Ended, Entry};
 use std::io;
 
@@ -49,9 +49,10 @@ fn how(ended: Ended) -> &'static str {
 
 // How a run ended, and after how many units.
 fn run_line(rt: &impl Print, example: u32, r: &Ran, allowance: u16) -> io::Result<()> {
-    let how = how(r.ended);
+    let spent = r.answer.unwrap_or(NOTHING_SPENT);
+    let how = how(spent.ended);
     let units = Count {
-        count: u32::from(r.units),
+        count: u32::from(spent.units),
         noun: "unit",
     };
     println!(rt; "example {example}: run of {allowance}: {how} after {units}")
@@ -65,16 +66,14 @@ fn register_line(
     name: &str,
     offset: u32,
 ) -> io::Result<()> {
-    println!(rt; "example {example}: {name} {}", d.read(offset).value)
+    println!(rt; "example {example}: {name} {}", d.read(offset).unwrap_or(0))
 }
 
 // A record that the host gets, if it is there.
 fn record_line(rt: &impl Print, example: u32, d: Device, i: u32) -> io::Result<()> {
-    let h = d.record(i);
-    if h.answer != DONE {
+    let Ok(r) = d.record(i) else {
         return Ok(());
-    }
-    let r = h.range;
+    };
     println!(rt;
         "example {example}: record {} of handle {} in entry {}: {}, {} bytes",
         r.kind, r.handle, r.id, r.gpa, r.length
@@ -104,9 +103,9 @@ fn answer_lines(
     allowance: u16,
 ) -> io::Result<()> {
     let r = d.answer(mem, true, allowance);
-    println!(rt; "example {example}: answer good: {}", r.answer)?;
+    println!(rt; "example {example}: answer good: {}", answer(r.answer))?;
     register_line(rt, example, r.device, "completed", offsets::COMPLETED_LOW)?;
-    if r.answer == DONE {
+    if r.answer.is_ok() {
         return run_line(rt, example, &r, allowance);
     }
     run_lines(rt, example, r.device, mem, allowance)?;

@@ -9,7 +9,6 @@ use crate::input::{Cut, next_submission};
 use crate::lines::TotalLines;
 use month_feed::feed;
 use month_totals::TotalsWords;
-use rules::numbers::DONE;
 use std::io;
 use std::io::{BufRead, BufReader};
 
@@ -42,9 +41,8 @@ fn feed_all(
         let Some(s) = next_submission(input)? else {
             return Ok(());
         };
-        let answer = feed(totals, s.error, s.units, s.count, &s.records);
-        if answer != DONE {
-            println!(rt; "submission={i} answer={answer}")?;
+        if let Err(refusal) = feed(totals, s.error, s.units, s.count, &s.records) {
+            println!(rt; "submission={i} answer={}", refusal.number())?;
         }
     }
     Ok(())

@@ -1,10 +1,12 @@
 // What the operations of a desk script do: each calls the device and prints its line.
 use crate::script::Operation;
 use crate::state::{State, hash};
+use call_errors::{CallError, answer as answer_number};
 use device::{Device, Ran};
+use device_calls::ZERO_RECORD;
+use device_memory_calls::NOTHING_SPENT;
 use rules::{Ended, Form};
 use saved_move::move_form;
-use saved_save::FileSaved;
 use std::io;
 
 // What a buffer holds before a save.
@@ -27,13 +29,13 @@ fn poke(rt: &impl Print, memory: &mut [u8], address: usize, bytes: &[u8]) -> io:
 fn write_register(rt: &impl Print, device: &mut Device, offset: u32, value: u32) -> io::Result<()> {
     let w = device.write(offset, value);
     *device = w.device;
-    println!(rt; "write {}", w.answer)
+    println!(rt; "write {}", answer_number(w.answer))
 }
 
 // A register that the guest reads.
 fn read_register(rt: &impl Print, device: &Device, offset: u32) -> io::Result<()> {
     let r = device.read(offset);
-    println!(rt; "read {} {}", r.answer, r.value)
+    println!(rt; "read {} {}", answer_number(r), r.unwrap_or(0))
 }
 
 // ---- running
@@ -41,12 +43,17 @@ fn read_register(rt: &impl Print, device: &Device, offset: u32) -> io::Result<()
 // Takes the device of a run, or of an answer that runs on, and prints the line: its answer, the units and how it ended.
 fn take_ran(rt: &impl Print, device: &mut Device, call: &str, r: &Ran) -> io::Result<()> {
     *device = r.device;
-    let ended = match r.ended {
+    let spent = r.answer.unwrap_or(NOTHING_SPENT);
+    let ended = match spent.ended {
         Ended::Idle => "idle",
         Ended::Waiting => "waiting",
         Ended::Paused => "paused",
     };
-    println!(rt; "{call} {} {} {ended}", r.answer, r.units)
+    println!(rt;
+        "{call} {} {} {ended}",
+        answer_number(r.answer),
+        spent.units
+    )
 }
 
 // A run over the memory that is lent.
@@ -60,10 +67,15 @@ fn run(rt: &impl Print, device: &mut Device, memory: &mut [u8], allowance: u16) 
 // A record that the host asks for.
 fn record(rt: &impl Print, device: &Device, index: u32) -> io::Result<()> {
     let h = device.record(index);
-    let r = h.range;
+    let r = h.unwrap_or(ZERO_RECORD);
     println!(rt;
         "record {} {} {} {} {} {}",
-        h.answer, r.kind, r.handle, r.id, r.gpa, r.length
+        answer_number(h),
+        r.kind,
+        r.handle,
+        r.id,
+        r.gpa,
+        r.length
     )
 }
 
@@ -82,8 +94,18 @@ fn answer(
 // ---- saved desks (02, wishes 1 and 11)
 
 // The line of what was written: the answer, the length, and the hash of the whole buffer.
-fn say_written(rt: &impl Print, call: &str, r: FileSaved, buffer: &[u8]) -> io::Result<()> {
-    println!(rt; "{call} {} {} {}", r.answer, r.length, hash(buffer))
+fn say_written(
+    rt: &impl Print,
+    call: &str,
+    r: Result<u32, CallError>,
+    buffer: &[u8],
+) -> io::Result<()> {
+    println!(rt;
+        "{call} {} {} {}",
+        answer_number(r),
+        r.unwrap_or(0),
+        hash(buffer)
+    )
 }
 
 // A save in this form into a buffer of so many bytes.
@@ -102,7 +124,10 @@ fn save(
 fn load(rt: &impl Print, device: &mut Device, file: &[u8]) -> io::Result<()> {
     let r = device.load(file);
     *device = r.device;
-    println!(rt; "load {} {}", r.answer, r.place)
+    match r.answer {
+        Ok(()) => println!(rt; "load 0 0"),
+        Err(bad) => println!(rt; "load {} {}", CallError::from(bad).number(), bad.place),
+    }
 }
 
 // A move of a file to the other form, into a buffer of so many bytes.

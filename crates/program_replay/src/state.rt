@@ -1,6 +1,5 @@
 // The state line: every register that can be read, and the FNV-1a hash of the memory's bytes.
 use device::Device;
-use rules::numbers::DONE;
 use std::fmt;
 
 // As many registers of four bytes as there is room for below the end of the last one.
@@ -30,9 +29,8 @@ impl fmt::Display for State<'_> {
         write!(f, "state")?;
         for register in 0..REGISTERS {
             let offset = 4 * register;
-            let r = self.device.read(offset);
-            if r.answer == DONE {
-                write!(f, " {offset:x}={}", r.value)?;
+            if let Ok(value) = self.device.read(offset) {
+                write!(f, " {offset:x}={value}")?;
             }
         }
         write!(f, " memory={}", hash(self.memory))

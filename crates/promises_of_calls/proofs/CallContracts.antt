@@ -1,14 +1,16 @@
 -- The theorems of one call, said by the contracts of the methods and exports themselves: a record that is handed out, and a run of one unit.
 -- Assumes nothing.
-use Rattle.std.specs.Prelude.{◌≡◌, true, List, [], ℕ, length}
+use Rattle.std.specs.Prelude.{◌≡◌, true, List, [], ℕ, length, Result}
 use Rattle.std.proofs.Common.{ap}
 use Rattle.rules.specs.Numbers.{done, clips}
 use Rattle.rules.specs.Steps.{go}
 use Rattle.rules.specs.Calls.{call_run, call_record}
 use Rattle.run_state.specs.Views.{world_in}
 use Rattle.device_calls.specs.Views.{record_read_of}
-use Rattle.device_calls.specs.declared.RecordRead.{RecordRead}
-use Rattle.device_memory_calls.specs.Views.{Runs}
+use Rattle.call_errors.specs.Answers.{answer_of}
+use Rattle.call_errors.specs.declared.CallError.{CallError}
+use Rattle.rules.specs.declared.Record.{Record}
+use Rattle.device_memory_calls.specs.Views.{spent_beside, Runs}
 use Rattle.device_memory_calls.specs.declared.Spent.{Spent}
 use Rattle.device.specs.Views.{state_of, world_of, ran_of}
 use Rattle.device.specs.declared.Device.{Device}
@@ -29,10 +31,10 @@ use Rattle.promises_of_calls.proofs.Calls.{handed-out-in-one-entry, run-of-one-r
 -- ---- of a device that was made and called, where the record call answers 0
 
 -- `Device::record`
-pub device-record-in-one-entry : (d : Device) → MadeAndCalled by_value d → (i : ℕ) (x : RecordRead) → record_read_of x ≡ call_record (state_of d) i → x.answer ≡ done
-    → (x.range.kind ≡ clips → ⊥) → InOneEntry (state_of d) i x.range
+pub device-record-in-one-entry : (d : Device) → MadeAndCalled by_value d → (i : ℕ) (x : Result Record CallError) → record_read_of x ≡ call_record (state_of d) i → (record_read_of x).answer ≡ done
+    → ((record_read_of x).range.kind ≡ clips → ⊥) → InOneEntry (state_of d) i (record_read_of x).range
 device-record-in-one-entry d c i x k =
-    handed-out-in-one-entry i (record { of = d; over = []; said = handing x.answer x.range; leaves = d; memory = []; gives = record-gives i x k }) c
+    handed-out-in-one-entry i (record { of = d; over = []; said = handing (record_read_of x).answer (record_read_of x).range; leaves = d; memory = []; gives = record-gives i x k }) c
 
 -- `zelezmut_record`: the range is what stands in the five words
 pub export-record-in-one-entry : (d : Device) → MadeAndCalled exports d → (i n : ℕ) (words : List ℕ) → SaysRecord d.words d.records i n words → n ≡ done
@@ -46,22 +48,22 @@ module _ (d e d₁ e₁ : Device) (m n m₁ n₁ : List ℕ) (same : state_of d 
     (read : go (world_of d m) ≡ true → SameWhereRead (state_of d) m n) where
   -- `Device::run`
   pub device-run-reads-only-there : (r q : Ran) → ran_of r m₁ ≡ call_run (world_of d m) 1 → ran_of q n₁ ≡ call_run (world_of e n) 1
-      → (spending r.answer r.units r.ended ≡ spending q.answer q.units q.ended) × SameEnd m n (world_of r.device m₁) (world_of q.device n₁)
+      → (spending (ran_of r m₁).answer (ran_of r m₁).units (ran_of r m₁).ended ≡ spending (ran_of q n₁).answer (ran_of q n₁).units (ran_of q n₁).ended) × SameEnd m n (world_of r.device m₁) (world_of q.device n₁)
   unfolding world_in
   device-run-reads-only-there r q k l =
       run-of-one-reads-only-there {L = by_value}
-      (record { of = d; over = m; said = spending r.answer r.units r.ended; leaves = r.device; memory = m₁; gives = run-gives 1 r m₁ k })
-      (record { of = e; over = n; said = spending q.answer q.units q.ended; leaves = q.device; memory = n₁; gives = run-gives 1 q n₁ l })
+      (record { of = d; over = m; said = spending (ran_of r m₁).answer (ran_of r m₁).units (ran_of r m₁).ended; leaves = r.device; memory = m₁; gives = run-gives 1 r m₁ k })
+      (record { of = e; over = n; said = spending (ran_of q n₁).answer (ran_of q n₁).units (ran_of q n₁).ended; leaves = q.device; memory = n₁; gives = run-gives 1 q n₁ l })
       same len read
 
   -- the run over lent state
-  pub lent-run-reads-only-there : (x y : Spent) → Runs 1 (lent_of d m) x (lent_of d₁ m₁) → Runs 1 (lent_of e n) y (lent_of e₁ n₁)
-      → (spending x.answer x.units x.ended ≡ spending y.answer y.units y.ended) × SameEnd m n (world_of d₁ m₁) (world_of e₁ n₁)
+  pub lent-run-reads-only-there : (x y : Result Spent CallError) → Runs 1 (lent_of d m) x (lent_of d₁ m₁) → Runs 1 (lent_of e n) y (lent_of e₁ n₁)
+      → (spending (answer_of x) (spent_beside x).units (spent_beside x).ended ≡ spending (answer_of y) (spent_beside y).units (spent_beside y).ended) × SameEnd m n (world_of d₁ m₁) (world_of e₁ n₁)
   unfolding world_in
   lent-run-reads-only-there x y k l =
       run-of-one-reads-only-there {L = over_lent}
-      (record { of = d; over = m; said = spending x.answer x.units x.ended; leaves = d₁; memory = m₁; gives = lent-run 1 x d₁ m₁ k })
-      (record { of = e; over = n; said = spending y.answer y.units y.ended; leaves = e₁; memory = n₁; gives = lent-run 1 y e₁ n₁ l })
+      (record { of = d; over = m; said = spending (answer_of x) (spent_beside x).units (spent_beside x).ended; leaves = d₁; memory = m₁; gives = lent-run 1 x d₁ m₁ k })
+      (record { of = e; over = n; said = spending (answer_of y) (spent_beside y).units (spent_beside y).ended; leaves = e₁; memory = n₁; gives = lent-run 1 y e₁ n₁ l })
       same len read
 
   -- `zelezmut_run`: it returns the same number

@@ -10,7 +10,6 @@ use Rattle.promises_of_units.specs.Called.{Call, after, units_of, Called}
 use Rattle.promises_of_units.specs.Called.Call.{writes, reads, runs, records, answers}
 use Rattle.promises_of_units.specs.Called.Called.{makes, loads, calls}
 use Rattle.promises_of_units.specs.Acts.{in_a_row, acts_of}
-use Rattle.promises_of_units.specs.Acts.Act.{answer}
 use Rattle.promises_of_units.specs.Ranges.{InOneEntry}
 use Rattle.promises_of_units.proofs.Ranges.{ranges-at-the-record-call}
 use Rattle.promises_of_units.specs.Replies.{reply_to}

@@ -3,7 +3,6 @@ use Rattle.std.specs.Prelude.{◌≡◌, true, List, [], ◌∷◌, ℕ, ◌+◌
 use Rattle.std.proofs.Math.Path.{refl}
 use Rattle.std.proofs.Common.{sym, arith}
 use Rattle.rules.specs.Bytes.{bytes_of}
-use Rattle.rules.specs.Lists.{over}
 use Rattle.rules.specs.State.{State}
 use Rattle.rules.specs.Steps.{go, answered}
 use Rattle.rules.specs.Unsliced.{submitted}

@@ -7,7 +7,10 @@ use Rattle.rules.specs.Saved.{call_save}
 use Rattle.rules.specs.Loaded.{call_load, call_move}
 use Rattle.rules.specs.declared.Form.{Form}
 use Rattle.saved_save.specs.Views.{saved_of, Saves}
-use Rattle.saved_save.specs.declared.FileSaved.{FileSaved}
+use Rattle.std.specs.Prelude.{Result}
+use Rattle.std.specs.Result.{result_unwrap_or}
+use Rattle.call_errors.specs.Answers.{answer_of}
+use Rattle.call_errors.specs.declared.CallError.{CallError}
 use Rattle.device.specs.Views.{state_of}
 use Rattle.device.specs.declared.Device.{Device}
 use Rattle.export_numbers.specs.Numbers.{said_beside}
@@ -27,7 +30,7 @@ use Rattle.promises_of_units.specs.Asked.{Asked, left, left_all}
 use Rattle.promises_of_calls.specs.Layers.{Layer}
 use Rattle.promises_of_calls.specs.ByValue.{by_value}
 use Rattle.promises_of_calls.specs.OverLent.{over_lent, with_loaded}
-use Rattle.promises_of_calls.specs.Exports.{Said, said, Gives, exports}
+use Rattle.promises_of_calls.specs.Exports.{said, exports}
 use Rattle.promises_of_calls.specs.Calls.{MadeAndCalled}
 use Rattle.promises_of_calls.proofs.Calls.{made_and_called}
 use Rattle.promises_of_calls.specs.Calls.MadeAndCalled.{loaded-one}
@@ -147,15 +150,15 @@ exports-hear-the-same {d = d} {e = e} {d' = d'} {e' = e'} {qs = qs} p q a b same
 module _ (d e : Device) (w : OfWords d.words) (a : OfWords d.first) (b : OfWords d.second) (ft : OfWords d.firsttokens) (st : OfWords d.secondtokens)
     (f : Form) (buffer buffer' : List ℕ) where
   -- `Device::save` and `Device::load`
-  pub a-saved-device-goes-on-elsewhere : MadeAndCalled by_value d → (x : FileSaved) → saved_of x buffer' ≡ call_save f (state_of d) buffer → x.answer ≡ done
-      → by_value.Loads (take x.length buffer') e
+  pub a-saved-device-goes-on-elsewhere : MadeAndCalled by_value d → (x : Result ℕ CallError) → saved_of x buffer' ≡ call_save f (state_of d) buffer → answer_of x ≡ done
+      → by_value.Loads (take (result_unwrap_or x 0) buffer') e
       → {d' e' : Device} {qs : List Lends} {xs ys : List (Leaves by_value)} → Goes by_value e qs xs e' → Goes by_value d qs ys d' → SameCourse by_value xs ys e' d'
   a-saved-device-goes-on-elsewhere c x s z l p q =
-      same-devices-same-course p q (loaded-one (take x.length buffer') l) c (device-saved-and-loaded d e w a b ft st f buffer buffer' c x s z l)
+      same-devices-same-course p q (loaded-one (take (result_unwrap_or x 0) buffer') l) c (device-saved-and-loaded d e w a b ft st f buffer buffer' c x s z l)
 
   -- over lent state
-  pub a-lent-desk-goes-on-elsewhere : MadeAndCalled over_lent d → (x : FileSaved)
-      → Saves f d.words d.first d.second d.firsttokens d.secondtokens buffer x buffer' → x.answer ≡ done → over_lent.Loads (take x.length buffer') e
+  pub a-lent-desk-goes-on-elsewhere : MadeAndCalled over_lent d → (x : Result ℕ CallError)
+      → Saves f d.words d.first d.second d.firsttokens d.secondtokens buffer x buffer' → answer_of x ≡ done → over_lent.Loads (take (result_unwrap_or x 0) buffer') e
       → {d' e' : Device} {qs : List Lends} {xs ys : List (Leaves over_lent)} → Goes over_lent e qs xs e' → Goes over_lent d qs ys d' → SameCourse over_lent xs ys e' d'
   a-lent-desk-goes-on-elsewhere c x s z l p q =
-      same-devices-same-course p q (loaded-one (take x.length buffer') l) c (lent-saved-and-loaded d e w a b ft st f buffer buffer' c x s z l)
+      same-devices-same-course p q (loaded-one (take (result_unwrap_or x 0) buffer') l) c (lent-saved-and-loaded d e w a b ft st f buffer buffer' c x s z l)

@@ -2,10 +2,8 @@
 use Rattle.std.specs.Prelude.{◌≡◌, List, ℕ, ◌/◌, take}
 use Rattle.rules.specs.Numbers.{done}
 use Rattle.rules.specs.declared.Form.{Form}
-use Rattle.device.specs.Views.{state_of}
 use Rattle.device.specs.declared.Device.{Device}
 use Rattle.zelezmut.specs.Said.{SaysSaved}
-use Rattle.promises_of_saving.specs.SameDevice.{SameDevice}
 use Rattle.promises_of_units.specs.Asked.{Asked}
 use Rattle.promises_of_calls.specs.Exports.{exports}
 use Rattle.promises_of_calls.specs.Calls.{MadeAndCalled}

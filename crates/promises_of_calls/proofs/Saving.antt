@@ -1,7 +1,7 @@
 -- The theorems of specs/Saving.antt, and what they rest on. Assumes nothing.
 use Rattle.std.specs.Prelude.{◌≡◌, Bool, true, false, List, get_or, take}
 use Rattle.std.proofs.Common.{sym, ap, subst, ◌∙◌}
-use Prim.Native.Nat.{ℕ, zero, suc, ◌+◌, ◌*◌, ◌/◌, ◌≤◌, ◌<◌}
+use Prim.Native.Nat.{ℕ, zero, suc, ◌+◌, ◌*◌, ◌/◌, ◌<◌}
 use native.Mathlib.Omega.{arith}
 use Rattle.machine.specs.Machine.{pick}
 use Rattle.rules.specs.Numbers.{done}
@@ -14,7 +14,10 @@ use Rattle.kept_resources.specs.Views.{resource_of_row}
 use Rattle.kept_tokens.specs.Views.{token_of_row}
 use Rattle.run_state.specs.Views.{world_in, count_in, token_count_in, side_in, token_side_in}
 use Rattle.saved_save.specs.Views.{saved_of, Saves}
-use Rattle.saved_save.specs.declared.FileSaved.{FileSaved}
+use Rattle.std.specs.Prelude.{Result}
+use Rattle.std.specs.Result.{result_unwrap_or}
+use Rattle.call_errors.specs.Answers.{answer_of}
+use Rattle.call_errors.specs.declared.CallError.{CallError}
 use Rattle.device.specs.Views.{state_of}
 use Rattle.device.specs.declared.Device.{Device}
 use Rattle.zelezmut.specs.Said.{SaysSaved}
@@ -91,18 +94,18 @@ module _ (d e : Device) (w : OfWords d.words) (a : OfWords d.first) (b : OfWords
   fitting = what-stands-in-words-fits d w a b ft st
 
   -- `Device::save` and `Device::load`
-  pub device-saved-and-loaded : MadeAndCalled by_value d → (x : FileSaved) → saved_of x buffer' ≡ call_save f (state_of d) buffer → x.answer ≡ done
-      → by_value.Loads (take x.length buffer') e → SameDevice (state_of e) (state_of d)
+  pub device-saved-and-loaded : MadeAndCalled by_value d → (x : Result ℕ CallError) → saved_of x buffer' ≡ call_save f (state_of d) buffer → answer_of x ≡ done
+      → by_value.Loads (take (result_unwrap_or x 0) buffer') e → SameDevice (state_of e) (state_of d)
   device-saved-and-loaded c x k z =
-      read_back by_value d e f buffer c fitting (take x.length buffer') (sym (ap (λ (y : Saved). y.answer) k) ∙ z) (ap (λ (y : Saved). take y.length y.buffer) k)
+      read_back by_value d e f buffer c fitting (take (result_unwrap_or x 0) buffer') (sym (ap (λ (y : Saved). y.answer) k) ∙ z) (ap (λ (y : Saved). take y.length y.buffer) k)
 
   -- the save and the load over lent state
-  pub lent-saved-and-loaded : MadeAndCalled over_lent d → (x : FileSaved)
-      → Saves f d.words d.first d.second d.firsttokens d.secondtokens buffer x buffer' → x.answer ≡ done
-      → over_lent.Loads (take x.length buffer') e → SameDevice (state_of e) (state_of d)
+  pub lent-saved-and-loaded : MadeAndCalled over_lent d → (x : Result ℕ CallError)
+      → Saves f d.words d.first d.second d.firsttokens d.secondtokens buffer x buffer' → answer_of x ≡ done
+      → over_lent.Loads (take (result_unwrap_or x 0) buffer') e → SameDevice (state_of e) (state_of d)
   lent-saved-and-loaded c x s z =
       let k : saved_of x buffer' ≡ call_save f (state_of d) buffer = s.saves d.entries d.records in
-      read_back over_lent d e f buffer c fitting (take x.length buffer') (sym (ap (λ (y : Saved). y.answer) k) ∙ z) (ap (λ (y : Saved). take y.length y.buffer) k)
+      read_back over_lent d e f buffer c fitting (take (result_unwrap_or x 0) buffer') (sym (ap (λ (y : Saved). y.answer) k) ∙ z) (ap (λ (y : Saved). take y.length y.buffer) k)
 
   -- `zelezmut_save` or `zelezmut_save_form_2`, and `zelezmut_load`: a save whose number is below 2^32 answered 0, and is the length
   pub export-saved-and-loaded : MadeAndCalled exports d → (n : ℕ)

@@ -17,7 +17,7 @@ use Rattle.rules.specs.declared.Stream.{Stream}
 use Rattle.rules.specs.declared.ImportSurface.{ImportSurface}
 use Rattle.rules.specs.declared.Packet.TheVariants.{Import}
 use Rattle.promises_of_packets.specs.Held.{Every}
-use Rattle.promises_of_units.specs.Called.{Call, after, is_reset}
+use Rattle.promises_of_units.specs.Called.{Call, after}
 use Rattle.promises_of_units.specs.Called.Call.{runs}
 use Rattle.promises_of_units.specs.Acts.{NoReset}
 use Rattle.promises_of_units.specs.Runs.{of-run}

@@ -1,6 +1,6 @@
 -- The calls of the device by value, as a layer: each is a method of `Device` that was called, with what its contract says of what it handed
 -- back. Assumes nothing.
-use Rattle.std.specs.Prelude.{◌≡◌, refl, Bool, List, ℕ}
+use Rattle.std.specs.Prelude.{◌≡◌, refl, Bool, List, ℕ, Result}
 use Rattle.std.proofs.Common.{sym, ap, ◌∙◌}
 use Rattle.rules.specs.State.{World, made}
 use Rattle.rules.specs.Calls.{Wrote as WroteBy, Value, Ran as RanBy, RecordRead as RecordReadBy, call_write, call_read, call_run, call_record, call_answer}
@@ -9,8 +9,9 @@ use Rattle.rules.specs.Lists.Found.{none}
 use Rattle.rules.specs.Loaded.{Loaded as LoadedBy, bad_place, loaded, call_load}
 use Rattle.run_state.specs.Views.{world_in}
 use Rattle.device_calls.specs.Views.{value_of, record_read_of}
-use Rattle.device_calls.specs.declared.ValueRead.{ValueRead}
-use Rattle.device_calls.specs.declared.RecordRead.{RecordRead}
+use Rattle.rules.specs.declared.Record.{Record}
+use Rattle.call_errors.specs.declared.CallError.{CallError}
+use Rattle.saved_load.specs.Views.{load_answer}
 use Rattle.device.specs.Views.{state_of, world_of, wrote_of, ran_of, loaded_of}
 use Rattle.device.specs.declared.Device.{Device}
 use Rattle.device.specs.declared.Wrote.{Wrote}
@@ -25,12 +26,12 @@ use Rattle.promises_of_calls.specs.Layers.{Layer}
 
 -- a device with memory m beside it, a call of it, its reply, and the device and memory after it
 pub data Gives (d : Device) (m : List ℕ) : Call → Reply → Device → List ℕ → Type 0 where
-  write-gives : (offset v : ℕ) (r : Wrote) → wrote_of r ≡ call_write (state_of d) offset v → Gives d m (writes offset v) (answering r.answer) r.device m
-  read-gives : (offset : ℕ) (x : ValueRead) → value_of x ≡ call_read (state_of d) offset → Gives d m (reads offset) (showing x.answer x.value) d m
-  run-gives : (n : ℕ) (r : Ran) (m' : List ℕ) → ran_of r m' ≡ call_run (world_of d m) n → Gives d m (runs n) (spending r.answer r.units r.ended) r.device m'
-  record-gives : (i : ℕ) (x : RecordRead) → record_read_of x ≡ call_record (state_of d) i → Gives d m (records i) (handing x.answer x.range) d m
+  write-gives : (offset v : ℕ) (r : Wrote) → wrote_of r ≡ call_write (state_of d) offset v → Gives d m (writes offset v) (answering (wrote_of r).answer) r.device m
+  read-gives : (offset : ℕ) (x : Result ℕ CallError) → value_of x ≡ call_read (state_of d) offset → Gives d m (reads offset) (showing (value_of x).answer (value_of x).value) d m
+  run-gives : (n : ℕ) (r : Ran) (m' : List ℕ) → ran_of r m' ≡ call_run (world_of d m) n → Gives d m (runs n) (spending (ran_of r m').answer (ran_of r m').units (ran_of r m').ended) r.device m'
+  record-gives : (i : ℕ) (x : Result Record CallError) → record_read_of x ≡ call_record (state_of d) i → Gives d m (records i) (handing (record_read_of x).answer (record_read_of x).range) d m
   answer-gives : (good : Bool) (n : ℕ) (r : Ran) (m' : List ℕ) → ran_of r m' ≡ call_answer (world_of d m) good n
-      → Gives d m (answers good n) (spending r.answer r.units r.ended) r.device m'
+      → Gives d m (answers good n) (spending (ran_of r m').answer (ran_of r m').units (ran_of r m').ended) r.device m'
 
 -- `Device::new` handed it back
 abbrev pub Makes : ℕ → Device → Type 0
@@ -41,7 +42,7 @@ pub record Loads (b : List ℕ) (d : Device) : Type 0 where
   pub before : Device
   pub reply : Loaded
   pub loads : loaded_of reply ≡ call_load (state_of before) b
-  pub answered : reply.answer ≡ done
+  pub answered : load_answer reply.answer ≡ done
   pub leaves : reply.device ≡ d
 
 -- the file is good, and the device is what it says

@@ -4,7 +4,7 @@ use Rattle.std.specs.Prelude.{◌≡◌, Bool, List, [], ◌∷◌, ℕ, eqb}
 use Rattle.std.proofs.Math.Path.{refl, ap}
 use Rattle.std.proofs.Common.{sym, ◌∙◌}
 use Rattle.machine.specs.Machine.{pick}
-use Rattle.rules.specs.Numbers.{done, clips}
+use Rattle.rules.specs.Numbers.{done}
 use Rattle.rules.specs.State.{State, World}
 use Rattle.rules.specs.Calls.{call_run, call_record, call_answer}
 use Rattle.promises_of_units.specs.Called.{Call, after, units_of, taken_by}

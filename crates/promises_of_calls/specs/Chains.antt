@@ -18,7 +18,7 @@ use Rattle.promises.specs.Slicing.{is_write, NoWrite}
 use Rattle.promises_of_units.specs.Runs.{of-run, of-answer}
 use Rattle.promises_of_units.specs.Called.{Call, after, units_of, taken_by, after_all, units_of_all, taken_by_all}
 use Rattle.promises_of_units.specs.Called.Call.{writes, reads, runs, records, answers}
-use Rattle.promises_of_units.specs.Acts.{Act, acts_of_all, NoReset}
+use Rattle.promises_of_units.specs.Acts.{Act, acts_of_all}
 use Rattle.promises_of_calls.specs.Layers.{taken_in, Layer, standing}
 use Rattle.promises_of_calls.specs.Calls.{acts_in, MadeAndCalled}
 use Rattle.promises_of_calls.specs.Calls.MadeAndCalled.{called-one}

@@ -6,7 +6,7 @@ use Rattle.rules.specs.Numbers.{done}
 use Rattle.rules.specs.Lists.Found.{none}
 use Rattle.rules.specs.Loaded.{Loaded, bad_place, loaded, call_load}
 use Rattle.rules.specs.State.{World}
-use Rattle.rules.specs.Calls.{ended_number, Ran, call_run, call_record, call_answer}
+use Rattle.rules.specs.Calls.{ended_number, Wrote, Ran, call_run, call_record, call_answer}
 use Rattle.rules.specs.declared.Record.{Record}
 use Rattle.rules.specs.declared.Ended.{Ended}
 use Rattle.rules.specs.declared.Ended.TheVariants.{Idle, Waiting, Paused}
@@ -25,8 +25,7 @@ use Rattle.promises_of_units.specs.Runs.{of-run, of-answer}
 use Rattle.promises_of_units.specs.Replies.{Reply, reply_to}
 use Rattle.promises_of_submissions.specs.Locality.{lent}
 use Rattle.promises_of_calls.specs.Layers.{Layer}
-use Rattle.promises_of_calls.specs.OverLent.{with_words, lent_of, over_lent, with_loaded}
-use Rattle.promises_of_calls.specs.OverLent.Gives.{lent-write}
+use Rattle.promises_of_calls.specs.OverLent.{with_words, lent_of, with_loaded}
 
 -- the number that an export returns, and the words that it says a record in
 pub record Said : Type 0 where
@@ -99,7 +98,7 @@ answered-read good n w = omega (arith, ended-small (call_answer w good n).ended,
 pub gives-reply : (d : Device) (m : List ℕ) (c : Call) (x : Said) (d' : Device) (m' : List ℕ) → Gives d m c x d' m' → x ≡ said c (reply_to c (lent (state_of d) m))
 unfolding reply_to world_in
 gives-reply d m c x d' m' (zelezmut-write offset v answer s' k) =
-    ap (λ (r : Reply). returning r.answer) (over_lent.gives-reply d m _ _ _ _ (lent-write offset v answer s' k))
+    ap (λ (r : Wrote). returning r.answer) (k.wrote d.entries d.first d.second d.firsttokens d.secondtokens d.records)
 gives-reply d m c x d' m' (zelezmut-read offset n k) = ap returning (k.value d.entries d.first d.second d.firsttokens d.secondtokens d.records)
 gives-reply d m c x d' m' (zelezmut-run allowance n e n' k) = ap returning k.spent
 gives-reply d m c x d' m' (zelezmut-record i n words k) =
@@ -110,7 +109,8 @@ gives-reply d m c x d' m' (zelezmut-answer good allowance n e n' k) = ap returni
 -- and it leaves what the rules' call leaves
 pub gives-world : (d : Device) (m : List ℕ) (c : Call) (x : Said) (d' : Device) (m' : List ℕ) → Gives d m c x d' m' → lent (state_of d') m' ≡ after c (lent (state_of d) m)
 unfolding after world_in
-gives-world d m c x d' m' (zelezmut-write offset v answer s' k) = over_lent.gives-world d m _ _ _ _ (lent-write offset v answer s' k)
+gives-world d m c x d' m' (zelezmut-write offset v answer s' k) =
+    ap (λ (r : Wrote). lent r.state m) (k.wrote d.entries d.first d.second d.firsttokens d.secondtokens d.records)
 gives-world d m c x d' m' (zelezmut-read offset n k) = refl
 gives-world d m c x d' m' (zelezmut-run allowance n e n' k) = k.world
 gives-world d m c x d' m' (zelezmut-record i n words k) = refl

@@ -9,7 +9,7 @@ use Rattle.promises_of_units.specs.Called.{Call}
 use Rattle.promises_of_units.specs.Replies.{reply_to}
 use Rattle.promises_of_units.specs.Asked.{Asked}
 use Rattle.promises_of_same_desks.specs.ForEver.{Told}
-use Rattle.promises_of_leftovers.specs.Matter.{replies_of, AgreeOnListed}
+use Rattle.promises_of_leftovers.specs.Matter.{replies_of}
 use Rattle.promises_of_calls.specs.Layers.{Layer, standing}
 use Rattle.promises_of_calls.specs.Chains.{Chain}
 use Rattle.promises_of_calls.specs.Chains.Chain.{no_call, call_then}

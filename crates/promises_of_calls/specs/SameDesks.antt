@@ -8,7 +8,6 @@ use Rattle.device.specs.Views.{state_of}
 use Rattle.device.specs.declared.Device.{Device}
 use Rattle.export_numbers.specs.Numbers.{said_beside}
 use Rattle.zelezmut.specs.Said.{SaysSaved, SaysLoaded, SaysMoved}
-use Rattle.promises_of_saving.specs.SameDevice.{SameDevice}
 use Rattle.promises_of_units.specs.Called.{Call}
 use Rattle.promises_of_units.specs.Replies.{Reply}
 use Rattle.promises_of_same_desks.specs.Desks.{SameDesk}
@@ -18,8 +17,7 @@ use Rattle.promises_of_units.specs.Asked.Asked.{calls, saves, loads, moves}
 use Rattle.promises_of_same_desks.specs.ForEver.Told.{replied, filed, judged}
 use Rattle.promises_of_calls.specs.Layers.{Layer}
 use Rattle.promises_of_calls.specs.OverLent.{with_loaded}
-use Rattle.promises_of_calls.specs.Exports.{Said, said, returning, Gives, exports}
-use Rattle.promises_of_calls.specs.Calls.{MadeAndCalled}
+use Rattle.promises_of_calls.specs.Exports.{Said, said, returning, Gives}
 
 -- a call, and the memory that it is lent
 pub record Lends : Type 0 where

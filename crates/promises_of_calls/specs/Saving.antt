@@ -1,7 +1,7 @@
 -- 02, wishes 1 and 11, of the calls themselves: a device that was saved in either form, by value, over lent state or by the exports, and loaded
 -- elsewhere is the same device. Its numbers fit the fields of a file, since they stand in words. Assumes nothing.
 use Rattle.std.specs.Prelude.{Bool, true, false, List, eqb, get_or}
-use Prim.Native.Nat.{ℕ, ◌%◌, ◌^◌, ◌≤◌, ◌<◌}
+use Prim.Native.Nat.{ℕ, ◌%◌, ◌^◌, ◌<◌}
 use native.Mathlib.Omega.{arith}
 use Rattle.machine.specs.Machine.{pick}
 use Rattle.rules.specs.declared.Kind.TheVariants.{Buffer, Texture}

@@ -4,10 +4,11 @@
 ghost use Rattle.std.specs.Prelude.{◌≡◌, not, ◌&&◌};
 ghost use Rattle.rules.specs.Registers.{with_low, with_high, bit_of};
 ghost use Rattle.run_state.specs.Views.{set_in};
+ghost use Rattle.call_errors.specs.Answers.{answer_of};
 ghost use Rattle.register_writes.specs.Views.{Controls, Acks, Writes};
 
+use call_errors::CallError;
 use registers::{HALF, offsets};
-use rules::numbers::{DONE, NO_REGISTER};
 use run_state::{
     COMPLETED, DOORBELL, ENABLED, FAILED, FENCE_PAGE, FENCED, IRQ_ENABLE, LIVE, RING, RING_SIZE,
     TOKENS, Words, flag, rest,
@@ -74,48 +75,22 @@ fn acknowledge(words: &mut Words, value: u32)
     words[FAILED] = failed;
 }
 
-// Writes a register: the call's answer.
-pub fn write(words: &mut Words, offset: u32, value: u32) -> u32
-    ensures { Writes words.old offset value result words.new }
+// Writes a register, if one at this offset is written.
+pub fn write(words: &mut Words, offset: u32, value: u32) -> Result<(), CallError>
+    ensures { Writes words.old offset value (answer_of result) words.new }
 {
     let all = &words[..];
     match offset {
-        offsets::RING_LOW => {
-            words[RING] = with_low(value, words[RING]);
-            DONE
-        }
-        offsets::RING_HIGH => {
-            words[RING] = with_high(value, words[RING]);
-            DONE
-        }
-        offsets::RING_SIZE => {
-            words[RING_SIZE] = u32_to_word(value);
-            DONE
-        }
-        offsets::CONTROL => {
-            control(words, value);
-            DONE
-        }
-        offsets::PAGE_LOW => {
-            words[FENCE_PAGE] = with_low(value, words[FENCE_PAGE]);
-            DONE
-        }
-        offsets::PAGE_HIGH => {
-            words[FENCE_PAGE] = with_high(value, words[FENCE_PAGE]);
-            DONE
-        }
-        offsets::DOORBELL => {
-            words[DOORBELL] = 1;
-            DONE
-        }
-        offsets::IRQ_ENABLE => {
-            words[IRQ_ENABLE] = u32_to_word(value);
-            DONE
-        }
-        offsets::IRQ_ACK => {
-            acknowledge(words, value);
-            DONE
-        }
-        _ => NO_REGISTER,
+        offsets::RING_LOW => words[RING] = with_low(value, words[RING]),
+        offsets::RING_HIGH => words[RING] = with_high(value, words[RING]),
+        offsets::RING_SIZE => words[RING_SIZE] = u32_to_word(value),
+        offsets::CONTROL => control(words, value),
+        offsets::PAGE_LOW => words[FENCE_PAGE] = with_low(value, words[FENCE_PAGE]),
+        offsets::PAGE_HIGH => words[FENCE_PAGE] = with_high(value, words[FENCE_PAGE]),
+        offsets::DOORBELL => words[DOORBELL] = 1,
+        offsets::IRQ_ENABLE => words[IRQ_ENABLE] = u32_to_word(value),
+        offsets::IRQ_ACK => acknowledge(words, value),
+        _ => return Err(CallError::NoRegister),
     }
+    Ok(())
 }

@@ -1,6 +1,6 @@
 -- What the functions of this crate ask for: a law for each way to a return, with the tests on the way as its premises.
 -- Assumes nothing.
-use Rattle.std.specs.Prelude.{◌≡◌, refl, ℕ, ◌+◌, ◌*◌, ◌≤◌, get_or, None, Some}
+use Rattle.std.specs.Prelude.{◌≡◌, refl, ℕ, ◌+◌, ◌*◌, ◌≤◌, get_or, Option, Some, None}
 use Rattle.std.proofs.Common.{sym, rules, eq-eqb, ne_eqb}
 use mathlib.Core.List.{List, [], ◌∷◌}
 use Rattle.rules.specs.Lists.{lookup}

@@ -39,7 +39,7 @@ pub fn status(words: &Words) -> u32
     bit(words[FENCED]) + 2 * bit(words[FAILED])
 }
 
-// The register at an offset.
+// What the register at an offset shows; none stands at the others.
 pub fn read(words: &Words, offset: u32) -> Option<u32>
     ensures { result ≡ shown (register (registers_in words.now) offset) }
 {

@@ -1,6 +1,6 @@
 -- What loading asks: the sections of a good file, and either end of the call. Assumes nothing.
 use Rattle.std.proofs.Math.Path.{◌≡◌}
-use Rattle.std.specs.Prelude.{refl, List, ℕ, ◌-◌, ◌≤◌, length, take, drop, Err, Ok}
+use Rattle.std.specs.Prelude.{refl, List, ℕ, ◌-◌, ◌≤◌, length, take, drop, Ok, Err}
 use Rattle.std.proofs.Common.{sym, ◌∙◌, arith, rules}
 use Rattle.rules.specs.Lists.{Found}
 use Rattle.rules.specs.Lists.Found.{none, found}
@@ -40,7 +40,7 @@ no-bad none e = refl
 no-bad (found p) e = cc
 
 module _ (b s a ft : List ℕ) (x : FileCheck) (is : x ≡ checked (bad_place b)) where
-  pub refuses-file : (place : ℕ) → x ≡ Err place → Loads b s a ft s a ft (record { answer = 7; place = place })
+  pub refuses-file : (place : ℕ) → x ≡ Err place → Loads b s a ft s a ft (Err (record { place = place }))
   unfolding call_load
   refuses-file place q =
       record {
@@ -52,7 +52,7 @@ module _ (b s a ft : List ℕ) (x : FileCheck) (is : x ≡ checked (bad_place b)
   pub is-good-file : x ≡ Ok tt → GoodFile b
   is-good-file q = good-file b (sym is ∙ q)
 
-  pub takes-file : (s' a' ft' : List ℕ) → x ≡ Ok tt → LoadsGood b s' a' ft' → Loads b s a ft s' a' ft' (record { answer = 0; place = 0 })
+  pub takes-file : (s' a' ft' : List ℕ) → x ≡ Ok tt → LoadsGood b s' a' ft' → Loads b s a ft s' a' ft' (Ok tt)
   unfolding call_load
   takes-file s' a' ft' q l =
       record {

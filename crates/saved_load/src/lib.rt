@@ -1,22 +1,31 @@
 // Loading: a device that was saved is read back from a file of either form, in place. A bad file changes nothing.
 #![tactic(auto)]
 
+ghost use Rattle.std.specs.Prelude.{◌≡◌};
+ghost use Rattle.call_errors.specs.declared.CallError.TheVariants.{BadFile as bad_file};
 ghost use Rattle.saved_fields.specs.Good.{GoodFile};
 ghost use Rattle.saved_load.specs.Views.{LoadsGood, Loads};
 
+use call_errors::CallError;
 use kept_resources::resources::Resources;
 use kept_tokens::Tokens;
-use rules::numbers::{BAD_FILE, DONE};
 use run_state::Words;
 use saved_check::check_file;
 use saved_forms::{before_sections, form_in};
 use saved_load_sections::load_sections;
 
-// What a load answers, and the place of the first field that breaks a rule, 0 where none does.
-#[derive(Clone, Copy)]
-pub struct FileLoaded {
-    pub answer: u32,
+// Why a file is not loaded: the place of the first field or byte that breaks a rule.
+#[derive(Clone, Copy, Debug, PartialEq, Eq)]
+pub struct BadFile {
     pub place: u32,
+}
+
+impl From<BadFile> for CallError {
+    ghost from_gives = { λ _ e. e ≡ bad_file };
+
+    fn from(_file: BadFile) -> CallError {
+        CallError::BadFile
+    }
 }
 
 // A good file's device.
@@ -36,20 +45,14 @@ pub fn load(
     first: &mut Resources,
     firsttokens: &mut Tokens,
     file: &[u8],
-) -> FileLoaded
+) -> Result<(), BadFile>
     ensures { Loads file.now words.old first.old firsttokens.old words.new first.new firsttokens.new result }
 {
     match check_file(file) {
-        Err(place) => FileLoaded {
-            answer: BAD_FILE,
-            place,
-        },
+        Err(place) => Err(BadFile { place }),
         Ok(()) => {
             load_good(words, first, firsttokens, file);
-            FileLoaded {
-                answer: DONE,
-                place: 0,
-            }
+            Ok(())
         }
     }
 }

@@ -2,41 +2,46 @@
 use Rattle.std.proofs.Math.Path.{◌≡◌, refl, sym, ap}
 use Rattle.std.proofs.Common.{◌∙◌, arith, rules}
 use mathlib.Core.List.{List, []}
-use Rattle.std.specs.Prelude.{ℕ}
+use Rattle.std.specs.Prelude.{ℕ, Result, Ok, Err, ⊤}
+use Rattle.std.specs.Result.{IsErrAnd}
+use Rattle.std.proofs.lemmas.Result.{err_from_is_err_and}
 use Rattle.rules.specs.Numbers.{done, bad_file}
 use Rattle.rules.specs.Lists.{Found}
 use Rattle.rules.specs.Lists.Found.{none, found}
-use Rattle.rules.specs.Saved.{not_saved, call_save}
 use Rattle.rules.specs.Loaded.{Loaded, loaded, form_in, other_form, bad_place, call_load, call_move}
 use Rattle.rules.specs.declared.Form.{Form}
 use Rattle.run_state.specs.Views.{state_in}
-use Rattle.saved_load.specs.Views.{Loads}
-use Rattle.saved_load.specs.declared.FileLoaded.{FileLoaded}
+use Rattle.saved_load.specs.Views.{load_answer, Loads}
+use Rattle.saved_load.specs.declared.BadFile.{BadFile}
 use Rattle.saved_save.specs.Views.{saved_of, Saves}
-use Rattle.saved_save.specs.declared.FileSaved.{FileSaved}
+use Rattle.call_errors.specs.declared.CallError.{CallError}
+use Rattle.call_errors.specs.declared.CallError.TheVariants.{BadFile as Bad}
 
-module _ (b s a ft s' a' ft' buffer : List ℕ) (x : FileLoaded) (l : Loads b s a ft s' a' ft' x) where
+module _ (b s a ft s' a' ft' buffer : List ℕ) (x : Result ⊤ BadFile) (l : Loads b s a ft s' a' ft' x) where
   -- the answer that the load gave is the rules' own
-  answers : x.answer ≡ (call_load (state_in s [] a a' ft ft' []) b).answer
+  answers : load_answer x ≡ (call_load (state_in s [] a a' ft ft' []) b).answer
   answers = ap (λ (y : Loaded). y.answer) (l.loads [] a' ft' [])
 
-  pub refuses-move : (x.answer ≡ done → ⊥) → saved_of (record { answer = bad_file; length = 0 }) buffer ≡ call_move b buffer
+  pub refuses-move : (e : BadFile) (y : Result ℕ CallError) → x ≡ Err e → IsErrAnd y (λ r. r ≡ Bad) → saved_of y buffer ≡ call_move b buffer
   unfolding call_move call_load
-  refuses-move n = by (bad_place b) refl
+  refuses-move e y n h = by (bad_place b) refl
     where
-      by : (f : Found ℕ) → bad_place b ≡ f → saved_of (record { answer = bad_file; length = 0 }) buffer ≡ call_move b buffer
-      by none e = absurd (n (answers ∙ rw e))
-      by (found p) e = rw e
+      refused : y ≡ Err Bad
+      refused = let r = err_from_is_err_and y h in rw (r.1, r.2)
 
-  pub does_move : (f g : Form) (y : FileSaved) (buffer' : List ℕ) → x.answer ≡ done → f ≡ form_in b → g ≡ other_form f
+      by : (f : Found ℕ) → bad_place b ≡ f → saved_of y buffer ≡ call_move b buffer
+      by none p = let z : ◌≡◌ {A = ℕ} bad_file done = ap load_answer (sym n) ∙ (answers ∙ rw p) in absurd (omega arith)
+      by (found p) q = rw (refused, q)
+
+  pub does_move : (t : ⊤) (f g : Form) (y : Result ℕ CallError) (buffer' : List ℕ) → x ≡ Ok t → f ≡ form_in b → g ≡ other_form f
       → Saves g s' a' a' ft' ft' buffer y buffer' → saved_of y buffer' ≡ call_move b buffer
   unfolding call_move call_load
-  does_move f g y buffer' d e h k = by (bad_place b) refl
+  does_move t f g y buffer' d e h k = by (bad_place b) refl
     where
       by : (r : Found ℕ) → bad_place b ≡ r → saved_of y buffer' ≡ call_move b buffer
       by none p =
           let same : state_in s' [] a' a' ft' ft' [] ≡ loaded b = ap (λ (z : Loaded). z.state) (l.loads [] a' ft' []) ∙ rw p in
           k.saves [] [] ∙ rw (same, h, e, p)
-      by (found place) p = let z : ◌≡◌ {A = ℕ} bad_file done = sym (answers ∙ rw p) ∙ d in absurd (omega arith)
+      by (found place) p = let z : ◌≡◌ {A = ℕ} bad_file done = sym (answers ∙ rw p) ∙ ap load_answer d in absurd (omega arith)
 
-pub ruleset moving = (refuses-move, does_move, rules)
+pub ruleset moving = (refuses-move, rules)

@@ -6,14 +6,14 @@ ghost use Rattle.std.specs.Prelude.{◌≡◌};
 ghost use Rattle.rules.specs.Loaded.{other_form, call_move};
 ghost use Rattle.saved_save.specs.Views.{saved_of};
 
+use call_errors::CallError;
 use kept_resources::resources::Resources;
 use kept_tokens::Tokens;
 use rules::Form;
-use rules::numbers::{BAD_FILE, DONE};
 use run_state::Words;
 use saved_forms::form_in;
 use saved_load::load;
-use saved_save::{FileSaved, save};
+use saved_save::save;
 
 // The form that is not this one.
 fn other_form(form: Form) -> Form
@@ -25,20 +25,14 @@ fn other_form(form: Form) -> Form
     }
 }
 
-// Writes into the buffer, in the other form, the device that the file says.
-pub fn move_form(file: &[u8], buffer: &mut [u8]) -> FileSaved
+// Writes into the buffer, in the other form, the device that the file says: how many bytes were written.
+pub fn move_form(file: &[u8], buffer: &mut [u8]) -> Result<u32, CallError>
     ensures { saved_of result buffer.new ≡ call_move file.now buffer.old }
 {
     let mut words: Words = [0; 36];
     let mut resources: Resources = [0; 768];
     let mut tokens: Tokens = [0; 512];
-    let loaded = load(&mut words, &mut resources, &mut tokens, file);
-    if loaded.answer != DONE {
-        return FileSaved {
-            answer: BAD_FILE,
-            length: 0,
-        };
-    }
+    load(&mut words, &mut resources, &mut tokens, file)?;
     let form = other_form(form_in(file));
     save(
         form, &words, &resources, &resources, &tokens, &tokens, buffer,

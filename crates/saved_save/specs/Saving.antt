@@ -1,9 +1,9 @@
 -- Saving in either form: what its code asks. Assumes nothing.
-use Rattle.std.specs.Prelude.{◌≡◌, refl, Bool, true, false, ℕ, ◌+◌, ◌*◌, ◌≤◌, ◌<◌, length, get_or}
+use Rattle.std.specs.Prelude.{◌≡◌, refl, Bool, true, false, ℕ, ◌+◌, ◌*◌, ◌≤◌, ◌<◌, length, get_or, Result, Ok, Err}
 use Rattle.std.proofs.Common.{sym, ap, ◌∙◌, arith, rules, eq-eqb, ne_eqb, lt-ltb, le-ltb, length-append}
 use mathlib.Core.List.{List, [], ◌∷◌, ◌++◌, append_assoc, append-nil}
 use Rattle.machine.specs.Machine.{pick}
-use Rattle.rules.specs.Numbers.{most, most_tokens, done, in_work, too_short, not_in_form}
+use Rattle.rules.specs.Numbers.{most, most_tokens}
 use Rattle.rules.specs.Lists.{over}
 use Rattle.rules.specs.Names.{token_of}
 use Rattle.rules.specs.Packets.{handle_of}
@@ -25,8 +25,9 @@ use Rattle.saved_write.specs.Resources.{resources-all}
 use Rattle.saved_write_head.specs.Head.{head_in}
 use Rattle.saved_write_shared.specs.Shared.{names-all, tokens-all}
 use Rattle.saved_write_forms.specs.Sections.{front_fields, back_fields, front_length, back-length}
-use Rattle.saved_save.specs.declared.FileSaved.{FileSaved}
-use Rattle.saved_save.specs.Views.{saved_of, file_not_saved, written, shared_in, fields_in, Writes, resources_in, tokens_in, SavesOf, SavesWith, Saves}
+use Rattle.call_errors.specs.declared.CallError.{CallError}
+use Rattle.call_errors.specs.declared.CallError.TheVariants.{InWork, TooShort, NotInForm}
+use Rattle.saved_save.specs.Views.{saved_of, written, shared_in, fields_in, Writes, resources_in, tokens_in, SavesOf, SavesWith, Saves}
 
 -- ---- the fields, as they are written
 
@@ -47,10 +48,10 @@ module _ (s : List ℕ) (rs firsts : List Resource) (kept : ℕ) (low : firsts �
 -- ---- a file of some bytes, written or not
 
 module _ (bytes b : List ℕ) (n : ℕ) (long : length bytes ≡ n) where
-  written-short : (x : FileSaved) → x ≡ file_not_saved too_short → length b < n → saved_of x b ≡ written bytes b
-  written-short x p h = rw (p, long, lt-ltb (length b) n h)
+  written-short : length b < n → saved_of (Err TooShort) b ≡ written bytes b
+  written-short h = rw (long, lt-ltb (length b) n h)
 
-  written-done : (b' : List ℕ) → n ≤ length b → b' ≡ over 0 bytes b → saved_of (record { answer = done; length = n }) b' ≡ written bytes b
+  written-done : (b' : List ℕ) → n ≤ length b → b' ≡ over 0 bytes b → saved_of (Ok n) b' ≡ written bytes b
   written-done b' h p = rw (long, le-ltb (length b) n h, p)
 
 -- ---- save_one
@@ -68,11 +69,11 @@ module _ (s l : List ℕ) (live count : ℕ) (order : List ℕ) (is : (live ≡ 
     one-long : length (file_of (fields_in One s (resources_in s l) [])) ≡ end + 48 * kept
     one-long = ap length one-bytes ∙ (front_length One s kept l firsts ∙ omega arith)
 
-    pub one-short : (x : FileSaved) → length b < end + 48 * kept → x ≡ file_not_saved too_short → Writes One s (resources_in s l) [] b x b
-    one-short x h p = record { writes = written-short (file_of (fields_in One s (resources_in s l) [])) b (end + 48 * kept) one-long x p h }
+    pub one-short : length b < end + 48 * kept → Writes One s (resources_in s l) [] b (Err TooShort) b
+    one-short h = record { writes = written-short (file_of (fields_in One s (resources_in s l) [])) b (end + 48 * kept) one-long h }
 
     pub one-done : (b' : List ℕ) → end + 48 * kept ≤ length b → b' ≡ over 0 (file_of (front_fields One s kept (resources_listed kept l firsts))) b
-        → Writes One s (resources_in s l) [] b (record { answer = done; length = end + 48 * kept }) b'
+        → Writes One s (resources_in s l) [] b (Ok (end + 48 * kept)) b'
     one-done b' h p = record { writes = written-done (file_of (fields_in One s (resources_in s l) [])) b (end + 48 * kept) one-long b' h (p ∙ rw one-bytes) }
 
 pub kept-rows : (others : Bool) (l order : List ℕ) (count : ℕ) (kept : List ℕ) (found : ℕ) → Keeps others l order count kept found → Rows most kept found
@@ -105,13 +106,13 @@ module _ (s l order : List ℕ) (count : ℕ) (t tokenorder : List ℕ) (used : 
       ∙ (length-append (file_of front) (file_of back)
       ∙ omega (arith, front_length Two s kept l firsts, back-length named l others used t tokenorder)))
 
-  pub two-short : (x : FileSaved) → length b < end + 48 * kept + 8 + 8 * named + 12 * used → x ≡ file_not_saved too_short
-      → Writes Two s (resources_listed count l order) (tokens_listed used t tokenorder) b x b
-  two-short x h p = record { writes = written-short (file_of whole) b (end + 48 * kept + 8 + 8 * named + 12 * used) two-long x p h }
+  pub two-short : length b < end + 48 * kept + 8 + 8 * named + 12 * used
+      → Writes Two s (resources_listed count l order) (tokens_listed used t tokenorder) b (Err TooShort) b
+  two-short h = record { writes = written-short (file_of whole) b (end + 48 * kept + 8 + 8 * named + 12 * used) two-long h }
 
   pub two-done : (b₁ b₂ : List ℕ) → end + 48 * kept + 8 + 8 * named + 12 * used ≤ length b → b₁ ≡ over 0 (file_of (front_fields Two s kept (resources_listed kept l firsts))) b
       → b₂ ≡ over (end + 48 * kept) (file_of (back_fields named (resources_listed named l others) used (tokens_listed used t tokenorder))) b₁
-      → Writes Two s (resources_listed count l order) (tokens_listed used t tokenorder) b (record { answer = done; length = end + 48 * kept + 8 + 8 * named + 12 * used }) b₂
+      → Writes Two s (resources_listed count l order) (tokens_listed used t tokenorder) b (Ok (end + 48 * kept + 8 + 8 * named + 12 * used)) b₂
   two-done b₁ b₂ h p q =
       let all : b₂ ≡ over 0 (file_of (front ++ back)) b =
       fields-behind 0 (end + 48 * kept) front back b b₁ b₂ (omega (arith, front_length Two s kept l firsts)) (omega (arith, back-length named l others used t tokenorder)) p q in
@@ -126,7 +127,7 @@ module _ (s t : List ℕ) (n used : ℕ) (tokenorder : List ℕ) (is : (n ≡ to
   tokens-rise = ordered.rises ∙ rw is.0
 
   pub two-ordered : (l : List ℕ) (live count : ℕ) (order : List ℕ) → (live ≡ count_in (get_or s 25 0)) × (live ≤ most) → Orders resource_of_row 12 handle_of live l order count
-      → (b : List ℕ) (x : FileSaved) (b' : List ℕ) → Writes Two s (resources_listed count l order) (tokens_listed used t tokenorder) b x b'
+      → (b : List ℕ) (x : Result ℕ CallError) (b' : List ℕ) → Writes Two s (resources_listed count l order) (tokens_listed used t tokenorder) b x b'
       → Writes Two s (resources_in s l) (tokens_in s t) b x b'
   two-ordered l live count order few rows b x b' p =
       record { writes = p.writes ∙ rw (rows-rise s l live count order few rows, tokens-rise) }
@@ -141,31 +142,31 @@ unfolding saved saved_fields head_fields world_in fields_in
 saved-is One s e l h t ot c = refl
 saved-is Two s e l h t ot c = refl
 
-module _ (f : Form) (s l t b : List ℕ) (x : FileSaved) where
-  pub saves-working : (tag_in s ≡ 0 → ⊥) → x ≡ file_not_saved in_work → SavesOf f s l t b x b
+module _ (f : Form) (s l t b : List ℕ) where
+  pub saves-working : (tag_in s ≡ 0 → ⊥) → SavesOf f s l t b (Err InWork) b
   unfolding call_save
-  saves-working n p = record { saves = λ e h ot c. rw (p, works-in s e l h t ot c [] n) }
+  saves-working n = record { saves = λ e h ot c. rw (works-in s e l h t ot c [] n) }
 
   module _ (z : tag_in s ≡ 0) where
     module _ (one : f ≡ One) (beyond : Bool) (is : Beyond s l beyond) where
-      pub saves-beyond : beyond ≡ true → x ≡ file_not_saved not_in_form → SavesOf f s l t b x b
+      pub saves-beyond : beyond ≡ true → SavesOf f s l t b (Err NotInForm) b
       unfolding call_save
-      saves-beyond q p = record { saves = λ e h ot c. rw (one, p, rests-in s e l h t ot c [] z, ← is.is e h t ot c, q) }
+      saves-beyond q = record { saves = λ e h ot c. rw (one, rests-in s e l h t ot c [] z, ← is.is e h t ot c, q) }
 
-      pub saves-one : (b' : List ℕ) → beyond ≡ false → Writes One s (resources_in s l) [] b x b' → SavesOf f s l t b x b'
+      pub saves-one : (x : Result ℕ CallError) (b' : List ℕ) → beyond ≡ false → Writes One s (resources_in s l) [] b x b' → SavesOf f s l t b x b'
       unfolding call_save fields_in
-      saves-one b' q p =
+      saves-one x b' q p =
           record { saves = λ e h ot c. p.writes ∙ rw (one, rests-in s e l h t ot c [] z, ← is.is e h t ot c, q, saved-is One s e l h t ot c) }
 
-    pub saves-two : f ≡ Two → (b' : List ℕ) → Writes Two s (resources_in s l) (tokens_in s t) b x b' → SavesOf f s l t b x b'
+    pub saves-two : f ≡ Two → (x : Result ℕ CallError) (b' : List ℕ) → Writes Two s (resources_in s l) (tokens_in s t) b x b' → SavesOf f s l t b x b'
     unfolding call_save
-    saves-two two b' p = record { saves = λ e h ot c. p.writes ∙ rw (two, rests-in s e l h t ot c [] z, saved-is Two s e l h t ot c) }
+    saves-two two x b' p = record { saves = λ e h ot c. p.writes ∙ rw (two, rests-in s e l h t ot c [] z, saved-is Two s e l h t ot c) }
 
 pub ruleset saving_of = (saves-working, saves-beyond, saves-one, saves-two, rules)
 
 -- ---- save_with, save
 
-module _ (f : Form) (s l ft st before : List ℕ) (x : FileSaved) (after : List ℕ) where
+module _ (f : Form) (s l ft st before : List ℕ) (x : Result ℕ CallError) (after : List ℕ) where
   -- the call, were the side of the tokens this one
   abbrev token_sided : Bool → List ℕ → List ℕ → List ℕ → Saved
   token_sided t e h c = call_save f (world_in s e l h (pick t st ft) (pick t ft st) c []).state before
@@ -182,7 +183,7 @@ module _ (f : Form) (s l ft st before : List ℕ) (x : FileSaved) (after : List 
 
 pub ruleset saving_with = (with_first, with_second, rules)
 
-module _ (f : Form) (s a b ft st before : List ℕ) (x : FileSaved) (after : List ℕ) where
+module _ (f : Form) (s a b ft st before : List ℕ) (x : Result ℕ CallError) (after : List ℕ) where
   -- the call, were the side of the resources this one
   abbrev sided : Bool → List ℕ → List ℕ → Saved
   sided t e c = call_save f (world_in s e (pick t b a) (pick t a b) (pick (token_side_in s) st ft) (pick (token_side_in s) ft st) c []).state before

@@ -1,5 +1,6 @@
 -- What a save gives: the rules' own call of the device that stands in the words, whatever stands in the tables that it is not lent.
-use Rattle.std.specs.Prelude.{◌≡◌, List, [], ◌∷◌, ◌++◌, ℕ, ltb, length, get_or}
+use Rattle.std.specs.Prelude.{◌≡◌, List, [], ◌∷◌, ◌++◌, ℕ, ltb, length, get_or, Result}
+use Rattle.std.specs.Result.{result_unwrap_or}
 use Rattle.machine.specs.Machine.{pick}
 use Rattle.rules.specs.Numbers.{done, too_short}
 use Rattle.rules.specs.Lists.{over}
@@ -14,13 +15,12 @@ use Rattle.run_state.specs.Views.{count_in, token_count_in, token_side_in, world
 use Rattle.rules.specs.declared.Form.{Form}
 use Rattle.rules.specs.declared.Form.TheVariants.{One, Two}
 use Rattle.saved_write_head.specs.Head.{head_in}
-use Rattle.saved_save.specs.declared.FileSaved.{FileSaved}
+use Rattle.call_errors.specs.Answers.{answer_of}
+use Rattle.call_errors.specs.declared.CallError.{CallError}
 
-abbrev pub saved_of : FileSaved → List ℕ → Saved
-saved_of x buffer = record { answer = x.answer; length = x.length; buffer = buffer }
-
-abbrev pub file_not_saved : ℕ → FileSaved
-file_not_saved answer = record { answer = answer; length = 0 }
+-- beside a refusal stands length 0
+abbrev pub saved_of : Result ℕ CallError → List ℕ → Saved
+saved_of x buffer = record { answer = answer_of x; length = result_unwrap_or x 0; buffer = buffer }
 
 -- ---- what is left of the call once nothing is in work and the form has a field for all
 
@@ -39,7 +39,7 @@ unfoldable pub fields_in : Form → List ℕ → List Resource → List Token �
 fields_in f s rs ts =
     number_of f ∷ (head_in f s (length (those is_lowest_name rs)) ++ (resources_fields (those is_lowest_name rs) ++ shared_in f rs ts))
 
-pub record Writes (f : Form) (s : List ℕ) (rs : List Resource) (ts : List Token) (before : List ℕ) (x : FileSaved) (after : List ℕ) : Type 0 where
+pub record Writes (f : Form) (s : List ℕ) (rs : List Resource) (ts : List Token) (before : List ℕ) (x : Result ℕ CallError) (after : List ℕ) : Type 0 where
   pub writes : saved_of x after ≡ written (file_of (fields_in f s rs ts)) before
 
 -- the device's resources by rising handle, and its tokens in rising order
@@ -52,13 +52,13 @@ tokens_in s t = rising token_of (tokens_of (token_count_in (get_or s 32 0)) t)
 -- ---- the call
 
 -- of a device whose resources and tokens are those of a table each
-pub record SavesOf (f : Form) (s l t before : List ℕ) (x : FileSaved) (after : List ℕ) : Type 0 where
+pub record SavesOf (f : Form) (s l t before : List ℕ) (x : Result ℕ CallError) (after : List ℕ) : Type 0 where
   pub saves : (e h ot c : List ℕ) → saved_of x after ≡ call_save f (world_in s e l h t ot c []).state before
 
 -- which of the two tables of tokens is the device's, its words say
-pub record SavesWith (f : Form) (s l ft st before : List ℕ) (x : FileSaved) (after : List ℕ) : Type 0 where
+pub record SavesWith (f : Form) (s l ft st before : List ℕ) (x : Result ℕ CallError) (after : List ℕ) : Type 0 where
   pub saves : (e h c : List ℕ) → saved_of x after ≡ call_save f (world_in s e l h (pick (token_side_in s) st ft) (pick (token_side_in s) ft st) c []).state before
 
 -- and which of the two tables of resources
-pub record Saves (f : Form) (s a b ft st before : List ℕ) (x : FileSaved) (after : List ℕ) : Type 0 where
+pub record Saves (f : Form) (s a b ft st before : List ℕ) (x : Result ℕ CallError) (after : List ℕ) : Type 0 where
   pub saves : (e c : List ℕ) → saved_of x after ≡ call_save f (state_in s e a b ft st c) before

@@ -1,17 +1,17 @@
 // Saving (02, wishes 1 and 11): a device at rest, written into a lent buffer in one of the two forms. It asks nothing of its caller; a refused
-// one leaves the buffer, and length 0 stands beside its number.
+// one leaves the buffer.
 #![tactic(auto)]
 
-ghost use Rattle.std.specs.Prelude.{◌≡◌, []};
+ghost use Rattle.std.specs.Prelude.{[]};
 ghost use Rattle.rules.specs.Numbers.{most, most_tokens};
 ghost use Rattle.rules.specs.declared.Form.TheVariants.{One, Two};
 ghost use Rattle.saved_order.specs.Orders.{Rows, resources_listed, tokens_listed};
-ghost use Rattle.saved_save.specs.Views.{file_not_saved, resources_in, tokens_in, Writes, SavesOf, SavesWith, Saves};
+ghost use Rattle.saved_save.specs.Views.{resources_in, tokens_in, Writes, SavesOf, SavesWith, Saves};
 
+use call_errors::CallError;
 use kept_resources::resources::Resources;
 use kept_tokens::Tokens;
 use rules::Form;
-use rules::numbers::{DONE, IN_WORK, NOT_IN_FORM, TOO_SHORT};
 use run_state::{LIVE, NOTHING, SIDE, TAG, TOKEN_SIDE, TOKENS, Words, rows_in, tokens_in};
 use saved_order::tokens::{TokenOrder, order_tokens};
 use saved_order::{Order, order_rows};
@@ -26,22 +26,8 @@ use saved_write_shared::tokens::TOKEN_BYTES;
 // The bytes of the counts of sections 3 and 4.
 const COUNTS: usize = 8;
 
-// What a save answers, and how many bytes it wrote.
-#[derive(Clone, Copy)]
-pub struct FileSaved {
-    pub answer: u32,
-    pub length: u32,
-}
-
-// Nothing is saved.
-fn not_saved(answer: u32) -> FileSaved
-    ensures { result ≡ file_not_saved answer }
-{
-    FileSaved { answer, length: 0 }
-}
-
 // Saves a device that form 1 has fields for, if the buffer has room.
-fn save_one(words: &Words, resources: &Resources, buffer: &mut [u8]) -> FileSaved
+fn save_one(words: &Words, resources: &Resources, buffer: &mut [u8]) -> Result<u32, CallError>
     ensures { Writes One words.now (resources_in words.now resources.now) [] buffer.old result buffer.new }
 {
     let mut order: Order = [0; 64];
@@ -50,13 +36,10 @@ fn save_one(words: &Words, resources: &Resources, buffer: &mut [u8]) -> FileSave
     let kept = keep_rows(resources, &order, count, false, &mut firsts);
     let length = head_end(Form::One) + RESOURCE_BYTES * kept;
     if buffer.len() < length {
-        return not_saved(TOO_SHORT);
+        return Err(CallError::TooShort);
     }
     put_front(buffer, words, Form::One, resources, &firsts, kept);
-    FileSaved {
-        answer: DONE,
-        length: length as u32,
-    }
+    Ok(length as u32)
 }
 
 // Writes form 2 of the resources and tokens of some rows, in this order, if the buffer has room.
@@ -69,7 +52,7 @@ fn write_two(
     tokenorder: &TokenOrder,
     used: usize,
     buffer: &mut [u8],
-) -> FileSaved
+) -> Result<u32, CallError>
     requires { Rows most order.now count × Rows most_tokens tokenorder.now used }
     ensures { Writes Two words.now (resources_listed count resources.now order.now) (tokens_listed used tokens.now tokenorder.now) buffer.old result buffer.new }
 {
@@ -80,20 +63,22 @@ fn write_two(
     let at = head_end(Form::Two) + RESOURCE_BYTES * kept;
     let length = at + COUNTS + NAME_BYTES * named + TOKEN_BYTES * used;
     if buffer.len() < length {
-        return not_saved(TOO_SHORT);
+        return Err(CallError::TooShort);
     }
     put_front(buffer, words, Form::Two, resources, &firsts, kept);
     put_back(
         buffer, at, resources, &others, named, tokens, tokenorder, used,
     );
-    FileSaved {
-        answer: DONE,
-        length: length as u32,
-    }
+    Ok(length as u32)
 }
 
 // Saves a device in form 2, if the buffer has room.
-fn save_two(words: &Words, resources: &Resources, tokens: &Tokens, buffer: &mut [u8]) -> FileSaved
+fn save_two(
+    words: &Words,
+    resources: &Resources,
+    tokens: &Tokens,
+    buffer: &mut [u8],
+) -> Result<u32, CallError>
     ensures { Writes Two words.now (resources_in words.now resources.now) (tokens_in words.now tokens.now) buffer.old result buffer.new }
 {
     let mut order: Order = [0; 64];
@@ -119,16 +104,16 @@ fn save_of(
     resources: &Resources,
     tokens: &Tokens,
     buffer: &mut [u8],
-) -> FileSaved
+) -> Result<u32, CallError>
     ensures { SavesOf form words.now resources.now tokens.now buffer.old result buffer.new }
 {
     if words[TAG] != NOTHING {
-        return not_saved(IN_WORK);
+        return Err(CallError::InWork);
     }
     match form {
         Form::One => {
             if is_beyond(words, resources) {
-                return not_saved(NOT_IN_FORM);
+                return Err(CallError::NotInForm);
             }
             save_one(words, resources, buffer)
         }
@@ -144,7 +129,7 @@ fn save_with(
     firsttokens: &Tokens,
     secondtokens: &Tokens,
     buffer: &mut [u8],
-) -> FileSaved
+) -> Result<u32, CallError>
     ensures { SavesWith form words.now resources.now firsttokens.now secondtokens.now buffer.old result buffer.new }
 {
     if words[TOKEN_SIDE] == 0 {
@@ -153,7 +138,7 @@ fn save_with(
     save_of(form, words, resources, secondtokens, buffer)
 }
 
-// Saves the device that stands in the words and in its tables of resources and of tokens.
+// Saves the device that stands in the words and in its tables of resources and of tokens: how many bytes were written.
 pub fn save(
     form: Form,
     words: &Words,
@@ -162,7 +147,7 @@ pub fn save(
     firsttokens: &Tokens,
     secondtokens: &Tokens,
     buffer: &mut [u8],
-) -> FileSaved
+) -> Result<u32, CallError>
     ensures { Saves form words.now first.now second.now firsttokens.now secondtokens.now buffer.old result buffer.new }
 {
     if words[SIDE] == 0 {

@@ -5,7 +5,9 @@ ghost use Rattle.register_writes.specs.Views.{Writes};
 ghost use Rattle.device_calls.specs.Views.{Makes};
 ghost use Rattle.zelezmut.specs.Said.{SaysValue, SaysRun, SaysAnswer, SaysRecord};
 
-use export_numbers::{beside, said, say_record};
+use call_errors::answer;
+use device_calls::ZERO_RECORD;
+use export_numbers::{said, said_value, say_record};
 use kept_entries::Entries;
 use kept_records::Records;
 use kept_resources::resources::Resources;
@@ -24,15 +26,14 @@ pub fn zelezmut_make(words: &mut Words, memory: u64)
 pub fn zelezmut_write(words: &mut Words, offset: u32, value: u32) -> u32
     ensures { Writes words.old offset value result words.new }
 {
-    register_writes::write(words, offset, value)
+    answer(register_writes::write(words, offset, value))
 }
 
 // Reads a register: its value, and 2^32 times the call's answer.
 pub fn zelezmut_read(words: &Words, offset: u32) -> u64
     ensures { SaysValue words.now offset result }
 {
-    let x = device_calls::read(words, offset);
-    beside(x.value, x.answer)
+    said_value(device_calls::read(words, offset))
 }
 
 // Runs over the memory lent now: the call's answer, 2^8 times how it ended (idle 0, waiting 1, paused 2) and 2^16 times the units spent.
@@ -89,9 +90,8 @@ pub fn zelezmut_record(words: &Words, records: &Records, i: u32, said: &mut [u64
     ensures { SaysRecord words.now records.now i result said.new }
 {
     let x = device_calls::record(words, records, i);
-    let range = x.range;
-    say_record(said, range);
-    x.answer
+    say_record(said, x.unwrap_or(ZERO_RECORD));
+    answer(x)
 }
 
 // The host's answer to what waits, 0 for failed, and at once a run over the memory lent now: said as a run says it.

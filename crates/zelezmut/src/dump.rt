@@ -2,6 +2,7 @@
 ghost use Rattle.run_state.specs.Views.{set_in};
 ghost use Rattle.zelezmut.specs.Said.{SaysDumped};
 
+use call_errors::answer;
 use export_numbers::beside_long;
 use run_state::is_set;
 use widths::u32_to_word;
@@ -13,5 +14,5 @@ pub fn zelezmut_dump(stream: &[u8], strict: u32, buffer: &mut [u8]) -> u64
 {
     let stops = is_set(u32_to_word(strict));
     let x = dump_listing::list_dump(stream, stops, buffer);
-    beside_long(x.length, x.answer)
+    beside_long(x.unwrap_or(0), answer(x))
 }

@@ -4,6 +4,7 @@ ghost use Rattle.std.specs.Prelude.{◌≡◌, get_or};
 ghost use Rattle.month_totals.specs.Views.{totals_in, Zeroes, Merges, Feeds};
 ghost use Rattle.month_feed.specs.Views.{finished};
 
+use call_errors::answer;
 use kept_records::Records;
 use month_totals::TotalsWords;
 
@@ -27,14 +28,14 @@ pub fn zelezmut_month_feed(
 ) -> u32
     ensures { Feeds totals.old (finished error units count records.now) result totals.new }
 {
-    month_feed::feed(totals, error, units, count, records)
+    answer(month_feed::feed(totals, error, units, count, records))
 }
 
 // Adds the totals of another part of the month. Answers 0, or 9 if a sum would reach 2^64; then the totals are unchanged.
 pub fn zelezmut_month_merge(totals: &mut TotalsWords, other: &TotalsWords) -> u32
     ensures { Merges totals.old (totals_in other.now) result totals.new }
 {
-    month_totals::merge(totals, other)
+    answer(month_totals::merge(totals, other))
 }
 
 // The total at a place of the published order, 0 past the last.

@@ -3,10 +3,11 @@
 ghost use Rattle.rules.specs.declared.Form.TheVariants.{One, Two};
 ghost use Rattle.zelezmut.specs.Said.{SaysSaved, SaysLoaded, SaysMoved};
 
-use export_numbers::beside;
+use export_numbers::{beside, said_value};
 use kept_resources::resources::Resources;
 use kept_tokens::Tokens;
 use rules::Form;
+use rules::numbers::{BAD_FILE, DONE};
 use run_state::Words;
 
 // Writes the device, at rest, into the lent buffer, in form 1: the length, and 2^32 times the call's answer.
@@ -20,7 +21,7 @@ pub fn zelezmut_save(
 ) -> u64
     ensures { SaysSaved One words.now first.now second.now firsttokens.now secondtokens.now buffer.old result buffer.new }
 {
-    let x = saved_save::save(
+    said_value(saved_save::save(
         Form::One,
         words,
         first,
@@ -28,8 +29,7 @@ pub fn zelezmut_save(
         firsttokens,
         secondtokens,
         buffer,
-    );
-    beside(x.length, x.answer)
+    ))
 }
 
 // The same in form 2.
@@ -43,7 +43,7 @@ pub fn zelezmut_save_form_2(
 ) -> u64
     ensures { SaysSaved Two words.now first.now second.now firsttokens.now secondtokens.now buffer.old result buffer.new }
 {
-    let x = saved_save::save(
+    said_value(saved_save::save(
         Form::Two,
         words,
         first,
@@ -51,8 +51,7 @@ pub fn zelezmut_save_form_2(
         firsttokens,
         secondtokens,
         buffer,
-    );
-    beside(x.length, x.answer)
+    ))
 }
 
 // Makes the device what a saved desk says, whatever it was: the place of the first bad field or byte, and 2^32 times the call's answer.
@@ -64,8 +63,10 @@ pub fn zelezmut_load(
 ) -> u64
     ensures { SaysLoaded words.old first.old firsttokens.old file.now result words.new first.new firsttokens.new }
 {
-    let x = saved_load::load(words, first, firsttokens, file);
-    beside(x.place, x.answer)
+    match saved_load::load(words, first, firsttokens, file) {
+        Ok(()) => beside(0, DONE),
+        Err(bad) => beside(bad.place, BAD_FILE),
+    }
 }
 
 // Writes a saved desk into the lent buffer in the other form: the length, and 2^32 times the call's answer.
@@ -73,5 +74,5 @@ pub fn zelezmut_move(file: &[u8], buffer: &mut [u8]) -> u64
     ensures { SaysMoved file.now buffer.old result buffer.new }
 {
     let x = saved_move::move_form(file, buffer);
-    beside(x.length, x.answer)
+    said_value(x)
 }

@@ -1,9 +1,9 @@
 -- `run` meets its contract. Assumes nothing.
-use Rattle.device_memory_calls.specs.Calling.{running}
+use Rattle.device_memory_calls.specs.Calling.{running, runs-on}
 use Rattle.device_memory_calls.proofs.run.Goals as goal
 
-pub returns-then-mem-memory : goal.returns-then-mem-memory
-returns-then-mem-memory c = search running
+pub returns-in_err-own_memory : goal.returns-in_err-own_memory
+returns-in_err-own_memory c = search running
 
 pub returns : goal.returns
-returns c = search running
+returns c = runs-on c.own_memory.ensures c.in_ok-own_memory.was c.run_on-units.ensures c.ended_in.ensures

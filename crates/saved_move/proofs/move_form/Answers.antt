@@ -1,9 +1,9 @@
 -- `move_form` meets its contract. Assumes nothing.
-use Rattle.saved_move.specs.Moving.{moving}
+use Rattle.saved_move.specs.Moving.{moving, does_move}
 use Rattle.saved_move.proofs.move_form.Goals as goal
 
-pub returns-then-loaded-ne-DONE : goal.returns-then-loaded-ne-DONE
-returns-then-loaded-ne-DONE c = search moving
+pub returns-in_err-load : goal.returns-in_err-load
+returns-in_err-load c = search moving
 
 pub returns : goal.returns
-returns c = search moving
+returns c = does_move _ _ _ _ _ _ _ _ _ c.load.ensures _ _ _ _ _ c.in_ok-load.was c.form_in.ensures c.other_form-form.ensures c.save.ensures
