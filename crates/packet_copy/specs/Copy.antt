@@ -1,5 +1,5 @@
 -- What a copy packet comes to, a law for each end. Assumes nothing.
-use Rattle.std.specs.Prelude.{◌≡◌, refl, Option, Some, None, Bool, true, false, ◌||◌, List, ℕ, ◌+◌, ◌%◌, ◌≤◌, ◌<◌, ltb, eqb}
+use Rattle.std.specs.Prelude.{◌≡◌, refl, Option, Some, None, Bool, true, false, ◌||◌, List, ℕ, ◌+◌, ◌%◌, ◌≤◌, ◌<◌, ltb, eqb, Result, Ok, Err}
 use Rattle.std.proofs.Common.{sym, ap, ◌∙◌, arith, rules}
 use borrow.Author.Tests.{eq-eqb, ne_eqb, lt-ltb, le-ltb}
 use Rattle.machine.specs.Machine.{pick}
@@ -15,6 +15,7 @@ use Rattle.rules.specs.declared.Record.{Record}
 use Rattle.rules.specs.declared.CopyBuffer.{CopyBuffer}
 use Rattle.rules.specs.declared.Kind.{Kind}
 use Rattle.rules.specs.declared.Kind.TheVariants.{Buffer, Texture}
+use Rattle.rules.specs.declared.Refusal.{Refusal}
 use Rattle.rules.specs.declared.Refusal.TheVariants.{BadHandle, NotInTable, PastEntry, ReadOnly, PastResource, HostBacked, BadCopy}
 use Rattle.rows.specs.Rows.{row_at}
 use Rattle.rows.specs.Keys.{place_of}
@@ -24,8 +25,6 @@ use Rattle.kept_resources.specs.Resources.{resource-place, resource-exists, reso
 use Rattle.packet_ranges.specs.Views.{Applies, RowsExist, refused_with}
 use Rattle.packet_ranges.specs.Handout.{HandsOut, accepted_with, judged, resolved_of, entry-judged, refused-applies, refused-hands}
 use Rattle.packet_ranges.specs.declared.applied.Applied.{Applied}
-use Rattle.packet_ranges.specs.declared.handout.Resolved.{Resolved}
-use Rattle.packet_ranges.specs.declared.handout.Resolved.TheVariants.{Missing, Past, Inside}
 
 -- ---- live_buffer
 
@@ -90,7 +89,7 @@ module _ (n : ℕ) (entries : List ℕ) (live made : ℕ) (records : List ℕ) (
   unfolding written_back write_back
   writes-hosted a q e = refused-hands HostBacked n live made records a room e _ (λ h. rw (eq-eqb _ _ q))
 
-  module _ (q : d.backing ≡ 0 → ⊥) (x : Resolved) (resolved : x ≡ resolved_of writes d c.dstoffset c.size (matching d.backing (entries_of n entries))) where
+  module _ (q : d.backing ≡ 0 → ⊥) (x : Result (ℕ × Record) Refusal) (resolved : x ≡ resolved_of writes d c.dstoffset c.size (matching d.backing (entries_of n entries))) where
     abbrev then : Holdings → ℕ → Record → Outcome
     then h flags range = refuse ReadOnly (eqb (flags % 2) 1) h (hand_out range h)
 
@@ -100,13 +99,10 @@ module _ (n : ℕ) (entries : List ℕ) (live made : ℕ) (records : List ℕ) (
         rw (ne_eqb _ _ q, resolved)
         (entry-judged writes d c.dstoffset c.size (matching d.backing (entries_of n entries)) h (then h))
 
-    pub writes-missing : (a : Applied) → x ≡ Missing → a ≡ refused_with NotInTable live made → HandsOut (written_back (entries_of n entries) c d) live made records a records
-    writes-missing a told e = refused-hands NotInTable n live made records a room e _ (λ h. judges h ∙ rw told)
+    pub writes-unresolved : (why : Refusal) (a : Applied) → x ≡ Err why → a ≡ refused_with why live made → HandsOut (written_back (entries_of n entries) c d) live made records a records
+    writes-unresolved why a told e = refused-hands why n live made records a room e _ (λ h. judges h ∙ rw told)
 
-    pub writes-past : (a : Applied) → x ≡ Past → a ≡ refused_with PastEntry live made → HandsOut (written_back (entries_of n entries) c d) live made records a records
-    writes-past a told e = refused-hands PastEntry n live made records a room e _ (λ h. judges h ∙ rw told)
-
-    module _ (flags : ℕ) (range : Record) (told : x ≡ Inside flags range) where
+    module _ (flags : ℕ) (range : Record) (told : x ≡ Ok (flags, range)) where
       pub writes-read-only : (a : Applied) → flags % 2 ≡ 1 → a ≡ refused_with ReadOnly live made → HandsOut (written_back (entries_of n entries) c d) live made records a records
       writes-read-only a t e = refused-hands ReadOnly n live made records a room e _ (λ h. judges h ∙ rw (told, eq-eqb _ _ t))
 
@@ -116,7 +112,7 @@ module _ (n : ℕ) (entries : List ℕ) (live made : ℕ) (records : List ℕ) (
           record { applies = λ resources. rw (judges (holdings_of live resources made records), told, ne_eqb _ _ t) (hands.applies resources) }
 
 pub ruleset writing_back =
-    (writes-hosted, writes-missing, writes-past, writes-read-only, writes-range, rules)
+    (writes-hosted, writes-unresolved, writes-read-only, writes-range, rules)
 
 -- ---- copy_between
 

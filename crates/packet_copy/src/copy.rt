@@ -13,7 +13,7 @@ use kept_entries::Entries;
 use kept_records::Records;
 use kept_resources::resources::{Resources, find_resource, resource_row};
 use packet_ranges::applied::{Applied, refuse};
-use packet_ranges::handout::{Resolved, hand_out, resolve};
+use packet_ranges::handout::{hand_out, resolve};
 use rules::numbers::WRITES;
 use rules::{CopyBuffer, Kind, Refusal, Resource};
 use widths::beyond;
@@ -53,9 +53,8 @@ fn write_back(
         return refuse(Refusal::HostBacked, live, made);
     }
     match resolve(entries, kept, WRITES, dst, c.dstoffset, c.size) {
-        Resolved::Missing => refuse(Refusal::NotInTable, live, made),
-        Resolved::Past => refuse(Refusal::PastEntry, live, made),
-        Resolved::Inside(flags, range) => {
+        Err(why) => refuse(why, live, made),
+        Ok((flags, range)) => {
             if flags % 2 == 1 {
                 return refuse(Refusal::ReadOnly, live, made);
             }

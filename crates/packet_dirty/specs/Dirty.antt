@@ -1,5 +1,5 @@
 -- What a dirty packet comes to, a law for each end. Assumes nothing.
-use Rattle.std.specs.Prelude.{◌≡◌, Option, Some, None, Bool, true, false, List, ℕ, ◌+◌, ltb}
+use Rattle.std.specs.Prelude.{◌≡◌, Option, Some, None, Bool, true, false, List, ℕ, ◌+◌, ltb, Result, Ok, Err}
 use Rattle.std.proofs.Common.{sym, ap, ◌∙◌, rules}
 use borrow.Author.Tests.{eq-eqb, ne_eqb}
 use Rattle.rules.specs.Numbers.{reads}
@@ -10,6 +10,7 @@ use Rattle.rules.specs.Packets.{handle_of, hand_out, on_dirty_packet}
 use Rattle.rules.specs.declared.Resource.{Resource}
 use Rattle.rules.specs.declared.Record.{Record}
 use Rattle.rules.specs.declared.DirtyRange.{DirtyRange}
+use Rattle.rules.specs.declared.Refusal.{Refusal}
 use Rattle.rules.specs.declared.Refusal.TheVariants.{BadHandle, NotInTable, PastEntry, PastResource, HostBacked}
 use Rattle.rows.specs.Rows.{row_at}
 use Rattle.rows.specs.Keys.{place_of}
@@ -19,8 +20,6 @@ use Rattle.kept_resources.specs.Resources.{resource-place, resource-exists, reso
 use Rattle.packet_ranges.specs.Views.{Applies, RowsExist, refused_with}
 use Rattle.packet_ranges.specs.Handout.{HandsOut, judged, resolved_of, entry-judged, refused-applies}
 use Rattle.packet_ranges.specs.declared.applied.Applied.{Applied}
-use Rattle.packet_ranges.specs.declared.handout.Resolved.{Resolved}
-use Rattle.packet_ranges.specs.declared.handout.Resolved.TheVariants.{Missing, Past, Inside}
 
 abbrev Dirties : ℕ → List ℕ → ℕ → List ℕ → ℕ → List ℕ → DirtyRange → Applied → List ℕ → Type 0
 Dirties n entries live resources made records c a after =
@@ -49,7 +48,7 @@ module _ (n : ℕ) (entries : List ℕ) (live : ℕ) (resources : List ℕ) (mad
           refused-applies PastResource n live made records a room e _ resources (rw (here, ne_eqb _ _ q, ← is, t))
 
       module _ (t : b ≡ false) where
-        module _ (x : Resolved) (resolved : x ≡ resolved_of reads r c.offset c.size (matching r.backing (entries_of n entries))) where
+        module _ (x : Result (ℕ × Record) Refusal) (resolved : x ≡ resolved_of reads r c.offset c.size (matching r.backing (entries_of n entries))) where
           judges : on_dirty_packet (entries_of n entries) (holdings_of live resources made records) c
               ≡ judged x (holdings_of live resources made records) (λ _ range. hand_out range (holdings_of live resources made records))
           unfolding on_dirty_packet
@@ -57,17 +56,13 @@ module _ (n : ℕ) (entries : List ℕ) (live : ℕ) (resources : List ℕ) (mad
               rw (here, ne_eqb _ _ q, ← is, t, resolved)
               (entry-judged reads r c.offset c.size (matching r.backing (entries_of n entries)) (holdings_of live resources made records) (λ _ range. hand_out range (holdings_of live resources made records)))
 
-          pub dirties-missing : (a : Applied) → x ≡ Missing → a ≡ refused_with NotInTable live made → Dirties n entries live resources made records c a records
-          dirties-missing a told e =
-              refused-applies NotInTable n live made records a room e _ resources (judges ∙ rw told)
+          pub dirties-unresolved : (why : Refusal) (a : Applied) → x ≡ Err why → a ≡ refused_with why live made → Dirties n entries live resources made records c a records
+          dirties-unresolved why a told e =
+              refused-applies why n live made records a room e _ resources (judges ∙ rw told)
 
-          pub dirties-past-entry : (a : Applied) → x ≡ Past → a ≡ refused_with PastEntry live made → Dirties n entries live resources made records c a records
-          dirties-past-entry a told e =
-              refused-applies PastEntry n live made records a room e _ resources (judges ∙ rw told)
-
-          pub dirties-inside : (flags : ℕ) (range : Record) (a : Applied) (after : List ℕ) → x ≡ Inside flags range → HandsOut (hand_out range) live made records a after
+          pub dirties-inside : (flags : ℕ) (range : Record) (a : Applied) (after : List ℕ) → x ≡ Ok (flags, range) → HandsOut (hand_out range) live made records a after
               → Dirties n entries live resources made records c a after
           dirties-inside flags range a after told hands = rw (judges, told) (hands.applies resources)
 
 pub ruleset dirtying =
-    (resource-exists, dirties-not-live, dirties-hosted, dirties-past, dirties-missing, dirties-past-entry, dirties-inside, rules)
+    (resource-exists, dirties-not-live, dirties-hosted, dirties-past, dirties-unresolved, dirties-inside, rules)

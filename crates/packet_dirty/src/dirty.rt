@@ -8,7 +8,7 @@ use kept_entries::Entries;
 use kept_records::Records;
 use kept_resources::resources::{Resources, find_resource, resource_row};
 use packet_ranges::applied::{Applied, refuse};
-use packet_ranges::handout::{Resolved, hand_out, resolve};
+use packet_ranges::handout::{hand_out, resolve};
 use rules::numbers::READS;
 use rules::{DirtyRange, Refusal};
 use widths::beyond;
@@ -39,8 +39,7 @@ pub fn on_dirty(
         return refuse(Refusal::PastResource, live, made);
     }
     match resolve(entries, kept, READS, r, c.offset, c.size) {
-        Resolved::Missing => refuse(Refusal::NotInTable, live, made),
-        Resolved::Past => refuse(Refusal::PastEntry, live, made),
-        Resolved::Inside(_, range) => hand_out(records, made, live, range),
+        Err(why) => refuse(why, live, made),
+        Ok((_, range)) => hand_out(records, made, live, range),
     }
 }

@@ -1,5 +1,5 @@
 -- A range of a resource: its end, its entry, its record, and what handing it out comes to. Assumes nothing.
-use Rattle.std.specs.Prelude.{◌≡◌, Option, Some, None, Bool, true, false, List, ℕ, ◌+◌, ◌-◌, ◌^◌, ◌≤◌, ◌<◌, ltb, Ok}
+use Rattle.std.specs.Prelude.{◌≡◌, Option, Some, None, Bool, true, false, List, ℕ, ◌+◌, ◌-◌, ◌^◌, ◌≤◌, ◌<◌, ltb, Ok, Result, Err}
 use Rattle.std.proofs.Math.Path.{refl}
 use Rattle.std.proofs.Common.{sym, ap, ◌∙◌, add_assoc, rules}
 use native.Mathlib.Omega.{arith}
@@ -22,8 +22,6 @@ use Rattle.kept_entries.specs.Rows.{entry-exists, entry_found, entry-missing}
 use Rattle.kept_resources.specs.Views.{record_of, records_of, holdings_of}
 use Rattle.packet_ranges.specs.Views.{Applies, RowsExist, refused_with}
 use Rattle.packet_ranges.specs.declared.applied.Applied.{Applied}
-use Rattle.packet_ranges.specs.declared.handout.Resolved.{Resolved}
-use Rattle.packet_ranges.specs.declared.handout.Resolved.TheVariants.{Missing, Past, Inside}
 use Rattle.rules.specs.declared.Refusal.{Refusal}
 
 -- ---- beyond_entry
@@ -40,19 +38,18 @@ pub ruleset moving_range = (moved-long, moved-short, rules)
 -- ---- resolve
 
 -- what a range comes to, by the entry that has its backing id
-unfoldable pub resolved_of : ℕ → Resource → ℕ → ℕ → Found Entry → Resolved
-resolved_of kind r from size none = Missing
-resolved_of kind r from size (found e) = pick (ltb e.size (r.offset + (from + size))) Past (Inside e.flags (range_of kind r e from size))
+unfoldable pub resolved_of : ℕ → Resource → ℕ → ℕ → Found Entry → Result (ℕ × Record) Refusal
+resolved_of kind r from size none = Err NotInTable
+resolved_of kind r from size (found e) = pick (ltb e.size (r.offset + (from + size))) (Err PastEntry) (Ok (e.flags, range_of kind r e from size))
 
 -- "21 ..; 22 ..", and then what follows for an entry's flags and a range inside it
-abbrev pub judged : Resolved → Holdings → (ℕ → Record → Outcome) → Outcome
-judged Missing h later = refused NotInTable h
-judged Past h later = refused PastEntry h
-judged (Inside flags c) h later = later flags c
+abbrev pub judged : Result (ℕ × Record) Refusal → Holdings → (ℕ → Record → Outcome) → Outcome
+judged (Err why) h later = refused why h
+judged (Ok (flags, c)) h later = later flags c
 
 module _ (kind : ℕ) (r : Resource) (from size : ℕ) where
   within-judged : (t : Bool) (flags : ℕ) (c : Record) (h : Holdings) (later : ℕ → Record → Outcome)
-      → refuse PastEntry t h (later flags c) ≡ judged (pick t Past (Inside flags c)) h later
+      → refuse PastEntry t h (later flags c) ≡ judged (pick t (Err PastEntry) (Ok (flags, c))) h later
   within-judged true flags c h later = refl
   within-judged false flags c h later = refl
 
@@ -65,7 +62,7 @@ module _ (kind : ℕ) (r : Resource) (from size : ℕ) where
       within-judged (ltb e.size (r.offset + (from + size))) e.flags (range_of kind r e from size) h later
 
   module _ (n : ℕ) (l : List ℕ) (o : Option ℕ) (place : o ≡ place_of entry_id r.backing (entries_of n l)) where
-    pub resolves-missing : o ≡ None → Missing ≡ resolved_of kind r from size (matching r.backing (entries_of n l))
+    pub resolves-missing : o ≡ None → Err NotInTable ≡ resolved_of kind r from size (matching r.backing (entries_of n l))
     unfolding resolved_of
     resolves-missing p = rw (entry-missing n r.backing l o place p)
 
@@ -74,11 +71,11 @@ module _ (kind : ℕ) (r : Resource) (from size : ℕ) where
       found_here : matching r.backing (entries_of n l) ≡ found e
       found_here = entry_found n r.backing l o place i at ∙ ap found (sym row.entry)
 
-      pub resolves-past : b ≡ true → Past ≡ resolved_of kind r from size (matching r.backing (entries_of n l))
+      pub resolves-past : b ≡ true → Err PastEntry ≡ resolved_of kind r from size (matching r.backing (entries_of n l))
       unfolding resolved_of
       resolves-past t = rw (found_here, ← is, t)
 
-      pub resolves-inside : b ≡ false → Inside e.flags (range_of kind r e from size) ≡ resolved_of kind r from size (matching r.backing (entries_of n l))
+      pub resolves-inside : b ≡ false → Ok (e.flags, range_of kind r e from size) ≡ resolved_of kind r from size (matching r.backing (entries_of n l))
       unfolding resolved_of
       resolves-inside t = rw (found_here, ← is, t)
 

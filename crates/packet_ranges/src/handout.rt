@@ -14,17 +14,6 @@ use rules::numbers::MOST_ROWS;
 use rules::{Record, Refusal, Resource};
 use widths::beyond;
 
-// What a range of a resource comes to in this submission's table.
-#[derive(Clone, Copy)]
-pub enum Resolved {
-    // its backing id is not in the table
-    Missing,
-    // it ends beyond the entry
-    Past,
-    // the entry's flags, and the range as a record
-    Inside(u32, Record),
-}
-
 // Whether a range of a resource ends beyond so many bytes of an entry, where the resource starts at an offset.
 fn beyond_entry(offset: u64, from: u64, size: u64, bytes: u64) -> bool
     ensures { result ≡ ltb bytes (offset + (from + size)) }
@@ -35,7 +24,8 @@ fn beyond_entry(offset: u64, from: u64, size: u64, bytes: u64) -> bool
     beyond(offset, from, bytes - size)
 }
 
-// Holds a range of a backed resource against the entry that this table has for it: the backing offset is added.
+// Holds a range of a backed resource against the entry that this table has for it: the backing offset is added. Gives the entry's flags, and
+// the range as a record; or the rule that is broken, where the table has no such entry or the range ends beyond it.
 pub fn resolve(
     entries: &Entries,
     kept: usize,
@@ -43,17 +33,17 @@ pub fn resolve(
     r: Resource,
     from: u64,
     size: u64,
-) -> Resolved
+) -> Result<(u32, Record), Refusal>
     requires { kept ≤ most }
     ensures { result ≡ resolved_of kind r from size (matching r.backing (entries_of kept entries.now)) }
 {
     let Some(i) = find_entry(entries, kept, r.backing) else {
-        return Resolved::Missing;
+        return Err(Refusal::NotInTable);
     };
     let e = entry_row(entries, i);
     let offset = r.offset as u64;
     if beyond_entry(offset, from, size, e.size) {
-        return Resolved::Past;
+        return Err(Refusal::PastEntry);
     }
     let range = Record {
         kind,
@@ -62,7 +52,7 @@ pub fn resolve(
         gpa: e.gpa + (offset + from),
         length: size,
     };
-    Resolved::Inside(e.flags, range)
+    Ok((e.flags, range))
 }
 
 // Hands a range to the host, if it has bytes: one record more, for which there must be room.

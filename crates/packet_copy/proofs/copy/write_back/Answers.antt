@@ -8,11 +8,8 @@ returns-then-dst-eq0 c = search writing_back
 pub returns-then-flags-eq1 : goal.returns-then-flags-eq1
 returns-then-flags-eq1 c = search writing_back
 
-pub returns-in-Missing : goal.returns-in-Missing
-returns-in-Missing c = search writing_back
-
-pub returns-in-Past : goal.returns-in-Past
-returns-in-Past c = search writing_back
+pub returns-in-Err : goal.returns-in-Err
+returns-in-Err c = search writing_back
 
 pub returns-else-flags-eq1 : goal.returns-else-flags-eq1
 returns-else-flags-eq1 c = search writing_back

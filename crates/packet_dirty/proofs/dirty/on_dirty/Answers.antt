@@ -11,14 +11,11 @@ returns-then-r-eq0 c = search dirtying
 pub returns-then-beyond : goal.returns-then-beyond
 returns-then-beyond c = search dirtying
 
-pub returns-in-Missing : goal.returns-in-Missing
-returns-in-Missing c = search dirtying
+pub returns-in-Err : goal.returns-in-Err
+returns-in-Err c = search dirtying
 
-pub returns-in-Past : goal.returns-in-Past
-returns-in-Past c = search dirtying
-
-pub returns-in-Inside : goal.returns-in-Inside
-returns-in-Inside c = search dirtying
+pub returns-in-Ok : goal.returns-in-Ok
+returns-in-Ok c = search dirtying
 
 pub resource_row-r-requires : goal.resource_row-r-requires
 resource_row-r-requires c = search dirtying
