@@ -42,14 +42,12 @@ pub fn place_of(stream: &[u8], index: usize) -> usize
     ensures { packet_at stream.now result ≡ nth (packets_from stream.now stream_header_size) index }
 {
     let mut at = STREAM_HEADER_SIZE;
-    let mut i: usize = 0;
-    while i < index {
+    for _ in 0..index {
         let size = size_at(stream, at);
         if size == 0 {
             return at;
         }
         at += size;
-        i += 1;
     }
     at
 }
