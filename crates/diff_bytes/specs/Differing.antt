@@ -180,7 +180,10 @@ module _ (x y : List ℕ) (from i : ℕ) (w : from_offset x y from ≡ from_offs
         w ∙ (ap (λ l. differing_from i l (drop i y)) a ∙ (ap (λ l. differing_from i (take 8 (drop i x) ++ drop (i + 8) x) l) b
         ∙ (front-equal (take 8 (drop i x)) i (drop (i + 8) x) (drop (i + 8) y) ∙ ap (λ n. differing_from (i + n) (drop (i + 8) x) (drop (i + 8) y)) k)))
 
-pub ruleset going_by_eight = (eight-first, eight-second, eight-on, rules)
+    pub eight-more : (t : Bool) → SameEight x y i t → t ≡ true → from_offset x y from ≡ from_offset x y (i + 8)
+    eight-more t s h = eight-on t s (rw h)
+
+pub ruleset going_by_eight = (eight-first, eight-second, eight-on, eight-more, rules)
 
 module _ (x y : List ℕ) (from : ℕ) where
   abbrev asked : Option ℕ

@@ -1,41 +1,21 @@
 // Where the bytes of two packets differ: bytes past the shorter of the two count as differing.
 #![tactic(auto)]
 
-ghost use Rattle.std.specs.Prelude.{◌≡◌, ◌+◌, ◌≤◌, min, max, length};
+ghost use Rattle.std.specs.Prelude.{◌≡◌, ◌+◌, ◌≤◌, length};
 ghost use Rattle.rules.specs.Difference.{differing, next_from};
 ghost use Rattle.diff_bytes.specs.Differing.{differs_at, from_offset, SameEight};
 
 use words::u64_at;
 
-fn longer(a: &[u8], b: &[u8]) -> usize
-    ensures { result ≡ max (length a.now) (length b.now) }
-{
-    if a.len() < b.len() {
-        return b.len();
-    }
-    a.len()
-}
-
 // Whether two packets differ at an offset.
 fn differs(a: &[u8], b: &[u8], i: usize) -> bool
     ensures { result ≡ differs_at a.now b.now i }
 {
-    if i < a.len() {
-        if i < b.len() {
-            return a[i] != b[i];
-        }
-        return true;
+    match (a.get(i), b.get(i)) {
+        (Some(x), Some(y)) => *x != *y,
+        (None, None) => false,
+        _ => true,
     }
-    i < b.len()
-}
-
-fn shorter(a: &[u8], b: &[u8]) -> usize
-    ensures { result ≡ min (length a.now) (length b.now) }
-{
-    if a.len() < b.len() {
-        return a.len();
-    }
-    b.len()
 }
 
 // Whether the eight bytes from an offset on are the same in both, by one load of each.
@@ -51,15 +31,9 @@ fn same_eight(a: &[u8], b: &[u8], i: usize) -> bool
 fn equal_until(a: &[u8], b: &[u8], from: usize) -> usize
     ensures { from_offset a.now b.now from ≡ from_offset a.now b.now result }
 {
-    let end = shorter(a, b);
+    let end = a.len().min(b.len());
     let mut i = from;
-    while i < end {
-        if end - i < 8 {
-            return i;
-        }
-        if !same_eight(a, b, i) {
-            return i;
-        }
+    while i < end && end - i >= 8 && same_eight(a, b, i) {
         i += 8;
     }
     i
@@ -69,13 +43,11 @@ fn equal_until(a: &[u8], b: &[u8], from: usize) -> usize
 pub fn next_differing(a: &[u8], b: &[u8], from: usize) -> Option<usize>
     ensures { result ≡ next_from from (differing a.now b.now) }
 {
-    let end = longer(a, b);
-    let mut i = equal_until(a, b, from);
-    while i < end {
+    let end = a.len().max(b.len());
+    for i in equal_until(a, b, from)..end {
         if differs(a, b, i) {
             return Some(i);
         }
-        i += 1;
     }
     None
 }
