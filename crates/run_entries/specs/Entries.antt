@@ -1,7 +1,7 @@
 -- The phase of entries as a machine over the entries kept so far; and what its code asks. Assumes nothing.
 use Rattle.std.specs.Prelude.{◌≡◌, Bool, true, false, List, ℕ, ◌+◌, ◌-◌, ◌^◌, ◌≤◌, ◌<◌, ltb, length, Err, Ok}
 use Rattle.std.proofs.Math.Path.{refl}
-use Rattle.std.proofs.Common.{sym, ap, arith, rules}
+use Rattle.std.proofs.Common.{subst, sym, ap, arith, rules}
 use borrow.Author.Tests.{ltb-true}
 use Rattle.machine.specs.Machine.{pick, Out, spent, run_while, loop-start, loop-out}
 use Rattle.rules.specs.Numbers.{most}
@@ -101,6 +101,11 @@ module _ (m : List ℕ) (t : Table) (n a : ℕ) (l₀ : List ℕ) where
     pub reads-no-more : a ≤ u → p.kept ≤ most → EntriesRan m t n l₀ a (record { place = p; units = u }) l
     reads-no-more h room = record { run = loop-out reading_goes (read_step m t) a u (reading_of p l) _ inv h; room = room }
 
+    pub reads-out : u ≤ a → a ≤ u → p.kept ≤ most → EntriesRan m t n l₀ a (record { place = p; units = a }) l
+    reads-out g h room =
+        let e : u ≡ a = omega arith in
+        subst (λ (k : ℕ). EntriesRan m t n l₀ a (record { place = p; units = k }) l) e (reads-no-more h room)
+
     module _ (more : u < a) (here : p.ending ≡ Going) (r : EntriesPlace) (l' : List ℕ) (s : EntryStepped m t p l r l') where
       pub reads_on : run_while reading_goes (read_step m t) a (from_row n l₀) ≡ spent (u + 1) (run_while reading_goes (read_step m t) (a - (u + 1)) (reading_of r l'))
       reads_on = phase-on reading_goes (read_step m t) a u (reading_of p l) _ inv more (goes p.ending here) (reading_of r l') s.step
@@ -112,4 +117,4 @@ module _ (m : List ℕ) (t : Table) (n a : ℕ) (l₀ : List ℕ) where
             room = s.room;
           }
 
-pub ruleset reading_on = (reads_first, reads-no-more, reads_on, reads-to-end, rules)
+pub ruleset reading_on = (reads_first, reads-no-more, reads-out, reads_on, reads-to-end, rules)

@@ -21,12 +21,6 @@ pub struct EntriesRun {
     pub units: u16,
 }
 
-fn size(x: u32) -> usize
-    ensures { result ≡ x }
-{
-    x as usize
-}
-
 // One unit: the entry after those that are kept.
 fn step_entry(mem: &[u8], t: Table, entries: &mut Entries, p: EntriesPlace) -> EntriesPlace
     requires { p.kept ≤ most }
@@ -42,7 +36,7 @@ fn step_entry(mem: &[u8], t: Table, entries: &mut Entries, p: EntriesPlace) -> E
             let next = kept + 1;
             EntriesPlace {
                 kept: next,
-                ending: ending_at(next, size(t.count)),
+                ending: ending_at(next, t.count as usize),
             }
         }
     }
@@ -63,13 +57,17 @@ pub fn read_entries(
         kept,
         ending: Ending::Going,
     };
-    let mut units: u16 = 0;
-    while units < allowance {
+    for units in 0..allowance {
         p = step_entry(mem, t, entries, p);
-        units += 1;
         let Ending::Going = p.ending else {
-            return EntriesRun { place: p, units };
+            return EntriesRun {
+                place: p,
+                units: units + 1,
+            };
         };
     }
-    EntriesRun { place: p, units }
+    EntriesRun {
+        place: p,
+        units: allowance,
+    }
 }
