@@ -1,7 +1,7 @@
 -- The phase of entries as a machine over the entries kept so far; and what its code asks. Assumes nothing.
 use Rattle.std.specs.Prelude.{◌≡◌, Bool, true, false, List, ℕ, ◌+◌, ◌-◌, ◌^◌, ◌≤◌, ◌<◌, ltb, length, Err, Ok}
 use Rattle.std.proofs.Math.Path.{refl}
-use Rattle.std.proofs.Common.{sym, subst, ap, arith, rules}
+use Rattle.std.proofs.Common.{subst, sym, ap, arith, rules}
 use borrow.Author.Tests.{ltb-true}
 use Rattle.machine.specs.Machine.{pick, Out, spent, run_while, loop-start, loop-out}
 use Rattle.rules.specs.Numbers.{most}

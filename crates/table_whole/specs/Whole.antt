@@ -1,12 +1,13 @@
 -- The table as a list: its entries one after the other, and what the scan of the whole asks. Assumes nothing.
-use Rattle.std.specs.Prelude.{◌≡◌, Bool, true, false, not, length, Err, Ok, Result}
+use Rattle.std.specs.Prelude.{◌≡◌, Bool, true, false, not, eqb, length, Err, Ok, Result}
 use Rattle.std.proofs.Math.Path.{refl, sym, ap}
-use Rattle.std.proofs.Common.{◌∙◌, zero-add, mul-le-mul_right, suc-mul, mod-eq_of_lt, add-one, arith, rules}
+use Rattle.std.proofs.Common.{◌∙◌, ⊎_elim, eq-eqb, ne_eqb, zero-add, mul-le-mul_right, suc-mul, mod-eq_of_lt, add-one, arith, rules}
 use mathlib.Core.List.{List, [], ◌∷◌}
 use Prim.Native.Nat.{ℕ, zero, suc, ◌+◌, ◌*◌, ◌-◌, ◌%◌, ◌^◌, ◌≤◌, ◌<◌}
 use Rattle.std.proofs.Math.Nat.{sub-zero}
 use Rattle.std.proofs.lemmas.Bool.{not-true, not-false}
 use Rattle.rules.specs.Numbers.{bad_entry, twice_in_table, most, no_place}
+use Rattle.std.specs.List.{list_any, range_with_len}
 use Rattle.rules.specs.Lists.{pushed}
 use Rattle.rules.specs.Judging.{Finding, rule, number, place_of, Verdict, error_number}
 use Rattle.rules.specs.Layouts.{word, entry, entry_size, table_header, table_header_size}
@@ -17,7 +18,7 @@ use Rattle.rules.specs.declared.Fault.{Fault}
 use Rattle.rules.specs.declared.Table.{Table}
 use Rattle.rules.specs.declared.Refusal.TheVariants.{TwiceInTable}
 use Rattle.rows.specs.Rows.{tab, tab-first, tab-none, tab-snoc}
-use Rattle.rows.specs.Keys.{lookup-here, lookup-later, lookup-nil}
+use Rattle.rows.specs.Keys.{same_or_not, lookup-here, lookup-later, lookup-nil}
 use Rattle.table_header.specs.Header.{headed, Sized, fine-sized}
 use Rattle.table_entries.specs.Entry.{sound, unsound, sound-once}
 
@@ -59,6 +60,18 @@ module _ (m : List ℕ) (t : Table) where
   length-entries k zero = refl
   length-entries k (suc n) = ap suc (length-entries (suc k) n)
 
+  -- an id is found among entries where one of them has it
+  pub any-found : (id k n : ℕ) → list_any (λ j. eqb (entry_in j).id id) (range_with_len k n) ≡ is_found (matching id (entries_from m t k n))
+  unfolding entries_from
+  any-found id k zero = rw (lookup-nil entry_id id)
+  any-found id k (suc n) =
+      let rest : List Entry = entries_from m t (suc k) n in
+      rw (add-one, any-found id (suc k) n)
+      (⊎_elim
+      (λ q. rw (eq-eqb _ _ q, lookup-here entry_id id (entry_in k) rest q))
+      (λ q. rw (ne_eqb _ _ q, lookup-later entry_id id (entry_in k) rest q))
+      (same_or_not (entry_in k).id id))
+
 -- ---- entries_fault
 
 -- an entry of such a table lies within its bytes
@@ -96,6 +109,11 @@ module _ (b : List ℕ) (memory : ℕ) (t : Table) where
   pub sought_start : (id i : ℕ) → Sought id i 0
   sought_start id i = rw sub-zero
 
+  -- the id of an entry stands where the rule book has it
+  pub id-read : (j o x : ℕ) → Within b t → (o ≡ table_header_size + j * t.stride) × (o + 2 ^ 32 ≤ 2 ^ 64) → x ≡ word b o → x ≡ (entry b (entry_place t j)).id
+  unfolding entry
+  id-read j o x w at read = read ∙ ap (λ k. word b k) (at_front b t j o w at)
+
   module _ (w : Within b t) (i : ℕ) (inv : Scanned i) (h : i < t.count) (o : ℕ) (at : (o ≡ table_header_size + i * t.stride) × (o + 2 ^ 32 ≤ 2 ^ 64))
       (e : Entry) (read : e ≡ entry b o) (good : Bool) (is : good ≡ sound memory e) where
     place : entry b (entry_place t i) ≡ e
@@ -111,6 +129,17 @@ module _ (b : List ℕ) (memory : ℕ) (t : Table) where
 
     pub scan-unsound : not good ≡ true → record { code = bad_entry; place = i } ≡ shown (judge_entries memory [] (entries_of b t)).finding
     scan-unsound p = rw (here, unsound memory (entries_from b t 0 i) e (sym is ∙ not-true good p), uncut)
+
+    -- by whether its id is among the first i entries
+    module _ (p : not good ≡ false) (r : Bool) (among : r ≡ is_found (matching e.id (entries_from b t 0 i))) where
+      known : entry_rules memory (entries_from b t 0 i) e ≡ rule TwiceInTable r
+      known = sound-once memory (entries_from b t 0 i) e (sym is ∙ not-false good p) ∙ rw among
+
+      pub scan-among : r ≡ true → record { code = twice_in_table; place = i } ≡ shown (judge_entries memory [] (entries_of b t)).finding
+      scan-among q = rw (here, known, q, uncut)
+
+      pub scan-new : r ≡ false → Scanned (i + 1)
+      scan-new q = rw (here, known, q, entries-more b t i, place)
 
     module _ (p : not good ≡ false) (j : ℕ) (so_far : Sought e.id i j) where
       once : entry_rules memory (entries_from b t 0 i) e ≡ rule TwiceInTable (is_found (matching e.id (entries_from b t j (i - j))))
@@ -134,7 +163,7 @@ module _ (b : List ℕ) (memory : ℕ) (t : Table) where
             rw (so_far, entries-first b t j i q)
             (lookup-later entry_id e.id (entry b (entry_place t j)) (entries_from b t (j + 1) (i - (j + 1))) (λ s. r (sym id-there ∙ s)))
 
-pub ruleset scanning = (entry-room, id-room, scan-start, scan-end, sought_start, scan-unsound, scan-next, scan-twice, sought_next, rules)
+pub ruleset scanning = (entry-room, id-room, scan-start, scan-end, sought_start, scan-unsound, scan-next, scan-twice, sought_next, id-read, scan-among, scan-new, rules)
 
 -- ---- first_fault
 
