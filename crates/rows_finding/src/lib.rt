@@ -90,13 +90,15 @@ fn by_eight<K: Key>(rows: &[u64], width: usize, from: usize, count: usize, key: 
     ensures { result ≡ before count (from + index_of (key_in K.word K.reading) (K.sought key) (table_from (λ x. x) width from count rows.now)) }
 {
     let mut i = from;
-    while i < count {
+    loop {
+        if i >= count {
+            break None;
+        }
         if let Some(place) = of_eight(rows, width, i, key) {
-            return Some(place);
+            break Some(place);
         }
         i += 8;
     }
-    None
 }
 
 // Finds a key among the first `count` rows: the first row that has it, if one has.
