@@ -22,8 +22,9 @@ use Rattle.rules.specs.declared.Refusal.{Refusal}
 use Rattle.rules.specs.declared.Stream.{Stream}
 use Rattle.rules.specs.declared.Opened.{Opened}
 use Rattle.rules.specs.declared.Refusal.TheVariants.{BadEntry}
-use Rattle.run_entries.specs.Ending.{Ending, onward}
-use Rattle.run_entries.specs.Ending.Ending.{Going, Done, Broken}
+use Rattle.run_entries.specs.Ending.{onward}
+use Rattle.run_entries.specs.declared.ending.Ending.{Ending}
+use Rattle.run_entries.specs.declared.ending.Ending.TheVariants.{Going, Done, Broken}
 use Rattle.run_entries.specs.Entries.{Reading, reading_goes, read_on, read_step}
 use Rattle.run_packets.specs.Playing.{Playing, playing_goes, play_on, play_step, PacketsRan, packet_tables}
 use Rattle.run_packets.specs.declared.PacketsPlace.{PacketsPlace}

@@ -1,5 +1,5 @@
 -- A turn of a phase: what its code asks. Assumes nothing.
-use Rattle.std.specs.Prelude.{◌≡◌, get_or}
+use Rattle.std.specs.Prelude.{◌≡◌, Bool, get_or, None, Some}
 use Rattle.std.proofs.Math.Path.{refl, ap}
 use Rattle.std.proofs.Common.{◌∙◌, arith, rules}
 use mathlib.Core.List.{List}
@@ -15,12 +15,13 @@ use Rattle.rules.specs.declared.Table.{Table}
 use Rattle.rules.specs.declared.Stream.{Stream}
 use Rattle.rules.specs.declared.Token.{Token}
 use Rattle.packet_ranges.specs.Views.{RowsExist}
-use Rattle.run_entries.specs.Ending.{is-going}
+use Rattle.run_entries.specs.declared.ending.Ending.TheVariants.{Going}
 use Rattle.run_entries.specs.Entries.{reading_goes, read_step, EntriesRan, from_row, out_of as entriesOut}
 use Rattle.run_entries.specs.declared.entries.EntriesRun.{EntriesRun}
 use Rattle.run_packets.specs.Playing.{Playing, playing_goes, PacketsRan, packet_tables, playing, shared_step}
 use Rattle.run_packets.specs.declared.PacketsPlace.{PacketsPlace}
 use Rattle.run_packets.specs.declared.PacketsRun.{PacketsRun}
+use Rattle.run_packets.specs.declared.Left.{Left}
 use Rattle.run_state.specs.Views.{set_in, small_in, count_in, tag_in, job_in, table_in, stream_in, opened_in, place_in, kept_in, held_tokens_in, held_in, world_in, bare_in, Sides, sides_in, token_side_in}
 use Rattle.run_shared.specs.Shared.{SameButTokens, SharesSided}
 use Rattle.run_after_phase.specs.Views.{laid, LandsEntries, played, LandsPackets}
@@ -70,8 +71,8 @@ pub ruleset turning_entries = (entries-turned, entries-land, rules)
 
 -- ---- held_in
 
-pub held-is : (s : List ℕ) (live made target copied : ℕ) → (live ≡ count_in (get_or s 26 0)) × (live ≤ most) → (made ≡ count_in (get_or s 27 0)) × (made ≤ most)
-    → set_in copied ≡ set_in (get_or s 29 0) → target ≡ small_in (get_or s 31 0)
+pub held-is : (s : List ℕ) (live made target : ℕ) (copied : Bool) → (live ≡ count_in (get_or s 26 0)) × (live ≤ most) → (made ≡ count_in (get_or s 27 0)) × (made ≤ most)
+    → copied ≡ set_in (get_or s 29 0) → target ≡ small_in (get_or s 31 0)
     → HeldIn s (record { live = live; made = made; copied = copied; target = target })
 held-is s live made target copied a b c d = record { held = λ r h l ts. rw (a.0, b.0, c, d); live = a.1; made = b.1 }
 
@@ -81,13 +82,13 @@ pub ruleset finding_held = (held-is, rules)
 
 module _ (s m e r h c h' c' : List ℕ) (left n at : ℕ) (k : Held) (t : Stream) (x : PacketsRun) where
   pub plays-words : t ≡ stream_in s → (n ≡ count_in (get_or s 24 0)) × (n ≤ most) → at ≡ get_or s 23 0 → HeldIn s k
-      → PacketsRan (stream_bytes m t) t.size n (packet_tables e r h c) (record { at = at; held = k; ending = 0; why = 0 }) left x (packet_tables e r h' c')
+      → PacketsRan (stream_bytes m t) t.size n (packet_tables e r h c) (record { at = at; held = k; ending = Going }) left x (packet_tables e r h' c')
       → PlaysWords s left m (packet_tables e r h c) x (packet_tables e r h' c')
   plays-words is-t is-n is_at is_held_lem ran =
-      let from : (ts : List Token) → playing (record { at = at; held = k; ending = 0; why = 0 }) (packet_tables e r h c) ts ≡ playing_in s (packet_tables e r h c) ts = λ ts. rw (is_at, is_held_lem.held r h c ts, is-going 0 0 refl) in
+      let from : (ts : List Token) → playing (record { at = at; held = k; ending = Going }) (packet_tables e r h c) ts ≡ playing_in s (packet_tables e r h c) ts = λ ts. rw (is_at, is_held_lem.held r h c ts) in
       record {
         run = λ z ts. rw (is-t, is-n.0, from ts) at (ran.run z ts);
-        left = λ z ts. rw (is-t, is-n.0, from ts) at (ran.left z ts);
+        left = λ y z ts. rw (is-t, is-n.0, from ts) at (ran.left y z ts);
         some = ran.some;
         live = ran.room.live;
         made = ran.room.made;
@@ -110,7 +111,7 @@ module _ (s m e r h ft st c h₁ c₁ : List ℕ) (left : ℕ) (x : PacketsRun) 
   abbrev the_own : List ℕ
   the_own = pick (token_side_in s) ft st
 
-  pub plays-plain : (x.place.ending ≡ 3 → ⊥) → PlaysShared s left m (tables e r h ft st c) x.place x.units s (tables e r h₁ ft st c₁)
+  pub plays-plain : x.left ≡ None → PlaysShared s left m (tables e r h ft st c) x.place x.units s (tables e r h₁ ft st c₁)
   plays-plain z =
       record {
         played =
@@ -123,17 +124,17 @@ module _ (s m e r h ft st c h₁ c₁ : List ℕ) (left : ℕ) (x : PacketsRun) 
         made = ran.made;
       }
 
-  pub plays-left : (end : ℕ) (q : PacketsPlace) (s' h' ft' st' : List ℕ) → x.place.ending ≡ 3 → end ≡ (stream_in s).size → SharesSided end r x.place x.left s h₁ ft st q s' h' ft' st'
+  pub plays-left : (y : Left) (end : ℕ) (q : PacketsPlace) (s' h' ft' st' : List ℕ) → x.left ≡ Some y → end ≡ (stream_in s).size → SharesSided end r x.place y s h₁ ft st q s' h' ft' st'
       → PlaysShared s left m (tables e r h ft st c) q x.units s' (tables e r h' ft' st' c₁)
-  plays-left end q s' h' ft' st' z is-end shared =
+  plays-left y end q s' h' ft' st' z is-end shared =
       let ts : List Token = held_tokens_in s the_device the_own in
-      let stepped : playing q (packet_tables e r h' c₁) (held_tokens_in s' the_device (pick (token_side_in s) ft' st')) ≡ shared_step (kept_in s e) end x.place x.left (packet_tables e r h₁ c₁) ts = shared.shares.step (kept_in s e) e c₁ in
-      let runs = ran.left z ts in
+      let stepped : playing q (packet_tables e r h' c₁) (held_tokens_in s' the_device (pick (token_side_in s) ft' st')) ≡ shared_step (kept_in s e) end x.place y (packet_tables e r h₁ c₁) ts = shared.shares.step (kept_in s e) e c₁ in
+      let runs = ran.left y z ts in
       record {
         played = record {
-          room = (ran.some z).1;
+          room = (ran.some y z).1;
           runs = rw (stepped, is-end) runs;
-          stops = λ n. absurd (omega (arith, (ran.some z).0));
+          stops = λ n. absurd (omega (arith, (ran.some y z).0));
         };
         device = shared.device;
         same = shared.shares.same;

@@ -1,6 +1,6 @@
 -- What a turn comes to: so many units of the rules' step machine, on a device's words and tables; the same tables
 -- stay the device's.
-use Rattle.std.specs.Prelude.{◌≡◌, true, List, ℕ, ◌-◌, ◌≤◌, ◌<◌}
+use Rattle.std.specs.Prelude.{◌≡◌, true, List, ℕ, ◌-◌, ◌≤◌, ◌<◌, None, Some}
 use Rattle.machine.specs.Machine.{pick, spent, run_while}
 use Rattle.machine.specs.Within.{Turned}
 use Rattle.rules.specs.Numbers.{most}
@@ -8,10 +8,11 @@ use Rattle.rules.specs.Stream.{stream_bytes}
 use Rattle.rules.specs.State.{World}
 use Rattle.rules.specs.Steps.{go, step}
 use Rattle.rules.specs.declared.Token.{Token}
-use Rattle.run_entries.specs.Ending.Ending.{Going}
+use Rattle.run_entries.specs.declared.ending.Ending.TheVariants.{Going}
 use Rattle.run_packets.specs.Playing.{Playing, playing_goes, play_step, PacketTables, packet_tables, playing, shared_step}
 use Rattle.run_packets.specs.declared.PacketsPlace.{PacketsPlace}
 use Rattle.run_packets.specs.declared.PacketsRun.{PacketsRun}
+use Rattle.run_packets.specs.declared.Left.{Left}
 use Rattle.run_shared.specs.Shared.{SameButTokens}
 use Rattle.run_state.specs.Views.{registers_in, stream_in, place_in, kept_in, held_tokens_in, held_with, world_in, sides_in, token_side_in}
 use Rattle.packet_held.specs.Held.{held_of}
@@ -56,10 +57,10 @@ step_in s e m = play_step (kept_in s e) (stream_bytes m (stream_in s)) (stream_i
 
 -- a run from there is what it says; or it is left at a packet, the last of the units that it says
 pub record PlaysWords (s : List ℕ) (allowance : ℕ) (m : List ℕ) (t : PacketTables) (x : PacketsRun) (t' : PacketTables) : Type 0 where
-  pub run : (x.place.ending ≡ 3 → ⊥) → (ts : List Token) → record { state = playing x.place t' ts; units = x.units } ≡ run_while playing_goes (step_in s t.entries m) allowance (playing_in s t ts)
-  pub left : x.place.ending ≡ 3 → (ts : List Token) → run_while playing_goes (step_in s t.entries m) allowance (playing_in s t ts)
-      ≡ spent x.units (run_while playing_goes (step_in s t.entries m) (allowance - x.units) (shared_step (kept_in s t.entries) (stream_in s).size x.place x.left t' ts))
-  pub some : x.place.ending ≡ 3 → (0 < x.units) × (x.units ≤ allowance)
+  pub run : x.left ≡ None → (ts : List Token) → record { state = playing x.place t' ts; units = x.units } ≡ run_while playing_goes (step_in s t.entries m) allowance (playing_in s t ts)
+  pub left : (y : Left) → x.left ≡ Some y → (ts : List Token) → run_while playing_goes (step_in s t.entries m) allowance (playing_in s t ts)
+      ≡ spent x.units (run_while playing_goes (step_in s t.entries m) (allowance - x.units) (shared_step (kept_in s t.entries) (stream_in s).size x.place y t' ts))
+  pub some : (y : Left) → x.left ≡ Some y → (0 < x.units) × (x.units ≤ allowance)
   pub live : x.place.held.live ≤ most
   pub made : x.place.held.made ≤ most
 

@@ -5,6 +5,7 @@
 ghost use Rattle.std.specs.Prelude.{◌≡◌, ◌<◌};
 ghost use Rattle.rules.specs.Stream.{stream_bytes};
 ghost use Rattle.packet_ranges.specs.Views.{RowsExist};
+ghost use Rattle.run_entries.specs.declared.ending.Ending.TheVariants.{Going};
 ghost use Rattle.run_packets.specs.Playing.{PacketsRan};
 ghost use Rattle.run_state.specs.Views.{tag_in, stream_in};
 ghost use Rattle.run_turns.specs.Views.{HeldIn, PlaysWords, PlaysShared, EntriesTurn, PacketsTurn};
@@ -16,12 +17,13 @@ use kept_tokens::Tokens;
 use packet_held::held::Held;
 use rules::Stream;
 use run_after_phase::{land_entries, land_packets};
-use run_entries::ending::GOING;
+use run_entries::ending::Ending;
 use run_entries::entries::read_entries;
-use run_packets::{AT_SHARED, PacketsPlace, PacketsRun, read_packets};
+use run_packets::{PacketsPlace, PacketsRun, read_packets};
 use run_shared::share;
 use run_state::{
-    COPIED, HELD, KEPT, MADE, PLACE, STREAM_SIZE, TARGET, Words, mark, rows_in, stream_in, table_in,
+    COPIED, HELD, KEPT, MADE, PLACE, STREAM_SIZE, TARGET, Words, is_set, rows_in, stream_in,
+    table_in,
 };
 use widths::{u32_to_usize, word_to_usize};
 use words::low32;
@@ -55,7 +57,7 @@ fn play(
     from: PacketsPlace,
     left: u16,
 ) -> PacketsRun
-    requires { RowsExist kept from.held.live from.held.made × (from.ending ≡ 0) }
+    requires { RowsExist kept from.held.live from.held.made × (from.ending ≡ Going) }
     ensures { PacketsRan (stream_bytes mem.now stream) stream.size kept
         (record { entries = entries.now; resources = resources.now; own = own.old; records = records.old })
         from left result
@@ -89,7 +91,7 @@ fn held_in(words: &Words) -> Held
     Held {
         live: rows_in(words[HELD]),
         made: rows_in(words[MADE]),
-        copied: mark(words[COPIED]),
+        copied: is_set(words[COPIED]),
         target: low32(words[TARGET]),
     }
 }
@@ -113,8 +115,7 @@ fn play_words(
     let from = PacketsPlace {
         at: word_to_usize(words[PLACE]),
         held: held_in(words),
-        ending: GOING,
-        why: 0,
+        ending: Ending::Going,
     };
     play(
         mem, stream, entries, kept, resources, own, records, from, left,
@@ -156,25 +157,26 @@ fn play_shared(
     let run = play_words(words, mem, entries, resources, own, records, left);
     let place = run.place;
     let units = run.units;
-    if place.ending == AT_SHARED {
-        let end = stream_end(words);
-        let rest = run.left;
-        let after = share(
-            words,
-            end,
-            resources,
-            own,
-            firsttokens,
-            secondtokens,
-            place,
-            rest,
-        );
-        return Played {
-            place: after,
-            units,
-        };
+    match run.left {
+        None => Played { place, units },
+        Some(rest) => {
+            let end = stream_end(words);
+            let after = share(
+                words,
+                end,
+                resources,
+                own,
+                firsttokens,
+                secondtokens,
+                place,
+                rest,
+            );
+            Played {
+                place: after,
+                units,
+            }
+        }
     }
-    Played { place, units }
 }
 
 // A turn of the phase of packets, at most up to one that needs tokens and with it: the units it spent.

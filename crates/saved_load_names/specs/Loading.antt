@@ -2,7 +2,7 @@
 use Rattle.std.specs.Prelude.{◌≡◌, refl, Option, Some, None, IsSome, List, [], ◌∷◌, ◌++◌, ℕ, zero, suc, ◌+◌, ◌*◌, ◌≤◌, ◌<◌, length, take}
 use Rattle.std.proofs.Common.{sym, ap, ◌∙◌, append_assoc, append-nil, add-zero, suc-add, arith, rules, take_at}
 use Rattle.rules.specs.Numbers.{most}
-use Rattle.rules.specs.Lists.{index_of, lookup, pushed}
+use Rattle.rules.specs.Lists.{Found, index_of, lookup, pushed}
 use Rattle.rules.specs.Lists.Found.{none, found}
 use Rattle.rules.specs.Layouts.{word}
 use Rattle.rules.specs.Packets.{handle_of}

@@ -19,6 +19,3 @@ packet_part-requires-2 c = search classing
 
 pub compare-requires : goal.compare-requires
 compare-requires c = search classing
-
-pub returns : goal.returns
-returns c = search classing

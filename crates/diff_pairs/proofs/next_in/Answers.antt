@@ -16,6 +16,3 @@ packet_part-requires-2 c = search nexting
 
 pub next_of_parts-requires : goal.next_of_parts-requires
 next_of_parts-requires c = search nexting
-
-pub returns : goal.returns
-returns c = search nexting

@@ -1,12 +1,6 @@
 use Rattle.diff_pairs.specs.Parting.{parting}
 use Rattle.diff_pairs.proofs.parting.Goals as goal
 
-pub loop-at-init : goal.loop-at-init
-loop-at-init c = search parting
-
-pub pair_in-pair-requires : goal.pair_in-pair-requires
-pair_in-pair-requires c = search parting
-
 pub returns-in-Neither : goal.returns-in-Neither
 returns-in-Neither c = search parting
 

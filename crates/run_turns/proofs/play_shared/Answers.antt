@@ -11,8 +11,8 @@ stream_end-end-requires c = search playing_shared
 pub share-after-requires : goal.share-after-requires
 share-after-requires c = search playing_shared
 
-pub returns-then-place-eq-AT_SHARED : goal.returns-then-place-eq-AT_SHARED
-returns-then-place-eq-AT_SHARED c = search playing_shared
+pub returns-in-Some : goal.returns-in-Some
+returns-in-Some c = search playing_shared
 
-pub returns : goal.returns
-returns c = search playing_shared
+pub returns-in-None : goal.returns-in-None
+returns-in-None c = search playing_shared
