@@ -3,7 +3,7 @@
 // them are the device's from now on.
 #![tactic(auto)]
 
-ghost use Rattle.std.specs.Prelude.{◌≡◌, not};
+ghost use Rattle.std.specs.Prelude.{◌≡◌, not, ◌<◌};
 ghost use Rattle.run_state.specs.Views.{set_in};
 ghost use Rattle.run_settle.specs.Views.{Signals, Turns, Finishes, Refuses, Accepts};
 
@@ -65,26 +65,16 @@ fn other_side(side: u64) -> u64
     if side == 0 { 1 } else { 0 }
 }
 
-// Which table of resources is the device's after a good answer: the other one, if the submission had it for its own. Few have.
-fn turn_resources(words: &mut Words)
-    ensures { Turns 28 29 words.old words.new }
+// Which of two tables is the device's after a good answer: the other one, if the submission had it for its own. Few have. `side` is the word that
+// names the table, `copied` the one that says whether the submission has its own.
+#[tactic(auto, using(crate::specs::Settling::turning))]
+fn turn(words: &mut Words, side: usize, copied: usize)
+    requires { (side < 36) × (copied < 36) }
+    ensures { Turns side copied words.old words.new }
 {
-    if words[COPIED] == 0 {
-        return;
+    if words[copied] != 0 {
+        words[side] = other_side(words[side]);
     }
-    let side = other_side(words[SIDE]);
-    words[SIDE] = side;
-}
-
-// The same of the tables of tokens.
-fn turn_tokens(words: &mut Words)
-    ensures { Turns 34 35 words.old words.new }
-{
-    if words[TOKENS_COPIED] == 0 {
-        return;
-    }
-    let side = other_side(words[TOKEN_SIDE]);
-    words[TOKEN_SIDE] = side;
 }
 
 // Settles the submission in work without an error: its resources and tokens become the device's, and none is copied.
@@ -94,8 +84,8 @@ pub fn settle_accepted(words: &mut Words, mem: &mut [u8])
     let held = words[HELD];
     let used = words[HELD_TOKENS];
     let all = &words[..];
-    turn_resources(words);
-    turn_tokens(words);
+    turn(words, SIDE, COPIED);
+    turn(words, TOKEN_SIDE, TOKENS_COPIED);
     words[LIVE] = held;
     words[TOKENS] = used;
     finish(words, mem);
