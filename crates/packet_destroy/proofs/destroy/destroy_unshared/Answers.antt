@@ -17,5 +17,5 @@ resource_row-r-requires c = search destroying_unshared
 pub remove_resource-requires : goal.remove_resource-requires
 remove_resource-requires c = search destroying_unshared
 
-pub overflow_sub-result : goal.overflow_sub-applied
+pub overflow_sub-result : goal.overflow_sub-result
 overflow_sub-result c = search destroying_unshared
