@@ -94,7 +94,13 @@ fn good_lowest(file: &[u8], count: u32, name: u32, lowest: u32) -> bool
 }
 
 // The other name that stands there, after the name `before`, with its lowest name.
-fn judge_name(sofar: Result<(), u32>, file: &[u8], count: u32, at: u32, before: u32) -> Result<(), u32>
+fn judge_name(
+    sofar: Result<(), u32>,
+    file: &[u8],
+    count: u32,
+    at: u32,
+    before: u32,
+) -> Result<(), u32>
     requires { Standing file.now count × (at ≤ furthest_name) }
     ensures { result ≡ judge_rules sofar (name_rules (resources_of file.now count) file.now at before) }
 {

@@ -6,8 +6,8 @@ ghost use Rattle.std.specs.Prelude.{◌≡◌, ◌≤◌};
 ghost use Rattle.saved_fields.specs.Judging.{judge_rules};
 ghost use Rattle.saved_resources.specs.Rules.{furthest, seen_resource, no_shape_rules, shape_rules, buffer_rules, texture_rules, fields_rules};
 
-use rules::numbers::{BUFFER_KIND, TEXTURE_KIND};
 use rules::Shape;
+use rules::numbers::{BUFFER_KIND, TEXTURE_KIND};
 use saved_fields::{field_at, must};
 use saved_shapes::{good_layers, good_mips, good_offset, good_pitch, has_size};
 use texture_shapes::formats::unit_of;

@@ -46,7 +46,13 @@ fn may_be_bound(file: &[u8], count: u32, name: u32) -> bool
 }
 
 // The token that stands there, after the token `before`, with its name.
-fn judge_token(sofar: Result<(), u32>, file: &[u8], count: u32, at: u32, before: u64) -> Result<(), u32>
+fn judge_token(
+    sofar: Result<(), u32>,
+    file: &[u8],
+    count: u32,
+    at: u32,
+    before: u64,
+) -> Result<(), u32>
     requires { Standing file.now count × (at ≤ furthest_token) }
     ensures { result ≡ judge_rules sofar (token_rules (resources_of file.now count) file.now at before) }
 {
