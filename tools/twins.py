@@ -8,13 +8,28 @@ import glob
 import re
 import sys
 
-HEAD = re.compile(r"^( *)(?:pub )?(?:extern \"C\" )?fn (\w+)[^\n]*", re.M)
+HEAD = re.compile(r"^( *)(?:#\[[^\n]*\] )?(?:pub )?(?:extern \"C\" )?fn (\w+)")
 KEPT = set("let mut if else return match for in while loop break continue as fn true false self Some None Ok Err "
            "u8 u16 u32 u64 usize i32 f32 bool".split())
 
 
+def bodies(lines):
+    """Each function's name and body."""
+    for at, line in enumerate(lines):
+        head = HEAD.match(line)
+        if not head:
+            continue
+        indent, name = head.groups()
+        begin = next((i for i in range(at, len(lines))
+                      if lines[i] == indent + "{"
+                      or lines[i].endswith(" {") and (i == at or lines[i].startswith(indent + ")"))), None)
+        end = begin and next((i for i in range(begin + 1, len(lines)) if lines[i] == indent + "}"), None)
+        if end:
+            yield name, "\n".join(lines[begin + 1:end])
+
+
 def shape(body):
-    """The body's tokens, with names numbered in order of their first use."""
+    """How many tokens a body has, and these with names numbered in the order of their first use."""
     tokens = re.findall(r"[A-Za-z_]\w*|\d[\w.]*|[^\s\w]", re.sub(r"//[^\n]*", "", body))
     names = {}
     out = []
@@ -23,22 +38,18 @@ def shape(body):
             out.append(names.setdefault(token, "v%d" % len(names)))
         else:
             out.append("N" if token[0].isdigit() else token)
-    return tokens, " ".join(out)
+    return len(tokens), " ".join(out)
 
 
 def main():
     root, least = sys.argv[1], int(sys.argv[2]) if len(sys.argv) > 2 else 18
     groups = collections.defaultdict(list)
     for path in sorted(glob.glob(root + "/crates/*/src/*.rt")):
-        text = open(path).read()
-        for head in HEAD.finditer(text):
-            begin = BODY.search(text, head.start())
-            if not begin or len(begin.group(1)) != len(head.group(1)):
-                continue
-            begin = begin.start()
-            tokens, key = shape(text[begin:text.find("\n" + head.group(1) + "}\n", begin)])
-            if len(tokens) >= least:
-                groups[key].append("%s::%s" % (path.split("/crates/")[1].split("/")[0], head.group(2)))
+        crate = path.split("/crates/")[1].split("/")[0]
+        for name, body in bodies(open(path).read().split("\n")):
+            size, key = shape(body)
+            if size >= least:
+                groups[key].append("%s::%s" % (crate, name))
     twins = sorted((names for names in groups.values() if len(names) > 1), key=len, reverse=True)
     for names in twins:
         print(" ".join(names))
