@@ -6,6 +6,7 @@ use Rattle.rules.specs.declared.Cursor.{Cursor}
 use Rattle.rules.specs.declared.Pair.{Pair}
 use Rattle.export_difference.specs.Numbers.{Says, checked_said, found_said, class_said, place_said, SaysStart, cursor_in, cursor_words, pair_words}
 use Rattle.rules.specs.declared.RefusedStream.{RefusedStream}
+use Rattle.rules.specs.declared.Class.{Class}
 
 module _ (b c : List ℕ) (r : ℕ) (said : List ℕ) where
   pub says-check : (x : Result ⊤ RefusedStream) → x ≡ check b c → Says (checked_said x) r said → Says (checked_said (check b c)) r said
