@@ -4,24 +4,21 @@
 ghost use Rattle.std.specs.Prelude.{◌≡◌};
 ghost use Rattle.call_errors.specs.Answers.{number_of, answer_of};
 
-use rules::numbers::{
-    BAD_FEED, BAD_FILE, DONE, IN_WORK, NO_RECORD, NO_REGISTER, NOT_IN_FORM, NOTHING_WAITS,
-    OTHER_MEMORY, TOO_MUCH, TOO_SHORT,
-};
+use rules::numbers::DONE;
 
-// A refusal of a call.
+// A refusal of a call, with its number.
 #[derive(Clone, Copy, Debug, PartialEq, Eq)]
 pub enum CallError {
-    OtherMemory,
-    NoRegister,
-    NothingWaits,
-    NoRecord,
-    InWork,
-    TooShort,
-    BadFile,
-    NotInForm,
-    TooMuch,
-    BadFeed,
+    OtherMemory = 1,
+    NoRegister = 2,
+    NothingWaits = 3,
+    NoRecord = 4,
+    InWork = 5,
+    TooShort = 6,
+    BadFile = 7,
+    NotInForm = 8,
+    TooMuch = 9,
+    BadFeed = 10,
 }
 
 impl CallError {
@@ -29,18 +26,7 @@ impl CallError {
     pub fn number(self) -> u32
         ensures { result ≡ number_of self }
     {
-        match self {
-            CallError::OtherMemory => OTHER_MEMORY,
-            CallError::NoRegister => NO_REGISTER,
-            CallError::NothingWaits => NOTHING_WAITS,
-            CallError::NoRecord => NO_RECORD,
-            CallError::InWork => IN_WORK,
-            CallError::TooShort => TOO_SHORT,
-            CallError::BadFile => BAD_FILE,
-            CallError::NotInForm => NOT_IN_FORM,
-            CallError::TooMuch => TOO_MUCH,
-            CallError::BadFeed => BAD_FEED,
-        }
+        self as u32
     }
 }
 

@@ -1,5 +1,5 @@
 -- Rows of tokens: what reading and finding one ask. Assumes nothing.
-use Rattle.std.specs.Prelude.{◌≡◌, refl, Option, Some, None, is_some, Bool, false, List, [], ◌∷◌, ℕ, suc, ◌+◌, ◌*◌, ◌%◌, ◌≤◌, ◌<◌, ltb, length, get_or}
+use Rattle.std.specs.Prelude.{◌≡◌, refl, Option, Some, None, is_some, Bool, false, List, [], ◌∷◌, ℕ, suc, ◌+◌, ◌-◌, ◌*◌, ◌%◌, ◌≤◌, ◌<◌, ltb, length, get_or}
 use Rattle.std.proofs.Common.{sym, ap, ◌∙◌, ⊎_elim, add-zero, arith, rules, ne_eqb, ltb-false}
 use Rattle.rules.specs.Numbers.{most_tokens}
 use Rattle.rules.specs.Lists.{index_of, lookup}
@@ -8,7 +8,7 @@ use Rattle.rules.specs.Names.{token_of, rebind}
 use Rattle.rules.specs.declared.Token.{Token}
 use Rattle.rows.specs.Rows.{row_at, table, first_word, row_field, get_or-table}
 use Rattle.rows.specs.Keys.{same_or_not, index-here, index-later, index_key, place_of, place-some, place-known, place-table, place_row, place-found, place-missing}
-use Rattle.rows_finding.specs.Among.{key_in}
+use Rattle.rows_finding.specs.Among.{key_in, eight-left}
 use Rattle.kept_tokens.specs.Views.{token_of_row, tokens_of}
 
 abbrev pub name_of : Token → ℕ
@@ -24,6 +24,11 @@ token-read l i a p =
 pub ruleset reading_token = (token-read, rules)
 
 -- ---- find_token
+
+pub token-room : (i n : ℕ) → n ≤ most_tokens → i ≤ n → (n - i) % 8 ≡ 0 → (i ≡ n → ⊥) → i + 8 ≤ most_tokens
+token-room i n m g e h =
+    let less : i < n = omega arith in
+    omega (arith, eight-left i n (g, e) less)
 
 module _ (n k : ℕ) (l : List ℕ) where
   pub token_found_at : (r : Option ℕ) → r ≡ place_of (key_in 1 (λ x. x)) k (table (λ r. r) 2 n l) → r ≡ place_of token_of k (tokens_of n l)

@@ -27,6 +27,12 @@ set-test x b p = p ∙ by (eqb x 0)
     by true = refl
     by false = refl
 
+pub marks-none : (x : ℕ) → x ≡ 0 → set_in 0 ≡ set_in x
+marks-none x h = rw (eq-eqb x 0 h)
+
+pub marks-set : (x : ℕ) → (x ≡ 0 → ⊥) → set_in 1 ≡ set_in x
+marks-set x h = rw (ne_eqb x 0 h)
+
 pub flagged : (b : Bool) → b ≡ true → 1 ≡ flag_of b
 flagged b e = rw e
 

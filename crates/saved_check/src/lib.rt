@@ -82,7 +82,7 @@ fn check_sections(file: &[u8], form: Form) -> Result<(), u32>
     check_later(resources, file, form, count)
 }
 
-// Judges a whole file. Places count from its first byte, its number included.
+// Judges a whole file: an error is the place of the first field that breaks a rule. Places count from the file's first byte, its number included.
 pub fn check_file(file: &[u8]) -> Result<(), u32>
     ensures { result ≡ checked (bad_place file.now) }
 {

@@ -23,7 +23,7 @@ pub fn field_at(file: &[u8], at: u32) -> u32
     u32_at(file, place)
 }
 
-// One rule more: the field at a place has to be there, and this has to hold.
+// One rule more: the field at a place has to be there, and this has to hold. An error is the place of the first field that breaks a rule.
 pub fn must(sofar: Result<(), u32>, bytes: usize, at: u32, kept: bool) -> Result<(), u32>
     ensures { result ≡ judge_rule sofar (rule bytes at kept) }
 {

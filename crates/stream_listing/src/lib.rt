@@ -1,4 +1,4 @@
-// What is at a place of a stream: a packet by its opcode and its size, or the number of the rule that is broken. It is for those who walk a
+// What is at a place of a stream: a packet by its opcode and its size, or the rule that is broken. It is for those who walk a
 // stream without doing its packets: the listing of a dump (02, wish 3) and the difference of two (02, wish 8).
 #![tactic(auto)]
 
