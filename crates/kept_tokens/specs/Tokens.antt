@@ -26,9 +26,7 @@ pub ruleset reading_token = (token-read, rules)
 -- ---- find_token
 
 pub token-room : (i n : ℕ) → n ≤ most_tokens → i ≤ n → (n - i) % 8 ≡ 0 → (i ≡ n → ⊥) → i + 8 ≤ most_tokens
-token-room i n m g e h =
-    let less : i < n = omega arith in
-    omega (arith, eight-left i n (g, e) less)
+token-room i n m g e h = omega (arith, eight-left i n (g, e) h)
 
 module _ (n k : ℕ) (l : List ℕ) where
   pub token_found_at : (r : Option ℕ) → r ≡ place_of (key_in 1 (λ x. x)) k (table (λ r. r) 2 n l) → r ≡ place_of token_of k (tokens_of n l)

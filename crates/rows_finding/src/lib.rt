@@ -1,10 +1,10 @@
-// Rows of words found by a key: the first that has it.
+// Rows of words found by a key: the first of many that has it.
 #![tactic(auto)]
 
 ghost use Rattle.std.specs.Prelude.{◌≡◌, ℕ, ◌+◌, ◌-◌, ◌*◌, ◌%◌, ◌≤◌, ◌<◌, length, eqb, get_or};
 ghost use Rattle.rules.specs.Lists.{index_of};
+ghost use Rattle.rows.specs.Keys.{place_of};
 ghost use Rattle.rows.specs.Rows.{table, table_from};
-ghost use Rattle.rows.specs.Keys.{before, place_of};
 ghost use Rattle.rows_finding.specs.Among.{Among, key_in};
 
 use words::low32;
@@ -40,78 +40,99 @@ impl Key for u32 {
     }
 }
 
-// Row `i`, if it has the key.
-fn of_one<K: Key>(rows: &[u64], width: usize, i: usize, key: K) -> Option<usize>
+// Whether row `i` has the key: 0 if it has, or 1.
+fn of_one<K: Key>(rows: &[u64], width: usize, i: usize, key: K) -> usize
     requires { (K.word < width) × (width * (i + 1) ≤ length rows.now) }
     ensures { Among (λ x. x) (key_in K.word K.reading) (K.sought key) width rows.now i 1 result }
 {
     if key.is_at(rows, width * i) {
-        return Some(i);
+        return 0;
     }
-    None
+    1
 }
 
-// The first of two rows from `i` on that has the key.
-fn of_two<K: Key>(rows: &[u64], width: usize, i: usize, key: K) -> Option<usize>
+// Which of two rows from `i` on has the key first, or 2.
+fn of_two<K: Key>(rows: &[u64], width: usize, i: usize, key: K) -> usize
     requires { (K.word < width) × (width * (i + 2) ≤ length rows.now) }
     ensures { Among (λ x. x) (key_in K.word K.reading) (K.sought key) width rows.now i 2 result }
 {
-    if let Some(place) = of_one(rows, width, i, key) {
-        return Some(place);
+    let r = of_one(rows, width, i, key);
+    if r < 1 {
+        return r;
     }
-    of_one(rows, width, i + 1, key)
+    1 + of_one(rows, width, i + 1, key)
 }
 
-// The first of four rows from `i` on that has the key.
-fn of_four<K: Key>(rows: &[u64], width: usize, i: usize, key: K) -> Option<usize>
+// Which of four rows from `i` on has the key first, or 4.
+fn of_four<K: Key>(rows: &[u64], width: usize, i: usize, key: K) -> usize
     requires { (K.word < width) × (width * (i + 4) ≤ length rows.now) }
     ensures { Among (λ x. x) (key_in K.word K.reading) (K.sought key) width rows.now i 4 result }
 {
-    if let Some(place) = of_two(rows, width, i, key) {
-        return Some(place);
+    let r = of_two(rows, width, i, key);
+    if r < 2 {
+        return r;
     }
-    of_two(rows, width, i + 2, key)
+    2 + of_two(rows, width, i + 2, key)
 }
 
-// The first of eight rows from `i` on that has the key.
-fn of_eight<K: Key>(rows: &[u64], width: usize, i: usize, key: K) -> Option<usize>
+// Which of eight rows from `i` on has the key first, or 8.
+fn of_eight<K: Key>(rows: &[u64], width: usize, i: usize, key: K) -> usize
     requires { (K.word < width) × (width * (i + 8) ≤ length rows.now) }
     ensures { Among (λ x. x) (key_in K.word K.reading) (K.sought key) width rows.now i 8 result }
 {
-    if let Some(place) = of_four(rows, width, i, key) {
-        return Some(place);
+    let r = of_four(rows, width, i, key);
+    if r < 4 {
+        return r;
     }
-    of_four(rows, width, i + 4, key)
+    4 + of_four(rows, width, i + 4, key)
 }
 
-// The end of a scan: the first row that has the key. Eight rows a turn, and as many turns as are left.
-fn by_eight<K: Key>(rows: &[u64], width: usize, from: usize, count: usize, key: K) -> Option<usize>
+// The end of a scan: the key's place, or `count`. Eight rows a turn, and as many turns as are left.
+fn by_eight<K: Key>(rows: &[u64], width: usize, from: usize, count: usize, key: K) -> usize
     requires { ((K.word < width) × (width * count ≤ length rows.now)) × ((from ≤ count) × ((count - from) % 8 ≡ 0)) }
-    ensures { result ≡ before count (from + index_of (key_in K.word K.reading) (K.sought key) (table_from (λ x. x) width from count rows.now)) }
+    ensures { result ≡ from + index_of (key_in K.word K.reading) (K.sought key) (table_from (λ x. x) width from count rows.now) }
 {
     let mut i = from;
-    loop {
-        if i >= count {
-            break None;
+    let place = loop {
+        if i == count {
+            break count;
         }
-        if let Some(place) = of_eight(rows, width, i, key) {
-            break Some(place);
+        let r = of_eight(rows, width, i, key);
+        if r < 8 {
+            break i + r;
         }
         i += 8;
-    }
+    };
+    place
+}
+
+// The index of the first of `count` rows that has a key, or `count`: a number, since an option at each row costs more than an instruction a row.
+// The rows that make no eight stand in front, so that eight rows a turn need no test of how many are left.
+fn scan<K: Key>(rows: &[u64], width: usize, count: usize, key: K) -> usize
+    requires { (K.word < width) × (width * count ≤ length rows.now) }
+    ensures { result ≡ index_of (key_in K.word K.reading) (K.sought key) (table (λ x. x) width count rows.now) }
+{
+    let few = count % 8;
+    let mut i: usize = 0;
+    let place = loop {
+        if i >= few {
+            break by_eight(rows, width, few, count, key);
+        }
+        let r = of_one(rows, width, i, key);
+        if r < 1 {
+            break i + r;
+        }
+        i += 1;
+    };
+    place
 }
 
 // Finds a key among the first `count` rows: the first row that has it, if one has.
-// The rows that make no eight stand in front, so that eight rows a turn need no test of how many are left.
+#[tactic(auto, using(crate::specs::Finding::placing))]
 pub fn find_row<K: Key>(rows: &[u64], width: usize, count: usize, key: K) -> Option<usize>
     requires { (K.word < width) × (width * count ≤ length rows.now) }
     ensures { result ≡ place_of (key_in K.word K.reading) (K.sought key) (table (λ x. x) width count rows.now) }
 {
-    let few = count % 8;
-    for i in 0..few {
-        if let Some(place) = of_one(rows, width, i, key) {
-            return Some(place);
-        }
-    }
-    by_eight(rows, width, few, count, key)
+    let place = scan(rows, width, count, key);
+    if place < count { Some(place) } else { None }
 }

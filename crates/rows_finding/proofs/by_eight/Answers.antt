@@ -3,6 +3,3 @@ use Rattle.rows_finding.proofs.by_eight.Goals as goal
 
 pub returns-then-i-count : goal.returns-then-i-count
 returns-then-i-count g c = search scanning
-
-pub returns-in-Some : goal.returns-in-Some
-returns-in-Some g c = search scanning

@@ -1,9 +1,0 @@
--- `of_four` meets its contract, by its halves. Assumes nothing.
-use Rattle.rows_finding.specs.Finding.{finding}
-use Rattle.rows_finding.proofs.of_four.Goals as goal
-
-pub returns-in-Some : goal.returns-in-Some
-returns-in-Some g c = search finding
-
-pub returns : goal.returns
-returns g c = search finding
