@@ -75,8 +75,14 @@ pub fn fill(out: &mut [u8], at: usize, pattern: &[u8], numbers: &[u64]) -> usize
     let mut end = at;
     let mut next: usize = 0;
     for &c in pattern {
+        let taken = takes(c);
+        if taken == 0 {
+            out[end] = c;
+            end += 1;
+            continue;
+        }
         end = put_piece(out, end, c, number_at(numbers, next));
-        next += takes(c);
+        next += taken;
     }
     end
 }
