@@ -185,21 +185,22 @@ fn skip_unknown(stream: &[u8], bound: usize, from: usize, spent: u16, allowance:
     ensures { Skips stream.now bound from spent allowance result }
 {
     let mut at = from;
-    let mut units = spent;
     if at >= bound {
-        return Skipped { at, units };
+        return Skipped { at, units: spent };
     }
     let mut room = bound - at;
-    while units < allowance {
+    for units in spent..allowance {
         let size = unknown_size(stream, at, room);
         if size == 0 {
             return Skipped { at, units };
         }
         at += size;
         room -= size;
-        units += 1;
     }
-    Skipped { at, units }
+    Skipped {
+        at,
+        units: allowance,
+    }
 }
 
 // Packets, one a unit, until the allowance is spent, the stream is done, a rule is broken or a packet is left. `resources` is the device's
