@@ -35,6 +35,7 @@ pub enum Taken {
     Left(Held, SharedPacket),
 }
 
+#[inline(always)]
 fn make_buffer(
     entries: &Entries,
     kept: usize,
@@ -54,6 +55,7 @@ fn make_buffer(
     with_own(a, true, h.target)
 }
 
+#[inline(always)]
 fn make_texture(
     entries: &Entries,
     kept: usize,
@@ -73,6 +75,7 @@ fn make_texture(
     with_own(a, true, h.target)
 }
 
+#[inline(always)]
 fn destroy(
     resources: &Resources,
     own: &mut Resources,
@@ -102,6 +105,7 @@ fn destroy(
     }
 }
 
+#[inline(always)]
 fn dirty<'a>(
     entries: &Entries,
     kept: usize,
@@ -121,6 +125,7 @@ fn dirty<'a>(
     with_own(a, h.copied, h.target)
 }
 
+#[inline(always)]
 fn copy<'a>(
     entries: &Entries,
     kept: usize,
@@ -140,6 +145,7 @@ fn copy<'a>(
     with_own(a, h.copied, h.target)
 }
 
+#[inline(always)]
 fn aim<'a>(
     resources: &'a Resources,
     own: &'a Resources,
@@ -158,6 +164,7 @@ fn aim<'a>(
     with_own(a, h.copied, target)
 }
 
+#[inline(always)]
 fn cut<'a>(
     resources: &'a Resources,
     own: &'a Resources,
@@ -177,6 +184,7 @@ fn cut<'a>(
 
 // What a packet does to what a submission holds, by the entries of its table. `resources` is the device's table of resources, `own` the
 // submission's own, which has its resources where `copied` says so.
+#[inline(always)]
 pub fn apply_packet(
     entries: &Entries,
     kept: usize,

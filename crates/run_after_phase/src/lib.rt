@@ -53,6 +53,7 @@ pub fn land_entries(words: &mut Words, p: EntriesPlace, mem: &mut [u8])
 }
 
 // The packets at a place; the tokens are in the words already. A submission that waits has no word of its stream left.
+#[inline(always)]
 pub fn land_packets(words: &mut Words, p: PacketsPlace, mem: &mut [u8])
     requires { (tag_in words.old ≡ 2) × (p.held.live ≤ most) × (p.held.made ≤ most) }
     ensures { LandsPackets words.old p mem.old words.new mem.new }

@@ -42,6 +42,7 @@ pub struct PacketsRun {
 }
 
 // The place after a packet of the stream: the next one, the end, or where it was refused.
+#[inline(always)]
 pub fn place_after(at: usize, next: usize, end: usize, x: Changed) -> PacketsPlace
     ensures { result ≡ place_after at next end x }
 {
@@ -69,6 +70,7 @@ struct Stepped {
 }
 
 // A packet that was read: the place after it, or that it is left.
+#[inline(always)]
 fn take_packet(
     entries: &Entries,
     kept: usize,
@@ -119,6 +121,7 @@ fn take_packet(
 }
 
 // One unit: the packet at the place.
+#[inline(always)]
 fn step_packet(
     stream: &[u8],
     end: usize,
@@ -205,6 +208,7 @@ fn skip_unknown(stream: &[u8], bound: usize, from: usize, spent: u16, allowance:
 
 // Packets, one a unit, until the allowance is spent, the stream is done, a rule is broken or a packet is left. `resources` is the device's
 // table of resources, `own` the submission's own.
+#[inline(always)]
 pub fn read_packets(
     stream: &[u8],
     end: usize,

@@ -46,6 +46,7 @@ fn stream_part(mem: &[u8], s: Stream) -> &[u8]
 }
 
 // The phase of packets over the memory lent now.
+#[inline(always)]
 fn play(
     mem: &[u8],
     stream: Stream,
@@ -97,6 +98,7 @@ fn held_in(words: &Words) -> Held
 }
 
 // The phase of packets from where the words have it.
+#[inline(always)]
 fn play_words(
     words: &Words,
     mem: &[u8],
@@ -137,6 +139,7 @@ struct Played {
 }
 
 // The phase of packets, and the packet at which it was left, if it was.
+#[inline(always)]
 fn play_shared(
     words: &mut Words,
     mem: &[u8],
@@ -180,6 +183,7 @@ fn play_shared(
 }
 
 // A turn of the phase of packets, at most up to one that needs tokens and with it: the units it spent.
+#[inline(always)]
 pub fn packets_turn(
     words: &mut Words,
     mem: &mut [u8],

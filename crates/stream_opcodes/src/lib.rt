@@ -41,6 +41,7 @@ const RELEASE_TOKEN_SIZE: usize = rules::numbers::RELEASE_TOKEN_SIZE as usize;
 
 // The table of opcodes: what a packet with an opcode says, from the beginning of its own part of the stream. Newer drivers append
 // fields, which are not read. A packet whose opcode we do not know is skipped, whatever its size.
+#[inline(always)]
 pub fn read_part(op: u32, part: &[u8]) -> Option<Packet>
     ensures { result ≡ reading op part.now }
 {

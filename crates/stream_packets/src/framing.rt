@@ -87,6 +87,7 @@ pub fn packet_part(stream: &[u8], at: usize, size: usize) -> &[u8]
 
 // The packet at a place of the stream, whatever the bytes and the place are. Past the end no byte is left. Of the stream's length alone a
 // reader's loop asks once.
+#[inline(always)]
 pub fn packet_at(stream: &[u8], at: usize) -> Result<(u32, Packet), Refusal>
     ensures { result ≡ packet_read_at (drop at stream.now) }
 {
