@@ -17,7 +17,7 @@ use Rattle.rules.specs.declared.ImportSurface.{ImportSurface}
 use Rattle.rules.specs.declared.ReleaseToken.{ReleaseToken}
 use Rattle.rules.specs.declared.Token.{Token}
 use Rattle.rules.specs.declared.Packet.{Packet}
-use Rattle.rules.specs.declared.Packet.TheVariants.{Destroy, Export, Import, Release}
+use Rattle.rules.specs.declared.Packet.TheVariants.{Destroy, Export, Import, Release, Unknown}
 use Rattle.rules.specs.declared.Refusal.{Refusal}
 use Rattle.kept_resources.specs.Views.{resources_of, holdings_of}
 use Rattle.kept_tokens.specs.Views.{spent_at}
@@ -184,5 +184,12 @@ module _ (r h dt ot h' ot' : List ℕ) (k : Held) (u : HeldTokens) (p : SharedPa
 
   pub release-shared : (b : ReleaseToken) → p ≡ SharedRelease b → Shares k u r h dt ot (Release b) x h' ot' → Shares k u r h dt ot (packet_of p) x h' ot'
   release-shared b q i = rw q i
+
+-- where no packet was left, what is held as it was is what the rules say of one that nobody knows
+pub nothing-shared : (r h dt ot : List ℕ) (k : Held) (u : HeldTokens) (x : Shared) → ((k.live ≤ most) × (k.made ≤ most)) × (u.used ≤ most_tokens)
+    → x ≡ shared_of (record { verdict = Ok tt; held = k }) u → Shares k u r h dt ot Unknown x h ot
+unfolding pass apply target_after tokens_after
+nothing-shared r h dt ot k u x room is =
+    rw is (record { verdict = λ es c. refl; held = λ es c. refl; live = room.0.0; made = room.0.1; tokens = room.1 })
 
 pub ruleset sharing = (destroy-shared, export-shared, import-shared, release-shared, rules)
