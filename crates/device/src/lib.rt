@@ -9,11 +9,14 @@ ghost use Rattle.rules.specs.Calls.{call_write, call_read, call_run, call_record
 ghost use Rattle.rules.specs.Saved.{call_save};
 ghost use Rattle.rules.specs.Loaded.{call_load};
 ghost use Rattle.device_calls.specs.Views.{value_of, record_read_of};
+ghost use Rattle.device_memory_calls.specs.Views.{spent_beside};
 ghost use Rattle.saved_save.specs.Views.{saved_of};
+ghost use Rattle.saved_load.specs.Views.{load_place};
 ghost use Rattle.device.specs.Views.{state_of, world_of, wrote_of, ran_of, loaded_of};
 
 use call_errors::CallError;
-use device_memory_calls::Spent;
+use device_calls::ZERO_RECORD;
+use device_memory_calls::{NOTHING_SPENT, Spent};
 use rules::{Form, Record};
 use saved_load::BadFile;
 
@@ -158,5 +161,38 @@ impl Device {
             file,
         );
         Loaded { answer, device }
+    }
+}
+
+// ---- what stands beside a call's answer
+
+// The value beside a read's answer, or the length beside a save's: 0 beside a refusal.
+pub fn value_beside(x: Result<u32, CallError>) -> u32
+    ensures { result ≡ (value_of x).value }
+{
+    x.unwrap_or(0)
+}
+
+// The record beside the answer: one of zeros beside a refusal.
+pub fn record_beside(x: Result<Record, CallError>) -> Record
+    ensures { result ≡ (record_read_of x).range }
+{
+    x.unwrap_or(ZERO_RECORD)
+}
+
+// The units beside a run's answer and how it ended: none, and idle, beside a refusal.
+pub fn spent_beside(x: Result<Spent, CallError>) -> Spent
+    ensures { result ≡ spent_beside x }
+{
+    x.unwrap_or(NOTHING_SPENT)
+}
+
+// The place beside a load's answer: that of the first bad field or byte, 0 where there is none.
+pub fn place_beside(x: Result<(), BadFile>) -> u32
+    ensures { result ≡ load_place x }
+{
+    match x {
+        Ok(()) => 0,
+        Err(bad) => bad.place,
     }
 }

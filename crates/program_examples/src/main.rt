@@ -10,23 +10,20 @@ mod submissions;
 mod tables;
 mod textures;
 
-use std::io;
-
-// The examples, in order.
-fn examples(rt: &impl Print) -> io::Result<()> {
-    textures::example_1(rt)?;
-    textures::example_2(rt)?;
-    textures::example_3(rt)?;
-    textures::example_4(rt)?;
-    fences::example_5(rt)?;
-    rings::example_6(rt)?;
-    rings::example_7(rt)?;
-    tables::example_8(rt)?;
-    submissions::example_9(rt)?;
-    submissions::example_10(rt)
+// The examples, in order. A line that cannot be printed is passed over; the run goes on to its end, and the status is 0 all the same.
+fn examples(rt: &impl Print) {
+    textures::example_1(rt);
+    textures::example_2(rt);
+    textures::example_3(rt);
+    textures::example_4(rt);
+    fences::example_5(rt);
+    rings::example_6(rt);
+    rings::example_7(rt);
+    tables::example_8(rt);
+    submissions::example_9(rt);
+    submissions::example_10(rt);
 }
 
 fn main(rt: HostRuntime) {
-    // A line that cannot be printed ends the output, and the status is 0 all the same.
-    let _ = examples(&rt);
+    examples(&rt);
 }

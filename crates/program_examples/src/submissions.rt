@@ -7,13 +7,11 @@ use crate::guest::{
     table_size,
 };
 use call_errors::answer;
-use device::{Device, Ran};
-use device_memory_calls::NOTHING_SPENT;
+use device::{Device, Ran, spent_beside, value_beside};
 use program_lines::Count;
 use registers::offsets;
 use rules::numbers::{CREATE_BUFFER_SIZE, DESCRIPTOR_SIZE, DIRTY_RANGE_SIZE, STREAM_HEADER_SIZE};
 use rules::{CreateBuffer, Descriptor, DirtyRange, Ended, Entry};
-use std::io;
 
 const TABLE: usize = 1024;
 
@@ -48,94 +46,68 @@ fn how(ended: Ended) -> &'static str {
 }
 
 // How a run ended, and after how many units.
-fn run_line(rt: &impl Print, example: u32, r: &Ran, allowance: u16) -> io::Result<()> {
-    let spent = r.answer.unwrap_or(NOTHING_SPENT);
+fn run_line(rt: &impl Print, example: u32, r: &Ran, allowance: u16) {
+    let spent = spent_beside(r.answer);
     let how = how(spent.ended);
     let units = Count {
         count: u32::from(spent.units),
         noun: "unit",
     };
-    println!(rt; "example {example}: run of {allowance}: {how} after {units}")
+    let _ = println!(rt; "example {example}: run of {allowance}: {how} after {units}");
 }
 
 // A register that the guest reads.
-fn register_line(
-    rt: &impl Print,
-    example: u32,
-    d: Device,
-    name: &str,
-    offset: u32,
-) -> io::Result<()> {
-    println!(rt; "example {example}: {name} {}", d.read(offset).unwrap_or(0))
+fn register_line(rt: &impl Print, example: u32, d: Device, name: &str, offset: u32) {
+    let _ = println!(rt;
+        "example {example}: {name} {}",
+        value_beside(d.read(offset))
+    );
 }
 
 // A record that the host gets, if it is there.
-fn record_line(rt: &impl Print, example: u32, d: Device, i: u32) -> io::Result<()> {
+fn record_line(rt: &impl Print, example: u32, d: Device, i: u32) {
     let Ok(r) = d.record(i) else {
-        return Ok(());
+        return;
     };
-    println!(rt;
+    let _ = println!(rt;
         "example {example}: record {} of handle {} in entry {}: {}, {} bytes",
         r.kind, r.handle, r.id, r.gpa, r.length
-    )
+    );
 }
 
 // The run that comes next.
-fn run_lines(
-    rt: &impl Print,
-    example: u32,
-    d: Device,
-    mem: &mut [u8],
-    allowance: u16,
-) -> io::Result<Device> {
+fn run_lines(rt: &impl Print, example: u32, d: Device, mem: &mut [u8], allowance: u16) -> Device {
     let r = d.run(mem, allowance);
-    run_line(rt, example, &r, allowance)?;
-    Ok(r.device)
+    run_line(rt, example, &r, allowance);
+    r.device
 }
 
 // The host's good answer with the run that it goes on to, and the fence after it. Where nothing waits it is refused, and the run comes by
 // itself.
-fn answer_lines(
-    rt: &impl Print,
-    example: u32,
-    d: Device,
-    mem: &mut [u8],
-    allowance: u16,
-) -> io::Result<()> {
+fn answer_lines(rt: &impl Print, example: u32, d: Device, mem: &mut [u8], allowance: u16) {
     let r = d.answer(mem, true, allowance);
-    println!(rt; "example {example}: answer good: {}", answer(r.answer))?;
-    register_line(rt, example, r.device, "completed", offsets::COMPLETED_LOW)?;
+    let _ = println!(rt; "example {example}: answer good: {}", answer(r.answer));
+    register_line(rt, example, r.device, "completed", offsets::COMPLETED_LOW);
     if r.answer.is_ok() {
-        return run_line(rt, example, &r, allowance);
+        run_line(rt, example, &r, allowance);
+        return;
     }
-    run_lines(rt, example, r.device, mem, allowance)?;
-    Ok(())
+    run_lines(rt, example, r.device, mem, allowance);
 }
 
 // The host's part: the records and the error, its answer and the run after it.
-fn host_lines(
-    rt: &impl Print,
-    example: u32,
-    d: Device,
-    mem: &mut [u8],
-    allowance: u16,
-) -> io::Result<()> {
+fn host_lines(rt: &impl Print, example: u32, d: Device, mem: &mut [u8], allowance: u16) {
     for i in 0..3 {
-        record_line(rt, example, d, i)?;
+        record_line(rt, example, d, i);
     }
-    register_line(rt, example, d, "error", offsets::ERROR_CODE)?;
-    answer_lines(rt, example, d, mem, allowance)
+    register_line(rt, example, d, "error", offsets::ERROR_CODE);
+    answer_lines(rt, example, d, mem, allowance);
 }
 
 // What comes of the submission at the head of the ring.
-fn submission_lines(
-    rt: &impl Print,
-    example: u32,
-    mem: &mut [u8],
-    allowance: u16,
-) -> io::Result<()> {
-    let d = run_lines(rt, example, rung(mem.len()), mem, allowance)?;
-    host_lines(rt, example, d, mem, allowance)
+fn submission_lines(rt: &impl Print, example: u32, mem: &mut [u8], allowance: u16) {
+    let d = run_lines(rt, example, rung(mem.len()), mem, allowance);
+    host_lines(rt, example, d, mem, allowance);
 }
 
 // ---- the examples
@@ -205,18 +177,18 @@ fn put_entry_5(mem: &mut [u8], i: u32)
 }
 
 // A submission of one entry, run whole and answered.
-pub fn example_9(rt: &impl Print) -> io::Result<()> {
+pub fn example_9(rt: &impl Print) {
     let mut mem = [0u8; 16384];
     put_submission(&mut mem, 1);
     put_entry_5(&mut mem, 0);
-    submission_lines(rt, 9, &mut mem, 64)
+    submission_lines(rt, 9, &mut mem, 64);
 }
 
 // The second entry is the first again.
-pub fn example_10(rt: &impl Print) -> io::Result<()> {
+pub fn example_10(rt: &impl Print) {
     let mut mem = [0u8; 16384];
     put_submission(&mut mem, 2);
     put_entry_5(&mut mem, 0);
     put_entry_5(&mut mem, 1);
-    submission_lines(rt, 10, &mut mem, 3)
+    submission_lines(rt, 10, &mut mem, 3);
 }

@@ -2,10 +2,9 @@
 use crate::guest::{put_entry, put_table};
 use crate::lines::Judged;
 use rules::Entry;
-use std::io;
 
 // The first error of a table whose one entry has this range.
-fn entry_line(rt: &impl Print, memory: u64, gpa: u64, size: u64) -> io::Result<()> {
+fn entry_line(rt: &impl Print, memory: u64, gpa: u64, size: u64) {
     let mut bytes = [0u8; 56]; // a header and one entry
     put_table(&mut bytes, 1);
     put_entry(
@@ -19,11 +18,11 @@ fn entry_line(rt: &impl Print, memory: u64, gpa: u64, size: u64) -> io::Result<(
         },
     );
     let judged = Judged::from(table_whole::whole::first_fault(&bytes, memory).code);
-    println!(rt; "example 8: memory {memory}, gpa {gpa}, size {size}: {judged}")
+    let _ = println!(rt; "example 8: memory {memory}, gpa {gpa}, size {size}: {judged}");
 }
 
 // An entry that ends where memory does, and one that ends a byte further.
-pub fn example_8(rt: &impl Print) -> io::Result<()> {
-    entry_line(rt, 4096, 0, 4096)?;
-    entry_line(rt, 4096, 1, 4096)
+pub fn example_8(rt: &impl Print) {
+    entry_line(rt, 4096, 0, 4096);
+    entry_line(rt, 4096, 1, 4096);
 }

@@ -4,7 +4,7 @@ use program_lines::Count;
 use refusals::number;
 use rules::numbers::LONGEST_SIDE;
 use rules::{Refusal, Shape};
-use std::{fmt, io};
+use std::fmt;
 
 // ---- a line for each thing that can be asked of a shape
 
@@ -42,40 +42,40 @@ impl fmt::Display for Asked {
 
 impl Asked {
     // Whether the shape is good, whatever its pitch.
-    fn judge(self, rt: &impl Print) -> io::Result<()> {
+    fn judge(self, rt: &impl Print) {
         let judged = if texture_shapes::good_shape(self.shape) {
             Judged::Passes
         } else {
             Judged::Refused(number(Refusal::BadShape))
         };
-        println!(rt; "{self}: {judged}")
+        let _ = println!(rt; "{self}: {judged}");
     }
 
     // The least pitch that its width allows.
-    fn minimum(self, rt: &impl Print) -> io::Result<()> {
+    fn minimum(self, rt: &impl Print) {
         let s = self.shape;
         let pitch = texture_shapes::formats::minimum_pitch(s.format, s.width);
-        println!(rt; "{self}, minimum pitch: {pitch}")
+        let _ = println!(rt; "{self}, minimum pitch: {pitch}");
     }
 
     // Its bytes with this pitch.
-    fn size(self, rt: &impl Print, pitch: u32) -> io::Result<()> {
+    fn size(self, rt: &impl Print, pitch: u32) {
         let s = self.shape;
         let size = texture_sizes::packed_size(s.format, s.width, s.height, s.mips, s.layers, pitch);
-        print!(rt; "{self}, pitch {pitch}: ")?;
-        match size {
+        let _ = print!(rt; "{self}, pitch {pitch}: ");
+        let _ = match size {
             0 => println!(rt; "{}", Judged::Refused(number(Refusal::BadShape))),
             _ => println!(rt; "{size}"),
-        }
+        };
     }
 
     // Where one of its subresources starts.
-    fn start(self, rt: &impl Print, pitch: u32, index: u32) -> io::Result<()> {
-        print!(rt; "{self}, pitch {pitch}, index {index} starts at: ")?;
-        match texture_sizes::subresource_start(self.shape, pitch, index) {
+    fn start(self, rt: &impl Print, pitch: u32, index: u32) {
+        let _ = print!(rt; "{self}, pitch {pitch}, index {index} starts at: ");
+        let _ = match texture_sizes::subresource_start(self.shape, pitch, index) {
             Some(place) => println!(rt; "{place}"),
             None => println!(rt; "nowhere"),
-        }
+        };
     }
 }
 
@@ -94,22 +94,22 @@ fn five_by_three(example: u32, layers: u32) -> Asked {
 }
 
 // The least pitch of a texture, and its size by two pitches.
-pub fn example_1(rt: &impl Print) -> io::Result<()> {
+pub fn example_1(rt: &impl Print) {
     let asked = five_by_three(1, 1);
-    asked.minimum(rt)?;
-    asked.size(rt, 20)?;
-    asked.size(rt, 32)
+    asked.minimum(rt);
+    asked.size(rt, 20);
+    asked.size(rt, 32);
 }
 
 // The same with more than one layer: its size, and where a subresource starts.
-pub fn example_2(rt: &impl Print) -> io::Result<()> {
+pub fn example_2(rt: &impl Print) {
     let asked = five_by_three(2, 2);
-    asked.size(rt, 20)?;
-    asked.start(rt, 20, 4)
+    asked.size(rt, 20);
+    asked.start(rt, 20, 4);
 }
 
 // A texture of blocks: its rows count blocks and not pixels.
-pub fn example_3(rt: &impl Print) -> io::Result<()> {
+pub fn example_3(rt: &impl Print) {
     let shape = Shape {
         format: 64,
         width: 5,
@@ -118,9 +118,9 @@ pub fn example_3(rt: &impl Print) -> io::Result<()> {
         layers: 1,
     };
     let asked = Asked { example: 3, shape };
-    asked.minimum(rt)?;
-    asked.size(rt, 16)?;
-    asked.size(rt, 15)
+    asked.minimum(rt);
+    asked.size(rt, 16);
+    asked.size(rt, 15);
 }
 
 // A chain of so many mips, in the format of example 1.
@@ -136,8 +136,8 @@ fn chain_of(width: u32, mips: u32) -> Asked {
 }
 
 // The longest chain of mips, one that is longer, and one of a side of a single pixel.
-pub fn example_4(rt: &impl Print) -> io::Result<()> {
-    chain_of(LONGEST_SIDE, 15).judge(rt)?;
-    chain_of(LONGEST_SIDE, 16).judge(rt)?;
-    chain_of(1, 2).judge(rt)
+pub fn example_4(rt: &impl Print) {
+    chain_of(LONGEST_SIDE, 15).judge(rt);
+    chain_of(LONGEST_SIDE, 16).judge(rt);
+    chain_of(1, 2).judge(rt);
 }

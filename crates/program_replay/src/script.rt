@@ -1,6 +1,8 @@
 // The desk script, version 2: its head, its limits, its operations with their fields, and why playing one may end.
-ghost use Rattle.std.specs.Prelude.{◌≡◌, ◌+◌, ◌++◌, ◌<◌, ◌≤◌, length, OnOk, OnErr, IfOk, Some};
+ghost use Rattle.std.specs.Prelude.{◌≡◌, ◌+◌, ◌++◌, ◌<◌, ◌≤◌, length, take, slice_index, OnOk, OnErr, IfOk, Some};
+ghost use Rattle.std.specs.Int.{w16, w32, from_le_bytes};
 ghost use Rattle.std.specs.Iterator.{at_most};
+ghost use Rattle.program_replay.specs.Lent.{lent};
 ghost use Rattle.program_replay.specs.ScriptError.{last_line};
 
 use rules::Form;
@@ -89,14 +91,25 @@ impl fmt::Display for ScriptError {
 
 // A length of memory that a script gives, if it is not too long.
 fn judged(n: u32) -> Result<usize, ScriptError>
-    ensures ok { OnOk result (n ≤ LONGEST_MEMORY) }
+    ensures ok { OnOk result (n ≤ 65536) }
     ensures value { IfOk result (λ size. size ≡ n) }
-    ensures err { OnErr result (LONGEST_MEMORY < n) }
+    ensures err { OnErr result (65536 < n) }
 {
     if n > LONGEST_MEMORY {
         return Err(ScriptError::BadScript);
     }
     Ok(n as usize)
+}
+
+// Refuses a script of so many bytes, if they are too many.
+fn fits(n: usize) -> Result<(), ScriptError>
+    ensures ok { OnOk result (n ≤ 1048576) }
+    ensures err { OnErr result (1048576 < n) }
+{
+    if n > LONGEST_SCRIPT {
+        return Err(ScriptError::BadScript);
+    }
+    Ok(())
 }
 
 // What is left of a script. As an iterator it gives the operations in order. One that cannot be read ends the play: what stands behind it
@@ -110,11 +123,10 @@ impl<'a> Script<'a> {
     // What stands behind the head of a script, and how long the memory is that its device is made for. Magic and memory length are read before
     // the magic is judged, and the whole head before the length is: its last word says which wishes the writer knew, and nobody asks for it.
     pub fn open(bytes: &'a [u8]) -> Result<(Script<'a>, usize), ScriptError>
-        ensures { IfOk result (λ opened. opened.1 ≤ LONGEST_MEMORY) }
+        ensures script { OnOk result (length bytes.now ≤ 1048576) }
+        ensures memory { IfOk result (λ opened. opened.1 ≤ 65536) }
     {
-        if bytes.len() > LONGEST_SCRIPT {
-            return Err(ScriptError::BadScript);
-        }
+        fits(bytes.len())?;
         let mut script = Script { rest: bytes };
         let magic = script.word()?;
         let length = script.word()?;
@@ -139,6 +151,7 @@ impl<'a> Script<'a> {
     // The next bytes of a number.
     fn chunk<const N: usize>(&mut self) -> Result<[u8; N], ScriptError>
         ensures ok { IfOk result (λ bytes. bytes ++ self.new.rest.now ≡ self.old.rest.now) }
+        ensures front { IfOk result (λ bytes. bytes ≡ take N self.old.rest.now) }
         ensures left { OnOk result (length self.new.rest.now + N ≡ length self.old.rest.now) }
         ensures err { OnErr result (self.new.rest.now ≡ self.old.rest.now) }
     {
@@ -152,21 +165,24 @@ impl<'a> Script<'a> {
 
     // The next number of one byte.
     fn byte(&mut self) -> Result<u8, ScriptError>
-        ensures { length self.new.rest.now ≤ length self.old.rest.now }
+        ensures number { IfOk result (λ n. n ≡ slice_index self.old.rest.now 0) }
+        ensures left { length self.new.rest.now ≤ length self.old.rest.now }
     {
         Ok(u8::from_le_bytes(self.chunk()?))
     }
 
     // The next number of two bytes.
     fn half(&mut self) -> Result<u16, ScriptError>
-        ensures { length self.new.rest.now ≤ length self.old.rest.now }
+        ensures number { IfOk result (λ n. n ≡ from_le_bytes w16 (take 2 self.old.rest.now)) }
+        ensures left { length self.new.rest.now ≤ length self.old.rest.now }
     {
         Ok(u16::from_le_bytes(self.chunk()?))
     }
 
     // The next number of four bytes.
     fn word(&mut self) -> Result<u32, ScriptError>
-        ensures { length self.new.rest.now ≤ length self.old.rest.now }
+        ensures number { IfOk result (λ n. n ≡ from_le_bytes w32 (take 4 self.old.rest.now)) }
+        ensures left { length self.new.rest.now ≤ length self.old.rest.now }
     {
         Ok(u32::from_le_bytes(self.chunk()?))
     }
@@ -208,7 +224,8 @@ impl<'a> Script<'a> {
 
     // The length of a memory or a buffer.
     fn length(&mut self) -> Result<usize, ScriptError>
-        ensures { length self.new.rest.now ≤ length self.old.rest.now }
+        ensures size { IfOk result (λ size. size ≤ 65536) }
+        ensures left { length self.new.rest.now ≤ length self.old.rest.now }
     {
         let length = self.word()?;
         judged(length)
@@ -216,7 +233,8 @@ impl<'a> Script<'a> {
 
     // A move's buffer and file; the file is read before the length is judged.
     fn movement(&mut self) -> Result<Operation<'a>, ScriptError>
-        ensures { length self.new.rest.now ≤ length self.old.rest.now }
+        ensures size { IfOk result (λ operation. lent operation ≤ 65536) }
+        ensures left { length self.new.rest.now ≤ length self.old.rest.now }
     {
         let length = self.word()?;
         let file = self.counted()?;
@@ -226,7 +244,8 @@ impl<'a> Script<'a> {
 
     // The operation of a tag from 8 on: one that is lent memory of its own, or is about a saved desk.
     fn later_operation(&mut self, tag: u8) -> Result<Operation<'a>, ScriptError>
-        ensures { length self.new.rest.now ≤ length self.old.rest.now }
+        ensures size { IfOk result (λ operation. lent operation ≤ 65536) }
+        ensures left { length self.new.rest.now ≤ length self.old.rest.now }
     {
         match tag {
             8 => {
