@@ -12,7 +12,10 @@ pub fn move_row(rows: &mut [u64], width: usize, from: usize, to: usize)
     ensures { rows.new ≡ over (width * to) (row_at width rows.old from) rows.old }
 {
     let source = width * from;
-    rows.copy_within(source..source + width, width * to);
+    let target = width * to;
+    for k in 0..width {
+        rows[target + k] = rows[source + k];
+    }
 }
 
 // Copies the first `n` words of one list over another's.
@@ -20,7 +23,9 @@ pub fn copy_words(from: &[u64], to: &mut [u64], n: usize)
     requires { (n ≤ length from.now) × (n ≤ length to.old) }
     ensures { to.new ≡ over 0 (take n from.now) to.old }
 {
-    to[..n].copy_from_slice(&from[..n]);
+    for done in 0..n {
+        to[done] = from[done];
+    }
 }
 
 // Where row `i` of a guest's table stands, by the table's own header size and stride. Nothing wraps, and another word still fits.
