@@ -1,7 +1,5 @@
 -- A run and an answer: what their code asks. Assumes nothing.
 use Rattle.std.specs.Prelude.{◌≡◌, Bool, false, List, ℕ, ◌≤◌, ◌<◌, eqb, length, get_or, Result, Ok, Err, ⊤}
-use Rattle.std.specs.Result.{IsErrAnd}
-use Rattle.std.proofs.lemmas.Result.{err_from_is_err_and}
 use Rattle.std.proofs.Math.Path.{refl}
 use Rattle.std.proofs.Common.{sym, ap, ◌∙◌, rules, arith}
 use Rattle.std.proofs.Math.Bool.{true}
@@ -71,21 +69,17 @@ module _ (s e a b ft st c m : List ℕ) (x : Result ⊤ CallError) (is : x ≡ l
 not-refused : (allowance : ℕ) (s e a b ft st c m s' e' a' b' ft' st' c' m' : List ℕ) (x : Result Spent CallError) → CarriesOn allowance (lent s e a b ft st c m) x (lent s' e' a' b' ft' st' c' m') → answer_of x ≡ done
 not-refused allowance s e a b ft st c m s' e' a' b' ft' st' c' m' x k = ap (λ (r : Ran). r.answer) k.carried
 
--- what a refusal of the memory is handed on as
-handed-on : (r e : CallError) (x : Result Spent CallError) → IsErrAnd x (λ y. y ≡ r) → r ≡ e → x ≡ Err e
-handed-on r e x h p = let y = err_from_is_err_and x h in rw (y.1, y.2, p)
-
-module _ (s e a b ft st c m : List ℕ) (allowance : ℕ) (own_one : Result ⊤ CallError) (is : own_one ≡ lent_memory s m) (x : Result Spent CallError) where
-  pub runs_other : (r : CallError) → own_one ≡ Err r → IsErrAnd x (λ y. y ≡ r) → Runs allowance (lent s e a b ft st c m) x (lent s e a b ft st c m)
+module _ (s e a b ft st c m : List ℕ) (allowance : ℕ) (own_one : Result ⊤ CallError) (is : own_one ≡ lent_memory s m) where
+  pub runs_other : (r : CallError) → own_one ≡ Err r → Runs allowance (lent s e a b ft st c m) (Err r) (lent s e a b ft st c m)
   unfolding call_run
-  runs_other r n h =
+  runs_other r n =
       let o = other s e a b ft st c m own_one is r n in
-      record { ran = rw (handed-on r OtherMemory x h o.0, o.1); still = λ q. refl }
+      record { ran = rw (o.0, o.1); still = λ q. refl }
 
-  runs_done : (s' e' a' b' ft' st' c' m' : List ℕ) (y : ⊤) → own_one ≡ Ok y → CarriesOn allowance (lent s e a b ft st c m) x (lent s' e' a' b' ft' st' c' m')
+  runs_done : (x : Result Spent CallError) (s' e' a' b' ft' st' c' m' : List ℕ) (y : ⊤) → own_one ≡ Ok y → CarriesOn allowance (lent s e a b ft st c m) x (lent s' e' a' b' ft' st' c' m')
       → Runs allowance (lent s e a b ft st c m) x (lent s' e' a' b' ft' st' c' m')
   unfolding call_run
-  runs_done s' e' a' b' ft' st' c' m' y n k =
+  runs_done x s' e' a' b' ft' st' c' m' y n k =
       record {
         ran = rw (own s e a b ft st c m own_one is y n) k.carried;
         still = λ q. absurd (q (not-refused allowance s e a b ft st c m s' e' a' b' ft' st' c' m' x k));
@@ -102,11 +96,11 @@ pub ruleset running = (runs_other, rules)
 -- ---- answer
 
 module _ (s e a b ft st c m : List ℕ) (good : Bool) (allowance : ℕ) (own_one : Result ⊤ CallError) (is : own_one ≡ lent_memory s m) where
-  pub answers-other : (x : Result Spent CallError) (r : CallError) → own_one ≡ Err r → IsErrAnd x (λ y. y ≡ r) → Answers good allowance (lent s e a b ft st c m) x (lent s e a b ft st c m)
+  pub answers-other : (r : CallError) → own_one ≡ Err r → Answers good allowance (lent s e a b ft st c m) (Err r) (lent s e a b ft st c m)
   unfolding answer_alone call_answer
-  answers-other x r n h =
+  answers-other r n =
       let o = other s e a b ft st c m own_one is r n in
-      record { ran = rw (handed-on r OtherMemory x h o.0, o.1); still = λ q. refl }
+      record { ran = rw (o.0, o.1); still = λ q. refl }
 
   module _ (y : ⊤) (n : own_one ≡ Ok y) where
     pub answers-unasked : tag_in s < 3 → Answers good allowance (lent s e a b ft st c m) (Err NothingWaits) (lent s e a b ft st c m)

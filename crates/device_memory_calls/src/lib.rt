@@ -75,7 +75,10 @@ pub fn run(
           mem = mem.new;
         }) }
 {
-    own_memory(words, mem)?;
+    match own_memory(words, mem) {
+        Ok(()) => {}
+        Err(other) => return Err(other),
+    }
     let units = run_on(
         words,
         entries,
@@ -130,7 +133,10 @@ pub fn answer(
           mem = mem.new;
         }) }
 {
-    own_memory(words, mem)?;
+    match own_memory(words, mem) {
+        Ok(()) => {}
+        Err(why) => return Err(why),
+    }
     if words[TAG] < WAITING {
         return Err(CallError::NothingWaits);
     }

@@ -3,8 +3,6 @@ use Rattle.std.proofs.Math.Path.{◌≡◌, refl, sym, ap}
 use Rattle.std.proofs.Common.{◌∙◌, arith, rules}
 use mathlib.Core.List.{List, []}
 use Rattle.std.specs.Prelude.{ℕ, Result, Ok, Err, ⊤}
-use Rattle.std.specs.Result.{IsErrAnd}
-use Rattle.std.proofs.lemmas.Result.{err_from_is_err_and}
 use Rattle.rules.specs.Numbers.{done, bad_file}
 use Rattle.rules.specs.Lists.{Found}
 use Rattle.rules.specs.Lists.Found.{none, found}
@@ -22,16 +20,13 @@ module _ (b s a ft s' a' ft' buffer : List ℕ) (x : Result ⊤ BadFile) (l : Lo
   answers : load_answer x ≡ (call_load (state_in s [] a a' ft ft' []) b).answer
   answers = ap (λ (y : Loaded). y.answer) (l.loads [] a' ft' [])
 
-  pub refuses-move : (e : BadFile) (y : Result ℕ CallError) → x ≡ Err e → IsErrAnd y (λ r. r ≡ Bad) → saved_of y buffer ≡ call_move b buffer
+  pub refuses-move : (e : BadFile) (r : CallError) → x ≡ Err e → r ≡ Bad → saved_of (Err r) buffer ≡ call_move b buffer
   unfolding call_move call_load
-  refuses-move e y n h = by (bad_place b) refl
+  refuses-move e r n h = by (bad_place b) refl
     where
-      refused : y ≡ Err Bad
-      refused = let r = err_from_is_err_and y h in rw (r.1, r.2)
-
-      by : (f : Found ℕ) → bad_place b ≡ f → saved_of y buffer ≡ call_move b buffer
+      by : (f : Found ℕ) → bad_place b ≡ f → saved_of (Err r) buffer ≡ call_move b buffer
       by none p = let z : ◌≡◌ {A = ℕ} bad_file done = ap load_answer (sym n) ∙ (answers ∙ rw p) in absurd (omega arith)
-      by (found p) q = rw (refused, q)
+      by (found p) q = rw (h, q)
 
   pub does_move : (t : ⊤) (f g : Form) (y : Result ℕ CallError) (buffer' : List ℕ) → x ≡ Ok t → f ≡ form_in b → g ≡ other_form f
       → Saves g s' a' a' ft' ft' buffer y buffer' → saved_of y buffer' ≡ call_move b buffer

@@ -32,7 +32,10 @@ pub fn move_form(file: &[u8], buffer: &mut [u8]) -> Result<u32, CallError>
     let mut words: Words = [0; 36];
     let mut resources: Resources = [0; 768];
     let mut tokens: Tokens = [0; 512];
-    load(&mut words, &mut resources, &mut tokens, file)?;
+    match load(&mut words, &mut resources, &mut tokens, file) {
+        Ok(()) => {}
+        Err(why) => return Err(CallError::from(why)),
+    }
     let form = other_form(form_in(file));
     save(
         form, &words, &resources, &resources, &tokens, &tokens, buffer,

@@ -2,8 +2,8 @@
 use Rattle.device_memory_calls.specs.Calling.{running, runs-on}
 use Rattle.device_memory_calls.proofs.run.Goals as goal
 
-pub returns-in_err-own_memory : goal.returns-in_err-own_memory
-returns-in_err-own_memory c = search running
+pub returns-in-Err : goal.returns-in-Err
+returns-in-Err c = search running
 
 pub returns : goal.returns
-returns c = runs-on c.own_memory.ensures c.in_ok-own_memory.was c.run_on-units.ensures c.ended_in.ensures
+returns c = runs-on c.own_memory.ensures c.in-Ok.is c.run_on-units.ensures c.ended_in.ensures
