@@ -1,5 +1,6 @@
 -- Where a phase has come to: what its code asks. Assumes nothing.
 use Rattle.std.specs.Prelude.{◌≡◌, List, ℕ, ◌≤◌, ◌<◌, length, set}
+use Rattle.std.proofs.Math.Path.{refl}
 use Rattle.std.proofs.Common.{sym, ap, ◌∙◌, rules}
 use Rattle.rules.specs.Numbers.{most}
 use Rattle.rules.specs.Judging.{fault_at, error_number}
@@ -10,7 +11,7 @@ use Rattle.rules.specs.declared.Refusal.{Refusal}
 use Rattle.rows.specs.Rows.{length-table}
 use Rattle.kept_entries.specs.Views.{entry_of}
 use Rattle.run_entries.specs.declared.ending.Ending.{Ending}
-use Rattle.run_entries.specs.declared.ending.Ending.TheVariants.{Going, Done, Broken}
+use Rattle.run_entries.specs.declared.ending.Ending.TheVariants.{Going, Done, Broken, Left}
 use Rattle.run_entries.specs.Entries.{reading_of}
 use Rattle.run_entries.specs.declared.entries.EntriesPlace.{EntriesPlace}
 use Rattle.run_packets.specs.Playing.{packet_tables, playing}
@@ -20,14 +21,19 @@ use Rattle.run_state.specs.Reading.{flag-as, small-as, count-as}
 use Rattle.run_state.specs.Spelled.{spell}
 use Rattle.run_settle.specs.Views.{Refuses}
 use Rattle.run_begin.specs.Views.{Begins}
-use Rattle.run_after_phase.specs.Views.{laid_on, played_on, LandsEntries, LandsPackets}
+use Rattle.run_after_phase.specs.Views.{unruled_at, laid_on, played_on, LandsEntries, LandsPackets}
 
 -- ---- fault
 
 pub fault-is : (why : Refusal) (at x place code : ℕ) → code ≡ error_number why → (x ≡ at) × (x < 18446744073709551616) → place ≡ small_in x → record { code = code; place = place } ≡ fault_at at why
 fault-is why at x place code q is cut = rw (q, cut, is.0)
 
-pub ruleset faulting = (fault-is, rules)
+-- ---- unruled
+
+pub unruled-is : (at x place : ℕ) → (x ≡ at) × (x < 18446744073709551616) → place ≡ small_in x → record { code = 0; place = place } ≡ unruled_at at
+unruled-is at x place is cut = rw (cut, is.0)
+
+pub ruleset faulting = (fault-is, unruled-is, rules)
 
 -- ---- land_entries
 
@@ -47,17 +53,26 @@ module _ (s : List ℕ) (p : EntriesPlace) (m : List ℕ) (pre : (tag_in s ≡ 1
   pub lands-done : (s' : List ℕ) → p.ending ≡ Done → Begins s p.kept s' → LandsEntries s p m s' m
   lands-done s' q b = record { world = λ e r h dt ot c. b.world e r h dt ot c m ∙ ended Done q e r dt; side = b.side }
 
-  pub lands-broken : (s' m' : List ℕ) (x : Fault) (why : Refusal) → p.ending ≡ Broken why → x ≡ fault_at p.kept why → Refuses s m x s' m' → LandsEntries s p m s' m'
-  lands-broken s' m' x why q is f =
+  -- what it is refused with, by the place that it has come to
+  lands-refused : (s' m' : List ℕ) (x : Fault) (k : Ending) (why : ℕ → Fault)
+      → ((e r dt : List ℕ) → settled_keeping (job_in s) (broken (why (length (reading_of p e).kept))) (bare_in s r dt m) ≡ laid_on (bare_in s r dt m) (opened_in s) (reading_of p e).kept k)
+      → p.ending ≡ k → x ≡ why p.kept → Refuses s m x s' m' → LandsEntries s p m s' m'
+  lands-refused s' m' x k why settles q is f =
       record {
         world = λ e r h dt ot c.
             f.world e r h dt ot c
-            ∙ (ap (λ y. settled_keeping (job_in s) (broken y) (bare_in s r dt m)) (is ∙ ap (λ k. fault_at k why) (sym (length-table entry_of 4 p.kept e)))
-            ∙ ended (Broken why) q e r dt);
+            ∙ (ap (λ y. settled_keeping (job_in s) (broken y) (bare_in s r dt m)) (is ∙ ap why (sym (length-table entry_of 4 p.kept e)))
+            ∙ (settles e r dt ∙ ended k q e r dt));
         side = f.side;
       }
 
-pub ruleset landing_entries = (lands-going, lands-done, lands-broken, rules)
+  pub lands-broken : (s' m' : List ℕ) (x : Fault) (why : Refusal) → p.ending ≡ Broken why → x ≡ fault_at p.kept why → Refuses s m x s' m' → LandsEntries s p m s' m'
+  lands-broken s' m' x why = lands-refused s' m' x (Broken why) (λ place. fault_at place why) (λ e r dt. refl)
+
+  pub lands-left : (s' m' : List ℕ) (x : Fault) → p.ending ≡ Left → x ≡ unruled_at p.kept → Refuses s m x s' m' → LandsEntries s p m s' m'
+  lands-left s' m' x = lands-refused s' m' x Left unruled_at (λ e r dt. refl)
+
+pub ruleset landing_entries = (lands-going, lands-done, lands-broken, lands-left, rules)
 
 -- ---- land_packets
 
@@ -71,6 +86,13 @@ module _ (s : List ℕ) (p : PacketsPlace) (m : List ℕ) (pre : (tag_in s ≡ 2
   plays-broken s' m' x why q is f =
       record {
         world = λ e r h dt ot c. f.world e r h dt ot c ∙ rw is (played-to (Broken why) q e r h dt ot c);
+        side = f.side;
+      }
+
+  pub plays-left : (s' m' : List ℕ) (x : Fault) → p.ending ≡ Left → x ≡ unruled_at p.at → Refuses s m x s' m' → LandsPackets s p m s' m'
+  plays-left s' m' x q is f =
+      record {
+        world = λ e r h dt ot c. f.world e r h dt ot c ∙ rw is (played-to Left q e r h dt ot c);
         side = f.side;
       }
 
@@ -101,4 +123,4 @@ module _ (s : List ℕ) (p : PacketsPlace) (m : List ℕ) (pre : (tag_in s ≡ 2
           side = spell (λ w. sides_in (waiting_words w)) s long;
         }
 
-pub ruleset landing_packets = (plays-broken, plays-going, plays-done, rules)
+pub ruleset landing_packets = (plays-broken, plays-left, plays-going, plays-done, rules)

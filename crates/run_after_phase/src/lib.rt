@@ -1,12 +1,13 @@
 // Where a phase has come to, on the device's words: going on, done, or broken by a rule. A refusal settles within its unit, and the
-// device's resources and tokens stay as they were.
+// device's resources and tokens stay as they were. A phase that was left at a packet that nobody has done is refused too, with no rule's number.
+// What each packet passes is inlined, so that its enums stay in registers.
 #![tactic(auto)]
 
 ghost use Rattle.std.specs.Prelude.{◌≡◌, ◌≤◌};
 ghost use Rattle.rules.specs.Judging.{fault_at};
 ghost use Rattle.rules.specs.Numbers.{most};
 ghost use Rattle.run_state.specs.Views.{tag_in};
-ghost use Rattle.run_after_phase.specs.Views.{LandsEntries, LandsPackets};
+ghost use Rattle.run_after_phase.specs.Views.{unruled_at, LandsEntries, LandsPackets};
 
 use refusals::number;
 use rules::{Fault, Refusal};
@@ -32,6 +33,14 @@ fn fault(why: Refusal, at: usize) -> Fault
     }
 }
 
+// No rule, at the place where the phase was left.
+fn unruled(at: usize) -> Fault
+    ensures { result ≡ unruled_at at }
+{
+    let place = low32(usize_to_word(at));
+    Fault { code: 0, place }
+}
+
 // The entries at a place.
 pub fn land_entries(words: &mut Words, p: EntriesPlace, mem: &mut [u8])
     requires { (tag_in words.old ≡ 1) × (p.kept ≤ most) }
@@ -48,6 +57,9 @@ pub fn land_entries(words: &mut Words, p: EntriesPlace, mem: &mut [u8])
         }
         Ending::Broken(why) => {
             settle_refused(words, mem, fault(why, p.kept));
+        }
+        Ending::Left => {
+            settle_refused(words, mem, unruled(p.kept));
         }
     }
 }
@@ -86,6 +98,9 @@ pub fn land_packets(words: &mut Words, p: PacketsPlace, mem: &mut [u8])
         }
         Ending::Broken(why) => {
             settle_refused(words, mem, fault(why, p.at));
+        }
+        Ending::Left => {
+            settle_refused(words, mem, unruled(p.at));
         }
     }
 }

@@ -6,12 +6,13 @@ use Rattle.std.proofs.Math.Bool.{true, false}
 use borrow.Author.Tests.{lt-ltb, le-ltb}
 use Rattle.machine.specs.Machine.{pick, Out, spent, run_while, loop-turn, loop-stop}
 use Rattle.run_entries.specs.declared.ending.Ending.{Ending}
-use Rattle.run_entries.specs.declared.ending.Ending.TheVariants.{Going, Done, Broken}
+use Rattle.run_entries.specs.declared.ending.Ending.TheVariants.{Going, Done, Broken, Left}
 
 abbrev pub onward : Ending → Bool
 onward Going = true
 onward Done = false
 onward (Broken r) = false
+onward Left = false
 
 -- more is left below the end
 abbrev pub ending_at : ℕ → ℕ → Ending
@@ -33,6 +34,7 @@ pub ends : (e : Ending) → (e ≡ Going → ⊥) → onward e ≡ false
 ends Going h = absurd (h refl)
 ends Done h = refl
 ends (Broken r) h = refl
+ends Left h = refl
 
 -- ---- for a loop `while units < allowance { step; units += 1; let Going = ending else { return .. } }`
 

@@ -4,12 +4,13 @@ ghost use Rattle.run_entries.specs.Ending.{ending_at};
 
 use rules::Refusal;
 
-// More of a phase is left, all of it is done, or a rule was broken.
+// More of a phase is left, all of it is done, a rule was broken, or its loop was left at a packet that is yet to be done.
 #[derive(Clone, Copy, Debug, PartialEq, Eq)]
 pub enum Ending {
     Going,
     Done,
     Broken(Refusal),
+    Left,
 }
 
 // How a phase stands at a place of what ends there: more is left below the end.

@@ -25,7 +25,7 @@ use Rattle.packet_held.specs.declared.held.Held.{Held}
 use Rattle.packet_held.specs.declared.held.SharedPacket.{SharedPacket}
 use Rattle.run_entries.specs.Ending.{onward, ending_at, goes, ends, phase-on, phase-left}
 use Rattle.run_entries.specs.declared.ending.Ending.{Ending}
-use Rattle.run_entries.specs.declared.ending.Ending.TheVariants.{Going, Done, Broken}
+use Rattle.run_entries.specs.declared.ending.Ending.TheVariants.{Going, Done, Broken, Left as AtLeft}
 use Rattle.run_packets.specs.declared.PacketsPlace.{PacketsPlace}
 use Rattle.run_packets.specs.declared.PacketsRun.{PacketsRun}
 use Rattle.run_packets.specs.declared.Left.{Left}
@@ -162,7 +162,7 @@ module _ (end n : ℕ) (e : List ℕ) (at next : ℕ) (h : Held) (k : Packet) (r
   took-unknown y w q is = took-done (unbroken y) (takes.unknown y q) w is
 
   pub took-left : (y : Held) (s : SharedPacket) → x ≡ IsLeftBy y s
-      → PacketTook end n (packet_tables e r l c) at next h k (record { at = at; held = y; ending = Done }) (Some (record { next = next; packet = s })) (packet_tables e r l' c')
+      → PacketTook end n (packet_tables e r l c) at next h k (record { at = at; held = y; ending = AtLeft }) (Some (record { next = next; packet = s })) (packet_tables e r l' c')
   took-left y s q =
       let was : IsLeft h r l c k y s l' c' = takes.left y s q in
       record {

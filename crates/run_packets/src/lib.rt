@@ -1,5 +1,6 @@
 // The phase of packets: one a unit, from the stream's own part of the memory lent at that unit. It is left at a packet that needs tokens: few do,
 // and so the loop over the others has nothing of tokens in it.
+// What each packet passes is inlined, so that its enums stay in registers.
 #![tactic(auto)]
 
 ghost use Rattle.std.specs.Prelude.{◌≡◌, ◌+◌, ◌-◌, ◌≤◌, ◌<◌, length};
@@ -33,7 +34,7 @@ pub struct Left {
 }
 
 // Where the packets stand after some units, how many those were, and the packet at the place if it is left: then its unit is counted and yet to be
-// done, and the place's ending says no more than that the loop over the others was left.
+// done, and the place's ending is that the loop over the others was left.
 #[derive(Clone, Copy)]
 pub struct PacketsRun {
     pub place: PacketsPlace,
@@ -112,7 +113,7 @@ fn take_packet(
             place: PacketsPlace {
                 at,
                 held,
-                ending: Ending::Done,
+                ending: Ending::Left,
             },
             unknown: false,
             left: Some(Left { next, packet }),

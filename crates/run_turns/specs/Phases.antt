@@ -24,7 +24,7 @@ use Rattle.rules.specs.declared.Opened.{Opened}
 use Rattle.rules.specs.declared.Refusal.TheVariants.{BadEntry}
 use Rattle.run_entries.specs.Ending.{onward}
 use Rattle.run_entries.specs.declared.ending.Ending.{Ending}
-use Rattle.run_entries.specs.declared.ending.Ending.TheVariants.{Going, Done, Broken}
+use Rattle.run_entries.specs.declared.ending.Ending.TheVariants.{Going, Done, Broken, Left}
 use Rattle.run_entries.specs.Entries.{Reading, reading_goes, read_on, read_step}
 use Rattle.run_packets.specs.Playing.{Playing, playing_goes, play_on, play_step, PacketsRan, packet_tables}
 use Rattle.run_packets.specs.declared.PacketsPlace.{PacketsPlace}
@@ -90,6 +90,7 @@ module _ (w : World) (on : w.state.regs.enabled ≡ true) (o : Opened) where
       by-ending Going h = rw on
       by-ending Done h = absurd (let z : ◌≡◌ {A = ℕ} 0 1 = cc in omega arith)
       by-ending (Broken r) h = absurd (let z : ◌≡◌ {A = ℕ} 0 1 = cc in omega arith)
+      by-ending Left h = absurd (let z : ◌≡◌ {A = ℕ} 0 1 = cc in omega arith)
 
   read-lays : (k : Work) (n : ℕ) (kept : List Entry) (v : Verdict) → ((r : Refusal) → v ≡ Err r → length kept ≡ n)
       → after_entry (working k w) o kept (at_place n v) ≡ laid w o (read_on o.table.count v kept)
@@ -112,6 +113,7 @@ module _ (w : World) (on : w.state.regs.enabled ≡ true) (o : Opened) where
           (refused-not-kept w.mem o.table p.kept)
       by-ending Done h = absurd (let z : ◌≡◌ {A = ℕ} 0 1 = cc in omega arith)
       by-ending (Broken r) h = absurd (let z : ◌≡◌ {A = ℕ} 0 1 = cc in omega arith)
+      by-ending Left h = absurd (let z : ◌≡◌ {A = ℕ} 0 1 = cc in omega arith)
 
 module _ (w : World) (on : w.state.regs.enabled ≡ true) (j : Job) (t : Stream) (es : List Entry) where
   pub packets-go : (p : Playing) → playing_goes p ≡ true → go (played w j t es p) ≡ true
@@ -122,6 +124,7 @@ module _ (w : World) (on : w.state.regs.enabled ≡ true) (j : Job) (t : Stream)
       by-ending Going h = rw on
       by-ending Done h = absurd (let z : ◌≡◌ {A = ℕ} 0 1 = cc in omega arith)
       by-ending (Broken r) h = absurd (let z : ◌≡◌ {A = ℕ} 0 1 = cc in omega arith)
+      by-ending Left h = absurd (let z : ◌≡◌ {A = ℕ} 0 1 = cc in omega arith)
 
   play-lays : (k : Work) (at next : ℕ) (h : Progress) (v : Verdict) → after_packet (working k w) j t next es h (at_place at v) ≡ played w j t es (play_on at next t.size h v)
   unfolding settled
@@ -146,3 +149,4 @@ module _ (w : World) (on : w.state.regs.enabled ≡ true) (j : Job) (t : Stream)
       by-ending Going h = play-lays (packets j t p.at es p.held) p.at (next_place p.at (left_at p)) (take_packet es p.held (left_at p)).held (take_packet es p.held (left_at p)).verdict
       by-ending Done h = absurd (let z : ◌≡◌ {A = ℕ} 0 1 = cc in omega arith)
       by-ending (Broken r) h = absurd (let z : ◌≡◌ {A = ℕ} 0 1 = cc in omega arith)
+      by-ending Left h = absurd (let z : ◌≡◌ {A = ℕ} 0 1 = cc in omega arith)

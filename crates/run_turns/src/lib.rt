@@ -1,5 +1,6 @@
 // A turn of a phase on the device's words: the entries, or the packets, for as long as the allowance lets; packets at most up to one that needs
 // tokens, and with it.
+// What each packet passes is inlined, so that its enums stay in registers.
 #![tactic(auto)]
 
 ghost use Rattle.std.specs.Prelude.{◌≡◌, ◌<◌};

@@ -10,3 +10,6 @@ returns-in-Done c = search landing_packets
 
 pub returns-in-Broken : goal.returns-in-Broken
 returns-in-Broken c = search landing_packets
+
+pub returns-in-Left : goal.returns-in-Left
+returns-in-Left c = search landing_packets
