@@ -1,4 +1,5 @@
 // What each packet does to what a submission holds: resources, records and target, by the crate of its kind. A packet that needs tokens is left.
+// What each packet passes is inlined, so that its enums stay in registers.
 ghost use Rattle.std.specs.Prelude.{◌≡◌, ◌≤◌};
 ghost use Rattle.rules.specs.Numbers.{most};
 ghost use Rattle.rules.specs.Packets.{on_buffer_packet, on_texture_packet, on_dirty_packet, on_copy_packet, on_target_packet, on_scissor_packet, target_after};

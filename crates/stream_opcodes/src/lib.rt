@@ -1,4 +1,5 @@
 // The table of opcodes: which packet an opcode is, its least size, and what its part says.
+// What each packet passes is inlined, so that its enums stay in registers.
 #![tactic(auto)]
 
 ghost use Rattle.std.specs.Prelude.{◌≡◌};

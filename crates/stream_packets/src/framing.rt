@@ -1,5 +1,6 @@
 // A packet of the stream: where it ends, judged from its first eight bytes, its own part of the stream, and what that says.
 // A reader goes on by the packet's size until no byte is left.
+// What each packet passes is inlined, so that its enums stay in registers.
 ghost use Rattle.std.specs.Prelude.{◌≡◌, ◌+◌, ◌-◌, ◌≤◌, ◌<◌, length, take, drop};
 ghost use Rattle.stream_packets.specs.Framing.{misframed, in_blocks, packet_read_at, Passed};
 
